@@ -1,0 +1,4 @@
+pub mod Bic
+pub mod Head
+pub mod Iban
+pub mod Identifier

@@ -1,0 +1,3 @@
+pub mod Written
+pub mod Dates
+pub mod Times

@@ -1,0 +1,4 @@
+pub mod Spelled
+pub mod Modulo
+pub mod Told
+pub mod Turned

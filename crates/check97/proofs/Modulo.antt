@@ -1,0 +1,47 @@
+-- Ten is cancelled by 97: what the remainder tells of what stands before, and what it keeps of what stands behind. Assumes nothing.
+use mathlib.Core.Path.{_≡_, refl, ap, sym, _∙_}
+use mathlib.Core.List.{List, [], _∷_}
+use Prim.Native.Nat.{ℕ, zero, suc, _+_, _-_, _*_, _^_, _%_, _/_, _<_, _≤_}
+use native.Mathlib.Nat.{add-mul-mod-self-left, pow-suc, mul-assoc, div-add-mod'}
+use native.Mathlib.Omega.{arith}
+use lib.ListN.{length, drop, getD, drop-of-length-le}
+use Rattle.text.specs.Quoted.{onward}
+use Rattle.text.proofs.Scan.{next}
+use Rattle.text.proofs.Decimal.{linear, onward-append}
+use Rattle.check97.specs.Check.{spell, spelled}
+
+-- two numbers that differ by multiples of 97 leave the same
+mod-by : (u v x y : ℕ) → x + 97 * u ≡ y + 97 * v → x % 97 ≡ y % 97
+mod-by u v x y e = sym (add-mul-mod-self-left x 97 u) ∙ ap (λ (k : ℕ). k % 97) e ∙ add-mul-mod-self-left y 97 v
+
+-- 10 times 68 is 1 more than 7 times 97
+cancel-ten : (a b : ℕ) → a * 10 % 97 ≡ b * 10 % 97 → a % 97 ≡ b % 97
+cancel-ten a b e = mod-by (7 * a + 68 * (b * 10 / 97)) (7 * b + 68 * (a * 10 / 97)) a b (omega arith)
+
+cancel : (k a b : ℕ) → a * 10 ^ k % 97 ≡ b * 10 ^ k % 97 → a % 97 ≡ b % 97
+cancel zero a b e = omega arith
+cancel (suc k) a b e = cancel k a b (cancel-ten (a * 10 ^ k) (b * 10 ^ k) (simp (mul-assoc, ← pow-suc) e))
+
+pub same-before : (m n : ℕ) (s : List ℕ) → onward m s % 97 ≡ onward n s % 97 → m % 97 ≡ n % 97
+same-before m n s e = cancel (length s) m n (omega (arith, linear m s, linear n s))
+
+-- what is written behind depends on the remainder only
+scaled : (m n p : ℕ) → m % 97 ≡ n % 97 → m * p + 97 * (n / 97 * p) ≡ n * p + 97 * (m / 97 * p)
+scaled m n p e = omega (arith, ap (λ (k : ℕ). k * p) (div-add-mod' m 97), ap (λ (k : ℕ). k * p) (div-add-mod' n 97), ap (λ (k : ℕ). k * p) e)
+
+pub same-behind : (m n : ℕ) (s : List ℕ) → m % 97 ≡ n % 97 → onward m s % 97 ≡ onward n s % 97
+same-behind m n s e =
+    mod-by (n / 97 * 10 ^ length s) (m / 97 * 10 ^ length s) (onward m s) (onward n s)
+    (omega (arith, linear m s, linear n s, scaled m n (10 ^ length s) e))
+
+-- what two numbers of one remainder differ by leaves the same
+pub differ : (a b q d : ℕ) → a % 97 ≡ b % 97 → b + d ≡ a + q → q % 97 ≡ d % 97
+differ a b q d e f = mod-by (a / 97) (b / 97) q d (omega arith)
+
+-- ---- how a loop reads it
+module _ (n : ℕ) (s : List ℕ) (i : ℕ) where
+  pub spelled-next : i < length s → onward n (spelled (drop i s)) ≡ onward (onward n (spell (getD s i 0))) (spelled (drop (i + 1) s))
+  spelled-next h = rw (next s i h) (onward-append n (spell (getD s i 0)) (spelled (drop (i + 1) s)))
+
+  pub spelled-end : length s ≤ i → onward n (spelled (drop i s)) ≡ n
+  spelled-end h = rw drop-of-length-le

@@ -1,0 +1,8 @@
+pub mod Ranges
+pub mod Numbers
+pub mod Counts
+pub mod Fractions
+pub mod Amounts
+pub mod Zeros
+pub mod Blur
+pub mod Slips

@@ -1,0 +1,5 @@
+pub mod Truths
+pub mod Scan
+pub mod Sets
+pub mod Digits
+pub mod Decimal

@@ -1,0 +1,4 @@
+pub mod Truth
+pub mod Quoted
+pub mod Classes
+pub mod Below

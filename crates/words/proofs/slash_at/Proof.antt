@@ -1,0 +1,17 @@
+-- `words::slash_at` meets its contract: past the end 0 is read, which is no slash. Assumes nothing.
+use borrow.Author.Needs.{needs}
+use lib.ListN.{List·getD-eq-default}
+use Rattle.words.proofs.slash_at.Statement.{statement}
+use Rattle.words.proofs.slash_at.Tie as tie
+
+shared-slice-read-result : tie.Need-shared-slice-read-result
+shared-slice-read-result c = search needs
+
+returns : tie.Need-returns
+returns c = search needs
+
+returns-2 : tie.Need-returns-2
+returns-2 c = rw (List·getD-eq-default (c .before .args .s .now) 0 (c .if1 .left))
+
+pub slash-at-spec : {M : Type 1} → statement M
+slash-at-spec = tie.close (tie.spec shared-slice-read-result returns returns-2)
