@@ -2,25 +2,23 @@
 -- Assumes nothing.
 use mathlib.Core.Path.{_≡_, refl, ap, sym, _∙_}
 use mathlib.Core.Bool.{Bool, true, false}
-use mathlib.Core.Logic.{_⊎_, inl, inr, ⊎-elim}
+use mathlib.Core.Logic.{_⊎_, ⊎-elim}
 use mathlib.Core.List.{List, [], _∷_, _++_}
-use Prim.Native.Nat.{ℕ, zero, suc, _-_, _%_, _<_, _≤_}
+use Prim.Native.Nat.{ℕ, _-_, _%_, _<_, _≤_}
 use native.Mathlib.Omega.{arith}
-use borrow.Author.Tests.{eqb-true, eq-eqb, lt-leb}
-use lib.ListN.{length, take, drop, getD, length-take}
+use borrow.Author.Tests.{eqb-true}
+use lib.ListN.{length, take, drop, getD}
 use lib.Seq.{take-at, drop-at, take-add, length-take-le}
 use lib.Dec.{eqb}
-use Rattle.text.specs.Truth.{both, either, pick, between, every, some, only, part, allOf}
-use Rattle.text.specs.Quoted.{among, decimal, byte}
-use Rattle.text.specs.Classes.{digit, capital, small, capitalOrDigit, letterOrDigit, inClass}
-use Rattle.text.specs.declared.Class.the-variants.{Digit, Capital, CapitalOrDigit, LetterOrDigit, Reference}
+use Rattle.text.specs.Truth.{both, either, pick, between, every, only, part}
+use Rattle.text.specs.Quoted.{among, decimal}
+use Rattle.text.specs.Classes.{digit, capital, capitalOrDigit, letterOrDigit}
 use Rattle.text.proofs.Truths.{both-true, both-false, either-true, either-same, between-true, between-of, between-under, between-over, passes}
-use Rattle.text.proofs.Scan.{rest-of, two-at}
+use Rattle.text.proofs.Scan.{rest-of, two-at, only-append, only-all}
 use Rattle.text.proofs.Sets.{everywhere, among-high}
 use Rattle.text.proofs.Digits.{digit-range, capital-range}
 use Rattle.check97.specs.Check.{spelled, moved, withoutFiveToSeven, leavesOne, inRange, identifierChecked}
 use Rattle.check97.proofs.Spelled.{spelled-append, only-spelled}
-use Rattle.accounts.specs.Bic.{bicForm}
 use Rattle.accounts.specs.Head.{head}
 use Rattle.accounts.specs.Iban.{ibanForm}
 use Rattle.accounts.specs.Identifier.{identifierForm}
@@ -80,20 +78,6 @@ range-within s m r n h e lo hi f =
     (f ∙ ap (λ (l : List ℕ). leavesOne (l ++ take 4 s)) (rest-of m s) ∙ sym (both-yes (leavesOne (drop m s ++ take 4 s))))
 
 -- ---- what an identifier's check reads
-only-append : (f : ℕ → Bool) (s t : List ℕ) → only f (s ++ t) ≡ only f s ++ only f t
-only-append f [] t = refl
-only-append f (c ∷ s) t = go (f c) (only-append f s t)
-  where
-    go : (b : Bool) → only f (s ++ t) ≡ only f s ++ only f t → pick b (c ∷ only f (s ++ t)) (only f (s ++ t)) ≡ pick b (c ∷ only f s) (only f s) ++ only f t
-    go true e = ap (λ (l : List ℕ). c ∷ l) e
-    go false e = e
-
-only-all : (f g : ℕ → Bool) → ((c : ℕ) → g c ≡ true → f c ≡ true) → (s : List ℕ) → every g s ≡ true → only f s ≡ s
-only-all f g i [] e = refl
-only-all f g i (c ∷ s) e =
-    let h = both-true (g c) (every g s) e in
-    rw (i c (h .0)) (ap (λ (l : List ℕ). c ∷ l) (only-all f g i s (h .1)))
-
 capital-counts : (c : ℕ) → capital c ≡ true → letterOrDigit c ≡ true
 unfolding letterOrDigit among
 capital-counts c h = rw (sym (capital-range c) ∙ h)

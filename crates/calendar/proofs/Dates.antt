@@ -9,11 +9,12 @@ use lib.ListN.{length}
 use Rattle.text.specs.Truth.{at, part}
 use Rattle.text.specs.Quoted.{bytes, among, decimal}
 use Rattle.text.specs.Classes.{digit}
-use Rattle.text.proofs.Truths.{between-of, fails, pass}
+use Rattle.text.proofs.Truths.{between-of, fails, pass, lastly}
 use Rattle.text.proofs.Digits.{digit-bounds}
+use Rattle.text.proofs.Scan.{two-at}
 use Rattle.calendar.specs.Pattern.{letter, written}
 use Rattle.calendar.specs.Date.{realDay, year, month, day, dateForm}
-use Rattle.calendar.proofs.Written.{last, two-of, written-length, written-digit}
+use Rattle.calendar.proofs.Written.{written-length, written-digit}
 
 four : (s : List ℕ) → 4 ≤ length s → decimal (part 0 4 s) ≡ decimal (part 0 2 s) * 100 + decimal (part 2 2 s)
 unfolding decimal
@@ -25,7 +26,7 @@ four (a ∷ b ∷ c ∷ d ∷ s) h = omega arith
 
 two-high : (s : List ℕ) (i : ℕ) → i + 2 ≤ length s → digit (at s i) ≡ true → digit (at s (i + 1)) ≡ true → decimal (part i 2 s) ≤ 99
 unfolding decimal
-two-high s i h a b = rw (two-of s i h) (omega (arith, digit-bounds (at s i) a, digit-bounds (at s (i + 1)) b))
+two-high s i h a b = rw (two-at s i h) (omega (arith, digit-bounds (at s i) a, digit-bounds (at s (i + 1)) b))
 
 module _ (s : List ℕ) (w : written "YYYY-MM-DD" s ≡ true) where
   pub date-long : length s ≡ 10
@@ -56,4 +57,4 @@ module _ (s : List ℕ) (w : written "YYYY-MM-DD" s ≡ true) where
     pub date-is : 1 ≤ a * 100 + b → (m d : ℕ) → m ≡ month s → d ≡ day s → realDay (a * 100 + b) m d ≡ dateForm s
     unfolding dateForm
     date-is h m d em ed =
-        sym (pass _ _ _ w (pass _ _ _ (between-of 1 9999 (year s) (omega (arith, year-is)) year-high) (last _ _ (rw (year-is, em, ed)))))
+        sym (pass _ _ _ w (pass _ _ _ (between-of 1 9999 (year s) (omega (arith, year-is)) year-high) (lastly _ _ (rw (year-is, em, ed)))))

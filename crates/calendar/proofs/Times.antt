@@ -8,11 +8,11 @@ use lib.ListN.{length, take, drop, length-take, length-drop}
 use lib.Seq.{getD-take}
 use Rattle.text.specs.Truth.{both, either, allOf, first}
 use Rattle.text.specs.Quoted.{is, among, equal}
-use Rattle.text.proofs.Truths.{either-same, fails}
+use Rattle.text.proofs.Truths.{either-same, fails, either-none}
 use Rattle.text.proofs.Scan.{paired-length}
 use Rattle.calendar.specs.Pattern.{letter, written}
 use Rattle.calendar.specs.Time.{clockForm, offsetForm, zoneForm, endForm, timeForm}
-use Rattle.calendar.proofs.Written.{either-none, unwritten, written-itself}
+use Rattle.calendar.proofs.Written.{unwritten, written-itself}
 
 pub offset-length : (s : List ℕ) → (length s ≡ 6 → ⊥) → false ≡ offsetForm s
 unfolding offsetForm

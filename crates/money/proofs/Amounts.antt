@@ -8,13 +8,12 @@ use lib.Seq.{length-take-le}
 use Rattle.text.specs.Truth.{every, lead, allOf, between}
 use Rattle.text.specs.Quoted.{decimal}
 use Rattle.text.specs.Classes.{digit}
-use Rattle.text.proofs.Truths.{between-of, fails, pass, done}
+use Rattle.text.proofs.Truths.{between-of, fails, pass, done, between-under, between-over}
 use Rattle.text.proofs.Scan.{lead-le, lead-every, rest-of}
+use Rattle.text.proofs.Decimal.{decimal-below}
 use Rattle.answers.specs.Given.{worth, refused}
 use Rattle.money.specs.Amount.{asTwoDigits, amountForm, cents, most, amountGiven}
 use Rattle.money.specs.declared.Range.{Range}
-use Rattle.money.proofs.Ranges.{between-under, between-over}
-use Rattle.money.proofs.Numbers.{decimal-below}
 use Rattle.money.proofs.Fractions.{fractional}
 
 -- an amount of x cents

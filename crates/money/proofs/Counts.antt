@@ -7,10 +7,9 @@ use lib.ListN.{length}
 use Rattle.text.specs.Truth.{every}
 use Rattle.text.specs.Quoted.{decimal}
 use Rattle.text.specs.Classes.{digit}
-use Rattle.text.proofs.Truths.{between-of, fails, pass, done}
+use Rattle.text.proofs.Truths.{between-of, fails, pass, done, between-under, between-over}
 use Rattle.answers.specs.Given.{worth, refused}
 use Rattle.money.specs.Count.{countForm, countGiven}
-use Rattle.money.proofs.Ranges.{between-under, between-over}
 
 module _ (s : List ℕ) where
   misformed : countForm s ≡ false → refused 7 ≡ countGiven s

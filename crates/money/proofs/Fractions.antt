@@ -10,21 +10,15 @@ use lib.ListN.{length, take, drop, length-drop}
 use Rattle.text.specs.Truth.{either, every, allOf, first}
 use Rattle.text.specs.Quoted.{is, equal, byte, decimal}
 use Rattle.text.specs.Classes.{digit}
-use Rattle.text.proofs.Truths.{both-true, between-true, between-of, fails, passes, pass}
+use Rattle.text.proofs.Truths.{both-true, between-true, between-of, fails, passes, pass, between-under, between-over, lastly}
 use Rattle.text.proofs.Scan.{rest-of, paired-length}
 use Rattle.text.proofs.Digits.{digit-bounds}
-use Rattle.money.proofs.Numbers.{onward-append}
-use Rattle.money.proofs.Ranges.{between-under, between-over}
+use Rattle.text.proofs.Decimal.{onward-append}
 use Rattle.money.specs.Amount.{pointForm, asTwoDigits}
 
 -- nothing, or a point and digits
 abbrev pub fractional : List ℕ → Bool
 fractional s = either (is "" s) (pointForm s)
-
-only-one : (b : Bool) → allOf (b ∷ []) ≡ b
-unfolding allOf
-only-one true = refl
-only-one false = refl
 
 pub nothing : (s : List ℕ) → length s ≡ 0 → true ≡ fractional s
 nothing [] e = refl
@@ -51,7 +45,7 @@ module _ (s : List ℕ) (ne : length s ≢ 0) where
   unfolding pointForm
   point-and-digits d lo hi r e =
       let b = between-of 1 2 (length (drop 1 s)) (omega (arith, length-drop 1 s)) (omega (arith, length-drop 1 s)) in
-      let t = pass (every digit (drop 1 s)) _ _ (eq-eqb (first s) (byte ".") d) (pass _ _ _ b (only-one (every digit (drop 1 s)))) in
+      let t = pass (every digit (drop 1 s)) _ _ (eq-eqb (first s) (byte ".") d) (pass _ _ _ b (lastly _ _ refl)) in
       e ∙ ap (every digit) (rest-of 1 s) ∙ sym (something s ne ∙ t)
 
 -- what the form of a point and digits tells

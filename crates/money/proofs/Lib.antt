@@ -1,4 +1,3 @@
-pub mod Ranges
 pub mod Numbers
 pub mod Counts
 pub mod Fractions

@@ -1,65 +1,24 @@
 -- One digit replaced by another, or two unequal neighbouring digits exchanged: a count and an amount keep their form, and their number and cents change.
 -- Assumes nothing.
 use mathlib.Core.Path.{_≡_, refl, sym, _∙_}
-use mathlib.Core.Bool.{Bool, true, false}
+use mathlib.Core.Bool.{true, false}
 use mathlib.Core.Logic.{_≢_}
 use mathlib.Core.List.{List, [], _∷_, _++_}
-use Prim.Native.Nat.{ℕ, suc, _+_, _-_, _*_, _^_, _≤_}
+use Prim.Native.Nat.{ℕ, _+_, _-_, _*_, _^_, _≤_}
 use native.Mathlib.Omega.{arith}
 use native.Mathlib.Nat.{eq-of-mul-eq-mul-right, pow-le-pow-right}
-use lib.ListN.{length, take, drop}
-use Rattle.text.specs.Truth.{pick, every, lead, only}
-use Rattle.text.specs.Quoted.{byte, among, onward, decimal}
+use lib.ListN.{length, drop}
+use Rattle.text.specs.Truth.{only}
+use Rattle.text.specs.Quoted.{byte, among, decimal}
 use Rattle.text.specs.Classes.{digit}
-use Rattle.text.proofs.Truths.{both-true, passes}
-use Rattle.text.proofs.Digits.{digit-bounds}
+use Rattle.text.proofs.Truths.{passes}
+use Rattle.text.proofs.Scan.{only-append, only-all, only-lead}
+use Rattle.text.proofs.Decimal.{number-replaced, number-exchanged}
+use Rattle.text.proofs.Blur.{blurred, replaced-blurred, exchanged-blurred}
 use Rattle.money.specs.Count.{countForm}
 use Rattle.money.specs.Amount.{whole, behind, amountForm, cents}
-use Rattle.money.proofs.Numbers.{onward-append, onward-one}
 use Rattle.money.proofs.Fractions.{fractional, point, joined}
-use Rattle.money.proofs.Blur.{blurred, places, same-count-form, same-amount-form, same-places, replaced-blurred, exchanged-blurred}
-
--- ---- the number that digits write, whatever stands before and behind
-decimal-at : (p q : List ℕ) → decimal (p ++ q) ≡ onward (decimal p) q
-unfolding decimal
-decimal-at p q = onward-append 0 p q
-
-module _ (p q : List ℕ) (a b : ℕ) (ha : digit a ≡ true) (hb : digit b ≡ true) (ne : a ≢ b) where
-  pub number-replaced : decimal (p ++ (a ∷ q)) ≢ decimal (p ++ (b ∷ q))
-  number-replaced e =
-      let n = decimal p in
-      let f = onward-one (n * 10 + (a - 48)) (n * 10 + (b - 48)) q (sym (decimal-at p (a ∷ q)) ∙ e ∙ decimal-at p (b ∷ q)) in
-      ne (omega (arith, f, digit-bounds a ha, digit-bounds b hb))
-
-  pub number-exchanged : decimal (p ++ (a ∷ b ∷ q)) ≢ decimal (p ++ (b ∷ a ∷ q))
-  number-exchanged e =
-      let n = decimal p in
-      let f = onward-one ((n * 10 + (a - 48)) * 10 + (b - 48)) ((n * 10 + (b - 48)) * 10 + (a - 48)) q (sym (decimal-at p (a ∷ b ∷ q)) ∙ e ∙ decimal-at p (b ∷ a ∷ q)) in
-      ne (omega (arith, f, digit-bounds a ha, digit-bounds b hb))
-
--- ---- the digits of a text
-only-append : (f : ℕ → Bool) (p q : List ℕ) → only f (p ++ q) ≡ only f p ++ only f q
-only-append f [] q = refl
-only-append f (c ∷ p) q = go (f c) (only-append f p q)
-  where
-    go : (b : Bool) → only f (p ++ q) ≡ only f p ++ only f q → pick b (c ∷ only f (p ++ q)) (only f (p ++ q)) ≡ pick b (c ∷ only f p) (only f p) ++ only f q
-    go true e = rw e
-    go false e = e
-
-only-lead : (f : ℕ → Bool) (s : List ℕ) → only f s ≡ take (lead f s) s ++ only f (drop (lead f s) s)
-only-lead f [] = refl
-only-lead f (c ∷ s) = go (f c) refl (only-lead f s)
-  where
-    go : (b : Bool) → f c ≡ b → only f s ≡ take (lead f s) s ++ only f (drop (lead f s) s)
-        → pick b (c ∷ only f s) (only f s) ≡ take (pick b (suc (lead f s)) 0) (c ∷ s) ++ only f (drop (pick b (suc (lead f s)) 0) (c ∷ s))
-    go true e h = rw h
-    go false e h = rw e
-
-only-every : (f : ℕ → Bool) (s : List ℕ) → every f s ≡ true → only f s ≡ s
-only-every f [] e = refl
-only-every f (c ∷ s) e =
-    let h = both-true (f c) (every f s) e in
-    rw (h .0, only-every f s (h .1))
+use Rattle.money.proofs.Blur.{places, same-count-form, same-amount-form, same-places}
 
 -- ---- an amount's cents are the number of its digits, and zeros for the places that it leaves out
 point-no-digit : digit (byte ".") ≡ false
@@ -75,7 +34,7 @@ behind-is : (r : List ℕ) → fractional r ≡ true → Behind r
 behind-is [] e = record { digits = refl; short = omega arith }
 behind-is (c ∷ t) e =
     let h = point (c ∷ t) e in
-    record { digits = rw (h .start, point-no-digit) (only-every digit t (h .digits)); short = h .high }
+    record { digits = rw (h .start, point-no-digit) (only-all digit digit (λ x k. k) t (h .digits)); short = h .high }
 
 cents-digits : (s : List ℕ) → amountForm s ≡ true → cents s ≡ decimal (only digit s) * 10 ^ (2 - places s)
 unfolding cents amountForm

@@ -7,13 +7,9 @@ use borrow.Author.Tests.{lt-leb}
 use Rattle.text.specs.Truth.{both, either, between}
 use Rattle.text.specs.Quoted.{among}
 use Rattle.text.specs.Classes.{digit, capital, small, capitalOrDigit, letterOrDigit, referenceSet}
-use Rattle.text.proofs.Truths.{between-true, between-of, both-false}
+use Rattle.text.proofs.Truths.{either-none, between-true}
 
 -- a class of one range is that range
-either-none : (b : Bool) → either b false ≡ b
-either-none true = refl
-either-none false = refl
-
 pub digit-range : (c : ℕ) → digit c ≡ between 48 57 c
 unfolding digit among
 digit-range c = either-none (between 48 57 c)

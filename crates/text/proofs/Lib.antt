@@ -3,3 +3,5 @@ pub mod Scan
 pub mod Sets
 pub mod Digits
 pub mod Decimal
+pub mod Blur
+pub mod Positions

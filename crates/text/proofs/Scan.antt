@@ -9,7 +9,7 @@ use native.Mathlib.Omega.{arith}
 use lib.ListN.{length, take, drop, getD, drop-of-length-le, length-drop}
 use lib.Seq.{drop-cons, take-all, getD-drop}
 use lib.Dec.{eqb, eqb·suc-suc, eqb·zero-suc}
-use Rattle.text.specs.Truth.{both, pick, every, some, lead, paired, part}
+use Rattle.text.specs.Truth.{both, pick, every, some, lead, only, paired, part}
 use Rattle.text.proofs.Truths.{both-true, both-false}
 
 pub next : (s : List ℕ) (i : ℕ) → i < length s → drop i s ≡ getD s i 0 ∷ drop (i + 1) s
@@ -98,6 +98,12 @@ module _ (f : ℕ → ℕ → Bool) where
   paired-same-length (d ∷ t) [] e = absurd (let z : _≡_ {A = ℕ} 0 1 = cc in omega arith)
   paired-same-length (d ∷ t) (c ∷ s) e = ap suc (paired-same-length t s (both-true (f d c) (paired f t s) e .1))
 
+  pub paired-at : (t s : List ℕ) → paired f t s ≡ true → (i : ℕ) → i < length t → f (getD t i 0) (getD s i 0) ≡ true
+  paired-at [] s e i h = absurd (let z : ⊥ = omega arith in z)
+  paired-at (d ∷ t) [] e i h = cc
+  paired-at (d ∷ t) (c ∷ s) e zero h = both-true (f d c) (paired f t s) e .0
+  paired-at (d ∷ t) (c ∷ s) e (suc i) h = paired-at t s (both-true (f d c) (paired f t s) e .1) i (omega arith)
+
   module _ (t s : List ℕ) (i : ℕ) where
     pub paired-stop : i < length t → i < length s → f (getD t i 0) (getD s i 0) ≡ false → paired f (drop i t) (drop i s) ≡ false
     paired-stop h g e = rw (next t i h, next s i g, e)
@@ -107,3 +113,29 @@ module _ (f : ℕ → ℕ → Bool) where
 
     pub paired-end : length t ≤ i → length s ≤ i → paired f (drop i t) (drop i s) ≡ true
     paired-end h g = rw (drop-of-length-le t h, drop-of-length-le s g)
+
+-- ---- only those that pass
+module _ (f : ℕ → Bool) where
+  pub only-append : (s t : List ℕ) → only f (s ++ t) ≡ only f s ++ only f t
+  only-append [] t = refl
+  only-append (c ∷ s) t = go (f c) (only-append s t)
+    where
+      go : (b : Bool) → only f (s ++ t) ≡ only f s ++ only f t → pick b (c ∷ only f (s ++ t)) (only f (s ++ t)) ≡ pick b (c ∷ only f s) (only f s) ++ only f t
+      go true e = rw e
+      go false e = e
+
+  -- where every byte passes a test that is as strict, all stay
+  pub only-all : (g : ℕ → Bool) → ((c : ℕ) → g c ≡ true → f c ≡ true) → (s : List ℕ) → every g s ≡ true → only f s ≡ s
+  only-all g i [] e = refl
+  only-all g i (c ∷ s) e =
+      let h = both-true (g c) (every g s) e in
+      rw (i c (h .0)) (ap (λ (l : List ℕ). c ∷ l) (only-all g i s (h .1)))
+
+  pub only-lead : (s : List ℕ) → only f s ≡ take (lead f s) s ++ only f (drop (lead f s) s)
+  only-lead [] = refl
+  only-lead (c ∷ s) = go (f c) refl (only-lead s)
+    where
+      go : (b : Bool) → f c ≡ b → only f s ≡ take (lead f s) s ++ only f (drop (lead f s) s)
+          → pick b (c ∷ only f s) (only f s) ≡ take (pick b (suc (lead f s)) 0) (c ∷ s) ++ only f (drop (pick b (suc (lead f s)) 0) (c ∷ s))
+      go true e h = rw h
+      go false e h = rw e

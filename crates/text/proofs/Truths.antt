@@ -4,6 +4,8 @@ use mathlib.Core.Bool.{Bool, true, false, not}
 use mathlib.Core.Logic.{_⊎_, inl, inr}
 use mathlib.Core.List.{List, [], _∷_}
 use Prim.Native.Nat.{ℕ, zero, suc, _≤_, _<_}
+use native.Mathlib.Decide.{decLt}
+use native.Mathlib.Omega.{arith}
 use borrow.Author.Tests.{not-true, not-false, leb-true, le-leb, lt-leb, eq-eqb, ne-eqb}
 use lib.ListN.{getD}
 use lib.Dec.{leb}
@@ -25,9 +27,17 @@ pub either-same : (a : Bool) → either a true ≡ true
 either-same true = refl
 either-same false = refl
 
+pub either-none : (a : Bool) → either a false ≡ a
+either-none true = refl
+either-none false = refl
+
 pub pick-same {ℓ} : {A : Type ℓ} (b : Bool) (x : A) → pick b x x ≡ x
 pick-same true x = refl
 pick-same false x = refl
+
+-- a number is below another, or not
+pub lt-or-ge : (a b : ℕ) → (a < b) ⊎ (b ≤ a)
+lt-or-ge a b = elim (decLt a b) [ yes h ↦ inl h | no h ↦ inr (omega arith) ]
 
 pub between-true : (lo hi n : ℕ) → between lo hi n ≡ true → (lo ≤ n) × (n ≤ hi)
 between-true lo hi n e =

@@ -1,10 +1,9 @@
 use mathlib.Core.List.{[], _∷_}
 use Rattle.answers.specs.Given.{yes, _else_}
 use Rattle.text.proofs.Truths.{yes-of, no-of, yes-not, no-not}
-use mathlib.Core.Path.{_∙_}
+use mathlib.Core.Path.{_∙_, refl, _∙_}
 use native.Mathlib.Omega.{arith}
 use Rattle.accounts.proofs.Forms.{identifier-long, identifier-turned}
-use mathlib.Core.Path.{refl, _∙_}
 use Rattle.answers.proofs.Rules.{at-first, past-first}
 use Rattle.check97.specs.Check.{identifierChecked}
 use Rattle.accounts.specs.Identifier.{identifierForm, identifierGiven}

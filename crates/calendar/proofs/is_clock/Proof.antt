@@ -2,10 +2,11 @@ use native.Mathlib.Omega.{arith}
 use mathlib.Core.Path.{_≡_, sym}
 use mathlib.Core.Bool.{true}
 use lib.ListN.{length}
-use Rattle.text.proofs.Truths.{yes-not, no-not, fails, pass}
+use Rattle.text.proofs.Truths.{yes-not, no-not, fails, pass, lastly}
+use Rattle.text.proofs.Scan.{two-at}
 use Rattle.calendar.specs.Pattern.{written}
 use Rattle.calendar.specs.Time.{clockForm}
-use Rattle.calendar.proofs.Written.{written-length, over, within, last}
+use Rattle.calendar.proofs.Written.{written-length, over, within}
 use borrow.Author.Needs.{needs}
 use Rattle.calendar.proofs.is_clock.Statement.{statement}
 use Rattle.calendar.proofs.is_clock.Tie as tie
@@ -52,7 +53,7 @@ returns-4 c =
     pass _ _ _ (form (b .before .before))
     (pass _ _ _ (within 23 (b .before .two-at .ensures .0) (b .if2 .left))
     (pass _ _ _ (within 59 (c .before .before .two-at2 .ensures .0) (c .before .if3 .left))
-    (last _ _ (rw (c .two-at3 .ensures .0))))))
+    (lastly _ _ (rw (c .two-at3 .ensures .0))))))
 
 pub is-clock-spec : {M : Type 1} → statement M
 is-clock-spec =

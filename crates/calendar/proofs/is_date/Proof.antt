@@ -3,6 +3,7 @@ use mathlib.Core.Path.{_≡_, _∙_, sym}
 use mathlib.Core.Bool.{true}
 use lib.ListN.{length}
 use Rattle.text.proofs.Truths.{yes-not, no-not, fails}
+use Rattle.text.proofs.Scan.{two-at}
 use Rattle.calendar.specs.Pattern.{written}
 use Rattle.calendar.specs.Date.{dateForm}
 use Rattle.calendar.proofs.Dates.{date-long, no-year, date-is}

@@ -1,10 +1,10 @@
 use mathlib.Core.Path.{_≡_, _∙_, sym, ap}
 use lib.ListN.{drop}
-use Rattle.text.proofs.Truths.{yes-not, no-not, fails, pass}
-use Rattle.text.proofs.Scan.{rest-of}
+use Rattle.text.proofs.Truths.{yes-not, no-not, fails, pass, lastly}
+use Rattle.text.proofs.Scan.{rest-of, two-at}
 use Rattle.calendar.specs.Pattern.{written}
 use Rattle.calendar.specs.Time.{offsetForm}
-use Rattle.calendar.proofs.Written.{over, within, last}
+use Rattle.calendar.proofs.Written.{over, within}
 use Rattle.calendar.proofs.Times.{offset-length}
 use borrow.Author.Needs.{needs}
 use Rattle.calendar.proofs.is_offset.Statement.{statement}
@@ -74,7 +74,7 @@ returns-5 c =
     pass _ _ _ (yes-not (g .before .is-sign .ensures) (g .if2 .left))
     (pass _ _ _ (yes-not (rest (f .before)) (f .if3 .left))
     (pass _ _ _ (within 59 (b .two-at .ensures .0) (c .before .if4 .left))
-    (last _ _ (rw (c .two-at2 .ensures .0, b .two-at .ensures .0))))))
+    (lastly _ _ (rw (c .two-at2 .ensures .0, b .two-at .ensures .0))))))
 
 pub is-offset-spec : {M : Type 1} → statement M
 is-offset-spec =

@@ -2,10 +2,9 @@ use native.Mathlib.Omega.{arith}
 use borrow.Author.Tests.{eq-eqb, ne-eqb}
 use mathlib.Core.Path.{_∙_, sym, ap}
 use lib.Seq.{length-take-le}
-use Rattle.text.proofs.Truths.{yes-not, no-not, fails, pass}
+use Rattle.text.proofs.Truths.{yes-not, no-not, fails, pass, lastly}
 use Rattle.text.proofs.Scan.{rest-of}
 use Rattle.calendar.specs.Time.{endForm, timeForm}
-use Rattle.calendar.proofs.Written.{last}
 use Rattle.calendar.proofs.Times.{time-short}
 use borrow.Author.Needs.{needs}
 use Rattle.calendar.proofs.is_time.Statement.{statement}
@@ -70,7 +69,7 @@ returns-5 c =
     pass _ _ _ (yes-not (d .before .is-date .ensures) (d .if2 .left))
     (pass _ _ _ (eq-eqb _ _ (t .if3 .left))
     (pass _ _ _ (yes-not (b .before .is-clock .ensures) (b .if4 .left))
-    (last _ _ (sym (c .is-end .ensures ∙ ap endForm (rest-of 19 s)))))))
+    (lastly _ _ (c .is-end .ensures ∙ ap endForm (rest-of 19 s))))))
 
 pub is-time-spec : {M : Type 1} → statement M
 is-time-spec =

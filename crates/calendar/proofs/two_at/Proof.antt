@@ -1,8 +1,8 @@
 use native.Mathlib.Omega.{arith}
-use Rattle.calendar.proofs.Written.{two-of}
 use mathlib.Core.Path.{_∙_, sym, ap}
 use Prim.Native.Nat.{_+_}
 use Rattle.text.specs.Quoted.{decimal}
+use Rattle.text.proofs.Scan.{two-at}
 use borrow.Author.Needs.{needs}
 use Rattle.calendar.proofs.two_at.Statement.{statement}
 use Rattle.calendar.proofs.two_at.Tie as tie
@@ -25,7 +25,7 @@ returns c =
     let k = c .before .shared-slice-known3 .given in
     let a = c .before .before .before .before .args in
     let e = c .pair .ensures in (
-      e ∙ ap decimal (sym (two-of (a .s .now) (a .i) (c .before .before .before .before .pre))),
+      e ∙ ap decimal (sym (two-at (a .s .now) (a .i) (c .before .before .before .before .pre))),
       omega (arith, e, k (a .i), k (a .i + 1)),
     )
 

@@ -3,9 +3,9 @@ use mathlib.Core.Path.{ap}
 use mathlib.Core.Bool.{not}
 use borrow.Author.Needs.{needs}
 use Rattle.text.specs.Classes.{inClass}
-use Rattle.text.proofs.Truths.{between-of, yes-of, no-of, yes-not, no-not, pass, done}
+use Rattle.text.proofs.Truths.{between-of, yes-of, no-of, yes-not, no-not, pass, done, between-under, between-over}
 use Rattle.words.specs.Reference.{referenceForm, referenceGiven}
-use Rattle.words.proofs.Forms.{between-under, between-over, refuses, accepts}
+use Rattle.words.proofs.Forms.{refuses, accepts}
 use Rattle.words.proofs.reference.Statement.{statement}
 use Rattle.words.proofs.reference.Tie as tie
 

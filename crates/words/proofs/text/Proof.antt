@@ -4,9 +4,9 @@ use mathlib.Core.Bool.{not}
 use borrow.Author.Tests.{eq-eqb, ne-eqb}
 use borrow.Author.Needs.{needs}
 use Rattle.text.specs.Classes.{inClass}
-use Rattle.text.proofs.Truths.{between-of, yes-not, no-not, pass, done}
+use Rattle.text.proofs.Truths.{between-of, yes-not, no-not, pass, done, between-under, between-over}
 use Rattle.words.specs.Text.{textForm, textGiven}
-use Rattle.words.proofs.Forms.{between-under, between-over, refuses, accepts}
+use Rattle.words.proofs.Forms.{refuses, accepts}
 use Rattle.words.proofs.text.Statement.{statement}
 use Rattle.words.proofs.text.Tie as tie
 
