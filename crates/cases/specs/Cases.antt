@@ -31,7 +31,6 @@ pub record Case : Type 0 where
   pub answered : Given
 
 infix 50 _of_is_
-
 abbrev _of_is_ : Kind → String → Given → Case
 _of_is_ k t g = record { kind = k; text = t; answered = g }
 

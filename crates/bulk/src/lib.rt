@@ -1,0 +1,112 @@
+// The C face and nothing else: every public single checker once more, under its exported C name.
+// Each takes any bytes, and writes all three words of `answer` by the table of specs/Told.antt.
+use answers::Answer;
+use money::Range;
+use words::Field;
+ghost use mathlib.Core.Path.{_≡_};
+ghost use Rattle.answers.specs.Given.{given};
+ghost use Rattle.words.specs.Reference.{referenceGiven};
+ghost use Rattle.words.specs.Text.{textGiven};
+ghost use Rattle.calendar.specs.Date.{dateGiven};
+ghost use Rattle.calendar.specs.Time.{timeGiven};
+ghost use Rattle.money.specs.Count.{countGiven};
+ghost use Rattle.money.specs.Amount.{amountGiven};
+ghost use Rattle.accounts.specs.Iban.{ibanGiven};
+ghost use Rattle.accounts.specs.Identifier.{identifierGiven};
+ghost use Rattle.accounts.specs.Bic.{bicGiven};
+ghost use Rattle.bulk.specs.Told.{told};
+
+// Writes the three words.
+fn tell(a: Answer, answer: &mut [u64; 3])
+    ensures { λ _. ⌜ now (answer .exit) ≡ told (given a) ⌝ }
+{
+    *answer = [answers::number(a) as u64, answers::value(a), 0];
+}
+
+// An IBAN.
+#[no_mangle]
+pub extern "C" fn bulk_iban(value: &[u8], answer: &mut [u64; 3])
+    ensures { λ _. ⌜ now (answer .exit) ≡ told (ibanGiven (now (value .entry))) ⌝ }
+{
+    tell(accounts::iban(value), answer);
+}
+
+// A creditor identifier.
+#[no_mangle]
+pub extern "C" fn bulk_creditor_id(value: &[u8], answer: &mut [u64; 3])
+    ensures { λ _. ⌜ now (answer .exit) ≡ told (identifierGiven (now (value .entry))) ⌝ }
+{
+    tell(accounts::creditor_id(value), answer);
+}
+
+// A BIC.
+#[no_mangle]
+pub extern "C" fn bulk_bic(value: &[u8], answer: &mut [u64; 3])
+    ensures { λ _. ⌜ now (answer .exit) ≡ told (bicGiven (now (value .entry))) ⌝ }
+{
+    tell(accounts::bic(value), answer);
+}
+
+// A date.
+#[no_mangle]
+pub extern "C" fn bulk_date(value: &[u8], answer: &mut [u64; 3])
+    ensures { λ _. ⌜ now (answer .exit) ≡ told (dateGiven (now (value .entry))) ⌝ }
+{
+    tell(calendar::date(value), answer);
+}
+
+// A time.
+#[no_mangle]
+pub extern "C" fn bulk_time(value: &[u8], answer: &mut [u64; 3])
+    ensures { λ _. ⌜ now (answer .exit) ≡ told (timeGiven (now (value .entry))) ⌝ }
+{
+    tell(calendar::time(value), answer);
+}
+
+// A reference.
+#[no_mangle]
+pub extern "C" fn bulk_reference(value: &[u8], answer: &mut [u64; 3])
+    ensures { λ _. ⌜ now (answer .exit) ≡ told (referenceGiven (now (value .entry))) ⌝ }
+{
+    tell(words::reference(value), answer);
+}
+
+// A text of at most 70.
+#[no_mangle]
+pub extern "C" fn bulk_text70(value: &[u8], answer: &mut [u64; 3])
+    ensures { λ _. ⌜ now (answer .exit) ≡ told (textGiven Field.Nm (now (value .entry))) ⌝ }
+{
+    tell(words::text(Field::Nm, value), answer);
+}
+
+// A text of at most 140.
+#[no_mangle]
+pub extern "C" fn bulk_text140(value: &[u8], answer: &mut [u64; 3])
+    ensures { λ _. ⌜ now (answer .exit) ≡ told (textGiven Field.Ustrd (now (value .entry))) ⌝ }
+{
+    tell(words::text(Field::Ustrd, value), answer);
+}
+
+// A count: the second word is its number.
+#[no_mangle]
+pub extern "C" fn bulk_count(value: &[u8], answer: &mut [u64; 3])
+    ensures { λ _. ⌜ now (answer .exit) ≡ told (countGiven (now (value .entry))) ⌝ }
+{
+    tell(money::count(value), answer);
+}
+
+// An item's amount: the second word is its cents.
+#[no_mangle]
+pub extern "C" fn bulk_item_amount(value: &[u8], answer: &mut [u64; 3])
+    ensures { λ _. ⌜ now (answer .exit) ≡ told (amountGiven Range.Item (now (value .entry))) ⌝ }
+{
+    tell(money::amount(Range::Item, value), answer);
+}
+
+// The header total: the second word is its cents.
+#[no_mangle]
+pub extern "C" fn bulk_header_amount(value: &[u8], answer: &mut [u64; 3])
+    ensures { λ _. ⌜ now (answer .exit) ≡ told (amountGiven Range.Total (now (value .entry))) ⌝ }
+{
+    tell(money::amount(Range::Total, value), answer);
+}
