@@ -1,6 +1,8 @@
-// The C face and nothing else: every public single checker once more, under its exported C name.
+// The C face and nothing else: every public function once more, under its exported C name.
 // Each takes any bytes, and writes all three words of `answer` by the table of specs/Told.antt.
 use answers::Answer;
+use judge::Extent;
+use judge::Verdict;
 use money::Range;
 use words::Field;
 ghost use mathlib.Core.Path.{_≡_};
@@ -14,13 +16,60 @@ ghost use Rattle.money.specs.Amount.{amountGiven};
 ghost use Rattle.accounts.specs.Iban.{ibanGiven};
 ghost use Rattle.accounts.specs.Identifier.{identifierGiven};
 ghost use Rattle.accounts.specs.Bic.{bicGiven};
-ghost use Rattle.bulk.specs.Told.{told};
+ghost use Rattle.bulk.specs.Told.{told, toldVerdict, toldExtent};
+ghost use Rattle.judge.specs.Verdict.{meant, located};
+ghost use Rattle.judge.specs.Message.{judged};
+ghost use Rattle.judge.specs.Items.{item as itemOf};
 
 // Writes the three words.
 fn tell(a: Answer, answer: &mut [u64; 3])
     ensures { λ _. ⌜ now (answer .exit) ≡ told (given a) ⌝ }
 {
     *answer = [answers::number(a) as u64, answers::value(a), 0];
+}
+
+// Writes the three words of a verdict.
+fn tell_verdict(v: Verdict, answer: &mut [u64; 3])
+    ensures { λ _. ⌜ now (answer .exit) ≡ toldVerdict (meant v) ⌝ }
+{
+    match v {
+        Verdict::Accepted(count, cents) => {
+            *answer = [0, count, cents];
+        }
+        Verdict::Refused(number, place) => {
+            *answer = [number as u64, place as u64, 0];
+        }
+    }
+}
+
+// Writes the three words of where an item lies.
+fn tell_extent(x: Extent, answer: &mut [u64; 3])
+    ensures { λ _. ⌜ now (answer .exit) ≡ toldExtent (located x) ⌝ }
+{
+    match x {
+        Extent::Lies(from, to) => {
+            *answer = [0, from as u64, to as u64];
+        }
+        Extent::NotThere(number, place) => {
+            *answer = [number as u64, place as u64, 0];
+        }
+    }
+}
+
+// A message: 0, the count and the cents; or the number, the place and 0.
+#[no_mangle]
+pub extern "C" fn bulk_judge(message: &[u8], answer: &mut [u64; 3])
+    ensures { λ _. ⌜ now (answer .exit) ≡ toldVerdict (judged (now (message .entry))) ⌝ }
+{
+    tell_verdict(judge::judge(message), answer);
+}
+
+// Item i of a message: 0, the place of its `<` and the place behind its `>`; or the number, the place and 0.
+#[no_mangle]
+pub extern "C" fn bulk_item(message: &[u8], i: u64, answer: &mut [u64; 3])
+    ensures { λ _. ⌜ now (answer .exit) ≡ toldExtent (itemOf i (now (message .entry))) ⌝ }
+{
+    tell_extent(judge::item(message, i), answer);
 }
 
 // An IBAN.

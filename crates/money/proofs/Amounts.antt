@@ -1,17 +1,18 @@
 -- What the amount's checker answers. Assumes nothing.
-use mathlib.Core.Path.{_≡_, _∙_}
-use mathlib.Core.Bool.{true, false}
+use mathlib.Core.Path.{_≡_, refl, _∙_}
+use mathlib.Core.Bool.{Bool, true, false}
 use mathlib.Core.List.{List, [], _∷_}
 use Prim.Native.Nat.{ℕ, _+_, _-_, _*_, _<_, _≤_}
+use native.Mathlib.Omega.{arith}
 use lib.ListN.{length, take, drop}
 use lib.Seq.{length-take-le}
 use Rattle.text.specs.Truth.{every, lead, allOf, between}
 use Rattle.text.specs.Quoted.{decimal}
 use Rattle.text.specs.Classes.{digit}
-use Rattle.text.proofs.Truths.{between-of, fails, pass, done, between-under, between-over}
+use Rattle.text.proofs.Truths.{between-of, fails, pass, done, between-under, between-over, between-true}
 use Rattle.text.proofs.Scan.{lead-le, lead-every, rest-of}
 use Rattle.text.proofs.Decimal.{decimal-below}
-use Rattle.answers.specs.Given.{worth, refused}
+use Rattle.answers.specs.Given.{worth, refused, valueOf, inOrder, _else_}
 use Rattle.money.specs.Amount.{asTwoDigits, amountForm, cents, most, amountGiven}
 use Rattle.money.specs.declared.Range.{Range}
 use Rattle.money.proofs.Fractions.{fractional}
@@ -74,3 +75,13 @@ module _ (k : Range) (s : List ℕ) (x : ℕ) (a : Amount s x) where
   pub within : (m : ℕ) → m ≡ most k → 1 ≤ x → x ≤ m → worth x ≡ amountGiven k s
   unfolding amountGiven
   within m e lo hi = rw (a .form, ← a .worth, between-of 1 (most k) x lo (rw e at hi))
+
+-- whatever is given, its cents are within the range
+pub amount-most : (k : Range) (s : List ℕ) → valueOf (amountGiven k s) ≤ most k
+unfolding amountGiven
+amount-most k s = go (amountForm s) (between 1 (most k) (cents s)) refl
+  where
+    go : (a b : Bool) → between 1 (most k) (cents s) ≡ b → valueOf (inOrder (a else 7 ∷ b else 9 ∷ []) (worth (cents s))) ≤ most k
+    go true true e = between-true 1 (most k) (cents s) e .1
+    go true false e = omega arith
+    go false b e = omega arith

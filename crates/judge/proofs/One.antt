@@ -1,0 +1,32 @@
+-- Two verdicts of one meaning are one, and so are two extents: so two answers that one contract allows are equal. Assumes nothing.
+use mathlib.Core.Path.{_≡_, refl, ap, sym, _∙_}
+use Prim.Native.Nat.{ℕ}
+use Rattle.judge.specs.declared.Verdict.{Verdict}
+use Rattle.judge.specs.declared.Verdict.the-variants.{Accepted, Refused}
+use Rattle.judge.specs.declared.Extent.{Extent}
+use Rattle.judge.specs.declared.Extent.the-variants.{Lies, NotThere}
+use Rattle.judge.specs.Verdict.{Judged, accepted, refused, meant, Located, lies, fault, located}
+
+verdict-of : Judged → Verdict
+verdict-of (accepted count cents) = Accepted count cents
+verdict-of (refused number place) = Refused number place
+
+back : (v : Verdict) → verdict-of (meant v) ≡ v
+unfolding verdict-of
+back (Accepted count cents) = refl
+back (Refused number place) = refl
+
+pub one-verdict : (v w : Verdict) (j : Judged) → meant v ≡ j → meant w ≡ j → v ≡ w
+one-verdict v w j e f = sym (back v) ∙ ap verdict-of (e ∙ sym f) ∙ back w
+
+extent-of : Located → Extent
+extent-of (lies from to) = Lies from to
+extent-of (fault number place) = NotThere number place
+
+back′ : (x : Extent) → extent-of (located x) ≡ x
+unfolding extent-of
+back′ (Lies from to) = refl
+back′ (NotThere number place) = refl
+
+pub one-extent : (x y : Extent) (l : Located) → located x ≡ l → located y ≡ l → x ≡ y
+one-extent x y l e f = sym (back′ x) ∙ ap extent-of (e ∙ sym f) ∙ back′ y

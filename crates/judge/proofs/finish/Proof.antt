@@ -1,0 +1,44 @@
+use native.Mathlib.Omega.{arith}
+use mathlib.Core.Path.{_∙_}
+use Rattle.judge.proofs.Begins.{spaces-within}
+use Rattle.judge.proofs.Ends.{bytes-left, nothing-left}
+use borrow.Author.Needs.{needs}
+use Rattle.judge.proofs.finish.Statement.{statement}
+use Rattle.judge.proofs.finish.Tie as tie
+
+sub-spaces : tie.Need-sub-spaces
+sub-spaces c = search needs
+
+part-spaces-start : tie.Need-part-spaces-start
+part-spaces-start c = search needs
+
+part-spaces-end : tie.Need-part-spaces-end
+part-spaces-end c = search needs
+
+spaces-requires : tie.Need-spaces-requires
+spaces-requires c κs = search needs
+
+add-e : tie.Need-add-e
+add-e c = omega (arith, spaces-within (c .before .before .before .args .m .now) (c .before .before .before .args .st .at) (c .spaces .result) (c .before .before .before .pre) (c .spaces .ensures))
+
+returns : tie.Need-returns
+returns c = bytes-left (c .before .before .before .before .args .m .now) (c .before .before .before .before .args .st) (c .before .spaces .result) (c .before .spaces .ensures) (c .if1 .taken)
+
+compare-requires : tie.Need-compare-requires
+compare-requires c κs = search needs
+
+returns-2 : tie.Need-returns-2
+returns-2 c = c .compare .ensures ∙ nothing-left (c .before .before .before .before .before .args .m .now) (c .before .before .before .before .before .args .st) (c .before .before .spaces .result) (c .before .before .spaces .ensures) (c .before .if1 .left)
+
+pub finish-spec : {M : Type 1} → statement M
+finish-spec =
+    tie.close
+    (tie.spec
+    sub-spaces
+    part-spaces-start
+    part-spaces-end
+    spaces-requires
+    add-e
+    returns
+    compare-requires
+    returns-2)

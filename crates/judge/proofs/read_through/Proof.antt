@@ -1,0 +1,42 @@
+use Rattle.judge.proofs.Begins.{through-from, through-faulty}
+use Rattle.notes.specs.Reading.{stepped}
+use borrow.Author.Needs.{needs}
+use Rattle.judge.proofs.read_through.Statement.{statement}
+use Rattle.judge.proofs.read_through.Tie as tie
+
+open-message-requires : tie.Need-open-message-requires
+open-message-requires c κs = search needs
+
+enum-known-p : tie.Need-enum-known-p
+enum-known-p c = search needs
+
+message-requires : tie.Need-message-requires
+message-requires c κs = search needs
+
+enum-known-number : tie.Need-enum-known-number
+enum-known-number c = search needs
+
+new-requires : tie.Need-new-requires
+new-requires c κs = search needs
+
+refuse-requires : tie.Need-refuse-requires
+refuse-requires c κs = search needs
+
+returns : tie.Need-returns
+returns c = (through-from (c .before .before .before .before .before .before .args .m .now) (c .before .before .before .before .before .before .pre) (c .before .before .before .before .open-message .result) (c .before .before .before .before .open-message .ensures .0) (c .before .before .before .before .open-message .ensures .1) _ (c .before .before .p .given .1) (stepped (c .message .result)) (c .message .ensures .0), c .message .ensures .1)
+
+returns-2 : tie.Need-returns-2
+returns-2 c = through-faulty (c .before .before .before .before .before .before .before .args .m .now) (c .before .before .before .before .before .before .before .pre) (c .before .before .before .before .before .open-message .result) (c .before .before .before .before .before .open-message .ensures .0) (c .before .before .before .before .before .open-message .ensures .1) _ _ (c .before .before .before .number .given .1) (stepped (c .refuse .result)) (c .refuse .ensures)
+
+pub read-through-spec : {M : Type 1} → statement M
+read-through-spec =
+    tie.close
+    (tie.spec
+    open-message-requires
+    enum-known-p
+    message-requires
+    enum-known-number
+    new-requires
+    refuse-requires
+    returns
+    returns-2)

@@ -1,0 +1,4 @@
+pub mod Tree
+pub mod Profile
+pub mod Tags
+pub mod Table

@@ -1,0 +1,77 @@
+use native.Mathlib.Omega.{arith}
+use mathlib.Core.Path.{_∙_, ap}
+use Rattle.profile.specs.Table.{closesBy}
+use Rattle.notes.specs.Reading.{on, stepped}
+use Rattle.reader.proofs.Steps.{close-fits, closed-whole, closed-cut, closed-other}
+use borrow.Author.Needs.{needs}
+use Rattle.reader.proofs.close.Statement.{statement}
+use Rattle.reader.proofs.close.Tie as tie
+
+sub-closing : tie.Need-sub-closing
+sub-closing c = search needs
+
+part-closing-start : tie.Need-part-closing-start
+part-closing-start c = search needs
+
+part-closing-end : tie.Need-part-closing-end
+part-closing-end c = search needs
+
+closing-requires : tie.Need-closing-requires
+closing-requires c κs = search needs
+
+enum-told : tie.Need-enum-told
+enum-told c = search needs
+
+cast-at-place : tie.Need-cast-at-place
+cast-at-place c = search needs
+
+add-at-place : tie.Need-add-at-place
+add-at-place c = omega (arith, close-fits (c .before .before .before .before .before .before .before .args .m .now) (c .before .before .before .before .before .before .before .args .st) (closesBy (c .before .before .before .before .before .before .before .args .names .now) (c .before .before .before .before .before .before .before .args .r)) (c .before .before .before .before .before .before .before .pre .0) (c .before .before .before .closing .result) (c .before .before .before .closing .ensures) (c .before .enum-told .given .1) (c .before .before .before .before .before .before .before .args .r .finish) (c .before .before .before .before .before .before .before .pre .1), c .before .before .before .before .before .before .before .pre .0)
+
+at-place-requires : tie.Need-at-place-requires
+at-place-requires c κs = search needs
+
+read-on-requires : tie.Need-read-on-requires
+read-on-requires c κs = search needs
+
+enum-told-2 : tie.Need-enum-told-2
+enum-told-2 c = search needs
+
+refuse-requires : tie.Need-refuse-requires
+refuse-requires c κs = search needs
+
+enum-told-3 : tie.Need-enum-told-3
+enum-told-3 c = search needs
+
+refuse-requires-2 : tie.Need-refuse-requires-2
+refuse-requires-2 c κs = search needs
+
+returns : tie.Need-returns
+returns c = closed-whole (c .before .before .before .before .before .before .before .before .before .args .m .now) (c .before .before .before .before .before .before .before .before .before .args .st) (closesBy (c .before .before .before .before .before .before .before .before .before .args .names .now) (c .before .before .before .before .before .before .before .before .before .args .r)) (c .before .before .before .before .before .before .before .before .before .pre .0) (c .before .before .before .before .before .closing .result) (c .before .before .before .before .before .closing .ensures) (c .before .before .before .enum-told .given .1) (c .before .before .before .before .before .before .before .before .before .args .r .finish) (c .before .before .before .before .before .before .before .before .before .pre .1) (stepped (c .read-on .result)) (c .read-on .ensures ∙ ap on (c .before .at-place .ensures))
+
+returns-2 : tie.Need-returns-2
+returns-2 c = closed-cut (c .before .before .before .before .before .before .before .args .m .now) (c .before .before .before .before .before .before .before .args .st) (closesBy (c .before .before .before .before .before .before .before .args .names .now) (c .before .before .before .before .before .before .before .args .r)) (c .before .before .before .before .before .before .before .pre .0) (c .before .before .before .closing .result) (c .before .before .before .closing .ensures) (c .before .enum-told2 .given .1) (stepped (c .refuse .result)) (c .refuse .ensures)
+
+returns-3 : tie.Need-returns-3
+returns-3 c = closed-other (c .before .before .before .before .before .before .before .args .m .now) (c .before .before .before .before .before .before .before .args .st) (closesBy (c .before .before .before .before .before .before .before .args .names .now) (c .before .before .before .before .before .before .before .args .r)) (c .before .before .before .before .before .before .before .pre .0) (c .before .before .before .closing .result) (c .before .before .before .closing .ensures) (c .before .enum-told3 .given .1) (stepped (c .refuse2 .result)) (c .refuse2 .ensures)
+
+pub close-spec : {M : Type 1} → statement M
+close-spec =
+    tie.close
+    (tie.spec
+    sub-closing
+    part-closing-start
+    part-closing-end
+    closing-requires
+    enum-told
+    cast-at-place
+    add-at-place
+    at-place-requires
+    read-on-requires
+    enum-told-2
+    refuse-requires
+    enum-told-3
+    refuse-requires-2
+    returns
+    returns-2
+    returns-3)
