@@ -4,7 +4,8 @@ use mathlib.Core.Bool.{Bool, true, false}
 use mathlib.Core.List.{List}
 use Prim.Native.Nat.{ℕ, _+_, _-_, _≤_, _<_}
 use native.Mathlib.Omega.{arith}
-use borrow.Author.Tests.{eq-eqb, ne-eqb, lt-ltb, le-ltb}
+use borrow.Author.Tests.{lt-ltb, le-ltb}
+use lib.Dec.{eqb}
 use lib.ListN.{length, take, drop}
 use Rattle.text.specs.Truth.{lead}
 use Rattle.text.proofs.Scan.{rest-of}
@@ -16,17 +17,17 @@ use Rattle.judge.specs.Verdict.{Judged, accepted, refused}
 use Rattle.judge.specs.Message.{compared, finished, concluded, readThrough, judged}
 
 module _ (st : State) where
-  pub count-wrong : (st .notes .nb ≡ st .notes .count → ⊥) → refused 14 (st .notes .nbat) ≡ compared st
+  pub count-wrong : eqb (st .notes .nb) (st .notes .count) ≡ false → refused 14 (st .notes .nbat) ≡ compared st
   unfolding compared
-  count-wrong h = rw (ne-eqb (st .notes .nb) (st .notes .count) h)
+  count-wrong h = rw h
 
-  pub total-wrong : st .notes .nb ≡ st .notes .count → (st .notes .total ≡ st .notes .sum → ⊥) → refused 15 (st .notes .totalat) ≡ compared st
+  pub total-wrong : eqb (st .notes .nb) (st .notes .count) ≡ true → eqb (st .notes .total) (st .notes .sum) ≡ false → refused 15 (st .notes .totalat) ≡ compared st
   unfolding compared
-  total-wrong h g = rw (eq-eqb (st .notes .nb) (st .notes .count) h, ne-eqb (st .notes .total) (st .notes .sum) g)
+  total-wrong h g = rw (h, g)
 
-  pub both-right : st .notes .nb ≡ st .notes .count → st .notes .total ≡ st .notes .sum → accepted (st .notes .count) (st .notes .sum) ≡ compared st
+  pub both-right : eqb (st .notes .nb) (st .notes .count) ≡ true → eqb (st .notes .total) (st .notes .sum) ≡ true → accepted (st .notes .count) (st .notes .sum) ≡ compared st
   unfolding compared
-  both-right h g = rw (eq-eqb (st .notes .nb) (st .notes .count) h, eq-eqb (st .notes .total) (st .notes .sum) g)
+  both-right h g = rw (h, g)
 
 module _ (m : List ℕ) (st : State) (n : ℕ) (e : n ≡ lead white (take (length m - st .at) (drop (st .at) m))) where
   skips-to : skipped m st ≡ moved st (st .at + n)

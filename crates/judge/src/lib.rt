@@ -4,6 +4,8 @@ use notes::State;
 use notes::Step;
 use profile::Look;
 ghost use mathlib.Core.Path.{_≡_};
+ghost use mathlib.Core.Bool.{not};
+ghost use lib.Dec.{eqb};
 ghost use Prim.Native.Nat.{_+_, _≤_};
 ghost use lib.ListN.{length, drop};
 ghost use Rattle.text.specs.Truth.{lead};
@@ -72,15 +74,22 @@ fn open_message(m: &[u8]) -> Opened
     }
 }
 
+// Whether what the header says is other than what was read.
+fn is_other(said: u64, found: u64) -> bool
+    ensures { λ r. ⌜ r ≡ not (eqb said found) ⌝ }
+{
+    said != found
+}
+
 // What the header says, against what was read.
 fn compare(st: State) -> Verdict
     ensures { λ r. ⌜ meant r ≡ compared st ⌝ }
 {
     let n = st.notes;
-    if n.nb != n.count {
+    if is_other(n.nb, n.count) {
         return Verdict::Refused(14, n.nbat);
     }
-    if n.total != n.sum {
+    if is_other(n.total, n.sum) {
         return Verdict::Refused(15, n.totalat);
     }
     Verdict::Accepted(n.count, n.sum)

@@ -1,3 +1,4 @@
+-- `accounts::bic` meets its contract. Assumes nothing.
 use Rattle.text.proofs.Truths.{yes-of, no-of}
 use Rattle.accounts.specs.Bic.{bicGiven}
 use borrow.Author.Needs.{needs}

@@ -1,3 +1,4 @@
+-- `accounts::iban` meets its contract. Assumes nothing.
 use mathlib.Core.List.{[], _∷_}
 use Rattle.answers.specs.Given.{yes, _else_}
 use Rattle.text.proofs.Truths.{yes-of, no-of, yes-not, no-not}
@@ -27,13 +28,15 @@ returns-2 : tie.Need-returns-2
 unfolding ibanGiven ibanChecked
 returns-2 c =
     let s = c .before .before .before .before .before .args .s .now in
-    past-first (ibanForm s) 7 (ibanChecked s else 8 ∷ []) yes (yes-not (c .before .before .before .is-iban .ensures) (c .before .before .if1 .left)) (past-first (ibanChecked s) 8 [] yes (yes-of (c .before .is-checked .ensures) (c .if2 .taken)) refl)
+    past-first (ibanForm s) 7 (ibanChecked s else 8 ∷ []) yes (yes-not (c .before .before .before .is-iban .ensures) (c .before .before .if1 .left))
+    (past-first (ibanChecked s) 8 [] yes (yes-of (c .before .is-checked .ensures) (c .if2 .taken)) refl)
 
 returns-3 : tie.Need-returns-3
 unfolding ibanGiven ibanChecked
 returns-3 c =
     let s = c .before .before .before .before .before .args .s .now in
-    past-first (ibanForm s) 7 (ibanChecked s else 8 ∷ []) yes (yes-not (c .before .before .before .is-iban .ensures) (c .before .before .if1 .left)) (at-first (ibanChecked s) 8 [] yes (no-of (c .before .is-checked .ensures) (c .if2 .left)))
+    past-first (ibanForm s) 7 (ibanChecked s else 8 ∷ []) yes (yes-not (c .before .before .before .is-iban .ensures) (c .before .before .if1 .left))
+    (at-first (ibanChecked s) 8 [] yes (no-of (c .before .is-checked .ensures) (c .if2 .left)))
 
 pub iban-spec : {M : Type 1} → statement M
 iban-spec = tie.close (tie.spec is-iban-requires returns is-checked-requires returns-2 returns-3)

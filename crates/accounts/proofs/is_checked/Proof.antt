@@ -1,3 +1,4 @@
+-- `accounts::is_checked` meets its contract. Assumes nothing.
 use mathlib.Core.List.{_++_}
 use lib.ListN.{take, drop}
 use Rattle.check97.specs.Check.{leavesOne}
@@ -21,12 +22,14 @@ pair-requires c κs = search needs
 returns : tie.Need-returns
 returns c =
     let a = c .before .before .before .before .before .args in
-    sym (range-under (a .s .now) (leavesOne (drop (a .m) (a .s .now) ++ take 4 (a .s .now))) (c .before .pair .result) (omega arith) (c .before .pair .ensures) (c .if1 .taken))
+    sym
+    (range-under (a .s .now) (leavesOne (drop (a .m) (a .s .now) ++ take 4 (a .s .now))) (c .before .pair .result) (omega arith) (c .before .pair .ensures) (c .if1 .taken))
 
 returns-2 : tie.Need-returns-2
 returns-2 c =
     let a = c .before .before .before .before .before .before .args in
-    sym (range-over (a .s .now) (leavesOne (drop (a .m) (a .s .now) ++ take 4 (a .s .now))) (c .before .before .pair .result) (omega arith) (c .before .before .pair .ensures) (c .if2 .taken))
+    sym
+    (range-over (a .s .now) (leavesOne (drop (a .m) (a .s .now) ++ take 4 (a .s .now))) (c .before .before .pair .result) (omega arith) (c .before .before .pair .ensures) (c .if2 .taken))
 
 sub-leaves-one : tie.Need-sub-leaves-one
 sub-leaves-one c = search needs
@@ -44,7 +47,11 @@ leaves-one-requires : tie.Need-leaves-one-requires
 leaves-one-requires c κs = search needs
 
 returns-3 : tie.Need-returns-3
-returns-3 c = range-within (c .before .before .before .before .before .before .before .before .before .args .s .now) (c .before .before .before .before .before .before .before .before .before .args .m) (c .leaves-one .result) (c .before .before .before .before .before .pair .result) (omega arith) (c .before .before .before .before .before .pair .ensures) (c .before .before .before .before .if1 .left) (c .before .before .before .if2 .left) (c .leaves-one .ensures)
+returns-3 c =
+    range-within (c .before .before .before .before .before .before .before .before .before .args .s .now)
+    (c .before .before .before .before .before .before .before .before .before .args .m) (c .leaves-one .result)
+    (c .before .before .before .before .before .pair .result) (omega arith) (c .before .before .before .before .before .pair .ensures)
+    (c .before .before .before .before .if1 .left) (c .before .before .before .if2 .left) (c .leaves-one .ensures)
 
 pub is-checked-spec : {M : Type 1} → statement M
 is-checked-spec =

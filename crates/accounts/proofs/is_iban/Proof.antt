@@ -1,3 +1,4 @@
+-- `accounts::is_iban` meets its contract. Assumes nothing.
 use Rattle.text.proofs.Truths.{yes-not, no-not, fails, pass, lastly, between-of, between-under, between-over}
 use mathlib.Core.Path.{sym, ap, _∙_}
 use Rattle.text.specs.Truth.{every}
@@ -37,7 +38,9 @@ all-in-requires c κs = search needs
 
 returns-4 : tie.Need-returns-4
 unfolding ibanForm inClass
-returns-4 c = sym (pass _ _ _ (between-of 15 34 _ (c .before .before .before .before .before .if1 .left) (c .before .before .before .before .if2 .left)) (pass _ _ _ (yes-not (c .before .before .before .is-head .ensures) (c .before .before .if3 .left)) (lastly _ _ (c .all-in .ensures ∙ ap (every capitalOrDigit) (rest-of 4 (c .before .before .before .before .before .before .before .args .s .now))))))
+returns-4 c =
+    sym
+    (pass _ _ _ (between-of 15 34 _ (c .before .before .before .before .before .if1 .left) (c .before .before .before .before .if2 .left)) (pass _ _ _ (yes-not (c .before .before .before .is-head .ensures) (c .before .before .if3 .left)) (lastly _ _ (c .all-in .ensures ∙ ap (every capitalOrDigit) (rest-of 4 (c .before .before .before .before .before .before .before .args .s .now))))))
 
 pub is-iban-spec : {M : Type 1} → statement M
 is-iban-spec =

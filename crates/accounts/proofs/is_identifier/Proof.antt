@@ -1,3 +1,4 @@
+-- `accounts::is_identifier` meets its contract. Assumes nothing.
 use Rattle.text.proofs.Truths.{yes-not, no-not, fails, pass, lastly, between-of, between-under, between-over}
 use mathlib.Core.Path.{sym, ap, _∙_}
 use Rattle.text.specs.Truth.{every, some}
@@ -53,7 +54,9 @@ all-in-requires-2 c κs = search needs
 
 returns-5 : tie.Need-returns-5
 unfolding identifierForm inClass
-returns-5 c = sym (fails _ 3 (no-not (c .before .all-in2 .ensures ∙ ap (every referenceSet) (rest-of 7 (c .before .before .before .before .before .before .before .before .before .before .before .args .s .now))) (c .if5 .taken)))
+returns-5 c =
+    sym
+    (fails _ 3 (no-not (c .before .all-in2 .ensures ∙ ap (every referenceSet) (rest-of 7 (c .before .before .before .before .before .before .before .before .before .before .before .args .s .now))) (c .if5 .taken)))
 
 sub-some-in : tie.Need-sub-some-in
 sub-some-in c = search needs
@@ -71,7 +74,8 @@ returns-6 : tie.Need-returns-6
 unfolding identifierForm inClass
 returns-6 c =
     let s = c .before .before .before .before .before .before .before .before .before .before .before .before .before .args .s .now in
-    sym (pass _ _ _ (between-of 8 35 _ (c .before .before .before .before .before .before .before .before .before .before .before .if1 .left) (c .before .before .before .before .before .before .before .before .before .before .if2 .left)) (pass _ _ _ (yes-not (c .before .before .before .before .before .before .before .before .before .is-head .ensures) (c .before .before .before .before .before .before .before .before .if3 .left)) (pass _ _ _ (yes-not (c .before .before .before .before .before .before .all-in .ensures) (c .before .before .before .before .before .if4 .left)) (pass _ _ _ (yes-not (c .before .before .before .all-in2 .ensures ∙ ap (every referenceSet) (rest-of 7 s)) (c .before .before .if5 .left)) (lastly _ _ (c .some-in .ensures ∙ ap (some letterOrDigit) (rest-of 7 s)))))))
+    sym
+    (pass _ _ _ (between-of 8 35 _ (c .before .before .before .before .before .before .before .before .before .before .before .if1 .left) (c .before .before .before .before .before .before .before .before .before .before .if2 .left)) (pass _ _ _ (yes-not (c .before .before .before .before .before .before .before .before .before .is-head .ensures) (c .before .before .before .before .before .before .before .before .if3 .left)) (pass _ _ _ (yes-not (c .before .before .before .before .before .before .all-in .ensures) (c .before .before .before .before .before .if4 .left)) (pass _ _ _ (yes-not (c .before .before .before .all-in2 .ensures ∙ ap (every referenceSet) (rest-of 7 s)) (c .before .before .if5 .left)) (lastly _ _ (c .some-in .ensures ∙ ap (some letterOrDigit) (rest-of 7 s)))))))
 
 pub is-identifier-spec : {M : Type 1} → statement M
 is-identifier-spec =

@@ -1,3 +1,4 @@
+-- `accounts::is_seventh` meets its contract. Assumes nothing.
 use Rattle.text.proofs.Truths.{yes-of, no-of}
 use Rattle.text.specs.Classes.{inClass}
 use Rattle.accounts.proofs.Forms.{seventh-is}
@@ -15,7 +16,9 @@ is-in-requires c κs = search needs
 
 returns : tie.Need-returns
 unfolding inClass
-returns c = sym (seventh-is (c .before .before .args .c) ∙ ap (λ (b : Bool). either b (between 50 57 (c .before .before .args .c))) (yes-of (c .before .is-in .ensures) (c .if1 .taken)))
+returns c =
+    sym
+    (seventh-is (c .before .before .args .c) ∙ ap (λ (b : Bool). either b (between 50 57 (c .before .before .args .c))) (yes-of (c .before .is-in .ensures) (c .if1 .taken)))
 
 returns-2 : tie.Need-returns-2
 unfolding inClass

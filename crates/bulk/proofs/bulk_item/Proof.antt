@@ -1,3 +1,4 @@
+-- `bulk::bulk_item` meets its contract. Assumes nothing.
 use borrow.Author.Needs.{needs}
 use Rattle.bulk.proofs.bulk_item.Statement.{statement}
 use Rattle.bulk.proofs.bulk_item.Tie as tie

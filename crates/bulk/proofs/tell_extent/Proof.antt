@@ -1,3 +1,4 @@
+-- `bulk::tell_extent` meets its contract. Assumes nothing.
 use borrow.Author.Needs.{needs}
 use Rattle.bulk.proofs.tell_extent.Statement.{statement}
 use Rattle.bulk.proofs.tell_extent.Tie as tie

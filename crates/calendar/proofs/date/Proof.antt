@@ -1,3 +1,4 @@
+-- `calendar::date` meets its contract. Assumes nothing.
 use Rattle.text.proofs.Truths.{yes-of, no-of}
 use Rattle.calendar.specs.Date.{dateGiven}
 use borrow.Author.Needs.{needs}

@@ -1,3 +1,4 @@
+-- `calendar::is_zone` meets its contract. Assumes nothing.
 use mathlib.Core.Path.{_∙_}
 use Rattle.text.proofs.Truths.{yes-of, no-of}
 use Rattle.calendar.proofs.Times.{zone-none, zone-z, zone-offset}

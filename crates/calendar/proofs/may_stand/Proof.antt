@@ -1,3 +1,4 @@
+-- `calendar::may_stand` meets its contract. Assumes nothing.
 use Rattle.text.proofs.Truths.{yes-of, no-of}
 use Rattle.calendar.specs.Pattern.{stands}
 use Rattle.text.specs.Classes.{inClass}

@@ -1,3 +1,4 @@
+-- `check97::leaves_one` meets its contract. Assumes nothing.
 use Rattle.check97.proofs.Turned.{leaves-one}
 use borrow.Author.Needs.{needs}
 use Rattle.check97.proofs.leaves_one.Statement.{statement}

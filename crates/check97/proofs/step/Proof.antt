@@ -1,3 +1,4 @@
+-- `check97::step` meets its contract. Assumes nothing.
 use native.Mathlib.Omega.{arith}
 use mathlib.Core.Path.{ap, sym}
 use Prim.Native.Nat.{ℕ, _%_}
@@ -47,7 +48,9 @@ add-result-2 c = search needs
 
 returns-2 : tie.Need-returns-2
 unfolding inClass
-returns-2 c = ap (λ (k : ℕ). k % 97) (sym (onto-capital _ _ (no-of (c .before .before .before .is-in .ensures) (c .before .before .if1 .left)) (yes-of (c .before .is-in2 .ensures) (c .if2 .taken))))
+returns-2 c =
+    ap (λ (k : ℕ). k % 97)
+    (sym (onto-capital _ _ (no-of (c .before .before .before .is-in .ensures) (c .before .before .if1 .left)) (yes-of (c .before .is-in2 .ensures) (c .if2 .taken))))
 
 is-in-requires-3 : tie.Need-is-in-requires-3
 is-in-requires-3 c κs = search needs
@@ -67,13 +70,16 @@ add-result-3 c = search needs
 
 returns-3 : tie.Need-returns-3
 unfolding inClass
-returns-3 c = ap (λ (k : ℕ). k % 97) (sym (onto-small _ _ (no-of (c .before .before .before .before .before .is-in .ensures) (c .before .before .before .before .if1 .left)) (no-of (c .before .before .before .is-in2 .ensures) (c .before .before .if2 .left)) (yes-of (c .before .is-in3 .ensures) (c .if3 .taken))))
+returns-3 c =
+    ap (λ (k : ℕ). k % 97)
+    (sym (onto-small _ _ (no-of (c .before .before .before .before .before .is-in .ensures) (c .before .before .before .before .if1 .left)) (no-of (c .before .before .before .is-in2 .ensures) (c .before .before .if2 .left)) (yes-of (c .before .is-in3 .ensures) (c .if3 .taken))))
 
 returns-4 : tie.Need-returns-4
 unfolding inClass
 returns-4 c =
     let a = c .before .before .before .before .before .before .args in
-    omega (arith, onto-none (a .r) (a .c) (no-of (c .before .before .before .before .before .is-in .ensures) (c .before .before .before .before .if1 .left)) (no-of (c .before .before .before .is-in2 .ensures) (c .before .before .if2 .left)) (no-of (c .before .is-in3 .ensures) (c .if3 .left)))
+    omega
+    (arith, onto-none (a .r) (a .c) (no-of (c .before .before .before .before .before .is-in .ensures) (c .before .before .before .before .if1 .left)) (no-of (c .before .before .before .is-in2 .ensures) (c .before .before .if2 .left)) (no-of (c .before .is-in3 .ensures) (c .if3 .left)))
 
 pub step-spec : {M : Type 1} → statement M
 step-spec =

@@ -1,3 +1,4 @@
+-- `judge::begin_at` meets its contract. Assumes nothing.
 use native.Mathlib.Omega.{arith}
 use Rattle.judge.proofs.Walks.{past-end, at-start, start-fits}
 use borrow.Author.Needs.{needs}
@@ -20,7 +21,9 @@ spaces-requires : tie.Need-spaces-requires
 spaces-requires c κs = search needs
 
 add-result : tie.Need-add-result
-add-result c = omega (arith, start-fits (c .before .before .before .before .args .m .now) (c .before .before .before .before .args .at) (c .spaces .result) (c .before .before .if1 .left) (c .spaces .ensures))
+add-result c =
+    omega
+    (arith, start-fits (c .before .before .before .before .args .m .now) (c .before .before .before .before .args .at) (c .spaces .result) (c .before .before .if1 .left) (c .spaces .ensures))
 
 returns-2 : tie.Need-returns-2
 returns-2 c = at-start (c .before .before .before .before .args .m .now) (c .before .before .before .before .args .at) (c .spaces .result) (c .spaces .ensures)

@@ -1,3 +1,4 @@
+-- `judge::enter_root` meets its contract. Assumes nothing.
 use native.Mathlib.Omega.{arith}
 use Rattle.judge.proofs.Begins.{root-fits, root-whole, root-cut, root-other}
 use borrow.Author.Needs.{needs}
@@ -20,7 +21,9 @@ enum-told : tie.Need-enum-told
 enum-told c = search needs
 
 add-t9 : tie.Need-add-t9
-add-t9 c = omega (arith, root-fits (c .before .before .before .before .before .args .m .now) (c .before .before .before .before .before .args .at) (c .before .before .before .before .before .pre) (c .before .before .root-at .result) (c .before .before .root-at .ensures) (c .enum-told .given .1))
+add-t9 c =
+    omega
+    (arith, root-fits (c .before .before .before .before .before .args .m .now) (c .before .before .before .before .before .args .at) (c .before .before .before .before .before .pre) (c .before .before .root-at .result) (c .before .before .root-at .ensures) (c .enum-told .given .1))
 
 enum-told-2 : tie.Need-enum-told-2
 enum-told-2 c = search needs
@@ -29,13 +32,22 @@ enum-told-3 : tie.Need-enum-told-3
 enum-told-3 c = search needs
 
 returns : tie.Need-returns
-returns c = root-whole (c .before .before .before .before .before .args .m .now) (c .before .before .before .before .before .args .at) (c .before .before .before .before .before .pre) (c .before .before .root-at .result) (c .before .before .root-at .ensures) (c .enum-told .given .1)
+returns c =
+    root-whole (c .before .before .before .before .before .args .m .now) (c .before .before .before .before .before .args .at)
+    (c .before .before .before .before .before .pre) (c .before .before .root-at .result) (c .before .before .root-at .ensures)
+    (c .enum-told .given .1)
 
 returns-2 : tie.Need-returns-2
-returns-2 c = root-cut (c .before .before .before .before .before .args .m .now) (c .before .before .before .before .before .args .at) (c .before .before .before .before .before .pre) (c .before .before .root-at .result) (c .before .before .root-at .ensures) (c .enum-told2 .given .1)
+returns-2 c =
+    root-cut (c .before .before .before .before .before .args .m .now) (c .before .before .before .before .before .args .at)
+    (c .before .before .before .before .before .pre) (c .before .before .root-at .result) (c .before .before .root-at .ensures)
+    (c .enum-told2 .given .1)
 
 returns-3 : tie.Need-returns-3
-returns-3 c = root-other (c .before .before .before .before .before .args .m .now) (c .before .before .before .before .before .args .at) (c .before .before .before .before .before .pre) (c .before .before .root-at .result) (c .before .before .root-at .ensures) (c .enum-told3 .given .1)
+returns-3 c =
+    root-other (c .before .before .before .before .before .args .m .now) (c .before .before .before .before .before .args .at)
+    (c .before .before .before .before .before .pre) (c .before .before .root-at .result) (c .before .before .root-at .ensures)
+    (c .enum-told3 .given .1)
 
 pub enter-root-spec : {M : Type 1} → statement M
 enter-root-spec =

@@ -1,3 +1,4 @@
+-- `judge::finish` meets its contract. Assumes nothing.
 use native.Mathlib.Omega.{arith}
 use mathlib.Core.Path.{_∙_}
 use Rattle.judge.proofs.Begins.{spaces-within}
@@ -19,16 +20,22 @@ spaces-requires : tie.Need-spaces-requires
 spaces-requires c κs = search needs
 
 add-e : tie.Need-add-e
-add-e c = omega (arith, spaces-within (c .before .before .before .args .m .now) (c .before .before .before .args .st .at) (c .spaces .result) (c .before .before .before .pre) (c .spaces .ensures))
+add-e c =
+    omega
+    (arith, spaces-within (c .before .before .before .args .m .now) (c .before .before .before .args .st .at) (c .spaces .result) (c .before .before .before .pre) (c .spaces .ensures))
 
 returns : tie.Need-returns
-returns c = bytes-left (c .before .before .before .before .args .m .now) (c .before .before .before .before .args .st) (c .before .spaces .result) (c .before .spaces .ensures) (c .if1 .taken)
+returns c =
+    bytes-left (c .before .before .before .before .args .m .now) (c .before .before .before .before .args .st) (c .before .spaces .result)
+    (c .before .spaces .ensures) (c .if1 .taken)
 
 compare-requires : tie.Need-compare-requires
 compare-requires c κs = search needs
 
 returns-2 : tie.Need-returns-2
-returns-2 c = c .compare .ensures ∙ nothing-left (c .before .before .before .before .before .args .m .now) (c .before .before .before .before .before .args .st) (c .before .before .spaces .result) (c .before .before .spaces .ensures) (c .before .if1 .left)
+returns-2 c =
+    c .compare .ensures ∙ nothing-left (c .before .before .before .before .before .args .m .now) (c .before .before .before .before .before .args .st)
+    (c .before .before .spaces .result) (c .before .before .spaces .ensures) (c .before .if1 .left)
 
 pub finish-spec : {M : Type 1} → statement M
 finish-spec =

@@ -1,3 +1,4 @@
+-- `judge::walk` meets its contract. Assumes nothing.
 use borrow.Author.Needs.{needs}
 use mathlib.Core.Path.{_≡_, _∙_, ap, sym}
 use Rattle.notes.specs.Reading.{meant}
@@ -22,7 +23,12 @@ enum-known-met : tie.Need-enum-known-met Inv-loop μ-loop
 enum-known-met c = search needs
 
 returns : tie.Need-returns Inv-loop μ-loop
-returns c = walk-stops (c .before .before .before .before .before .before .before .args .m .now) (c .before .before .before .before .before .before .before .args .i) (c .before .before .before .before .before .before .before .args .first) (c .before .before .before .before .before .loop .left) (c .before .before .before .before .before .loop .at) (c .before .before .before .before .before .loop .inv) _ _ (ap (λ x. meant x (c .before .before .before .before .item .result .state)) (sym (c .before .met .given .1)) ∙ c .before .before .before .before .item .ensures .0)
+returns c =
+    walk-stops (c .before .before .before .before .before .before .before .args .m .now)
+    (c .before .before .before .before .before .before .before .args .i) (c .before .before .before .before .before .before .before .args .first)
+    (c .before .before .before .before .before .loop .left) (c .before .before .before .before .before .loop .at)
+    (c .before .before .before .before .before .loop .inv) _ _
+    (ap (λ x. meant x (c .before .before .before .before .item .result .state)) (sym (c .before .met .given .1)) ∙ c .before .before .before .before .item .ensures .0)
 
 enum-told : tie.Need-enum-told Inv-loop μ-loop
 enum-told c = search needs
@@ -31,7 +37,14 @@ begin-at-requires : tie.Need-begin-at-requires Inv-loop μ-loop
 begin-at-requires c κs = search needs
 
 returns-2 : tie.Need-returns-2 Inv-loop μ-loop
-returns-2 c = walk-here (c .before .before .before .before .before .before .before .before .args .m .now) (c .before .before .before .before .before .before .before .before .args .i) (c .before .before .before .before .before .before .before .before .args .first) (c .before .before .before .before .before .before .loop .left) (c .before .before .before .before .before .before .loop .at) (c .before .before .before .before .before .before .loop .inv) (c .before .before .before .before .before .item .result .state) (ap (λ x. meant x (c .before .before .before .before .before .item .result .state)) (sym (c .before .before .enum-told .given .1)) ∙ c .before .before .before .before .before .item .ensures .0) (c .before .if1 .taken) (c .begin-at .result) (c .begin-at .ensures)
+returns-2 c =
+    walk-here (c .before .before .before .before .before .before .before .before .args .m .now)
+    (c .before .before .before .before .before .before .before .before .args .i)
+    (c .before .before .before .before .before .before .before .before .args .first) (c .before .before .before .before .before .before .loop .left)
+    (c .before .before .before .before .before .before .loop .at) (c .before .before .before .before .before .before .loop .inv)
+    (c .before .before .before .before .before .item .result .state)
+    (ap (λ x. meant x (c .before .before .before .before .before .item .result .state)) (sym (c .before .before .enum-told .given .1)) ∙ c .before .before .before .before .before .item .ensures .0)
+    (c .before .if1 .taken) (c .begin-at .result) (c .begin-at .ensures)
 
 sub-left : tie.Need-sub-left Inv-loop μ-loop
 sub-left c = search needs
@@ -40,7 +53,13 @@ loop-less : tie.Need-loop-less Inv-loop μ-loop
 loop-less c = search needs
 
 loop-again : tie.Need-loop-again Inv-loop μ-loop
-loop-again c = walk-on (c .before .before .before .before .before .before .before .args .m .now) (c .before .before .before .before .before .before .before .args .i) (c .before .before .before .before .before .before .before .args .first) (c .before .before .before .before .before .loop .left) (c .before .before .before .before .before .loop .at) (c .before .before .before .before .before .loop .inv) (c .before .before .before .before .item .result .state) (ap (λ x. meant x (c .before .before .before .before .item .result .state)) (sym (c .before .enum-told .given .1)) ∙ c .before .before .before .before .item .ensures .0) (c .if1 .left)
+loop-again c =
+    walk-on (c .before .before .before .before .before .before .before .args .m .now)
+    (c .before .before .before .before .before .before .before .args .i) (c .before .before .before .before .before .before .before .args .first)
+    (c .before .before .before .before .before .loop .left) (c .before .before .before .before .before .loop .at)
+    (c .before .before .before .before .before .loop .inv) (c .before .before .before .before .item .result .state)
+    (ap (λ x. meant x (c .before .before .before .before .item .result .state)) (sym (c .before .enum-told .given .1)) ∙ c .before .before .before .before .item .ensures .0)
+    (c .if1 .left)
 
 pub walk-spec : {M : Type 1} → statement M
 walk-spec =

@@ -1,3 +1,4 @@
+-- `notes::judge_value` meets its contract. Assumes nothing.
 use borrow.Author.Needs.{needs}
 use Rattle.notes.proofs.judge_value.Statement.{statement}
 use Rattle.notes.proofs.judge_value.Tie as tie

@@ -1,3 +1,4 @@
+-- `notes::note` meets its contract. Assumes nothing.
 use mathlib.Core.Path.{_∙_, ap, sym}
 use Rattle.notes.specs.Reading.{on, meant}
 use Rattle.notes.proofs.Notings.{noted-on, noted-stop}
@@ -26,12 +27,15 @@ refuse-requires c κs = search needs
 returns : tie.Need-returns
 returns c =
     let a = c .before .before .before .before .before .before .before .args in
-    c .read-on .ensures ∙ ap on (c .before .with-start .ensures) ∙ noted-on (a .k) (a .slot) (a .v .now) (a .st) (c .before .before .before .before .before .judge-value .result .state) (ap (λ x. meant x (c .before .before .before .before .before .judge-value .result .state)) (sym (c .before .before .enum-told .given .1)) ∙ c .before .before .before .before .before .judge-value .ensures)
+    c .read-on .ensures ∙ ap on (c .before .with-start .ensures) ∙ noted-on (a .k) (a .slot) (a .v .now) (a .st)
+    (c .before .before .before .before .before .judge-value .result .state)
+    (ap (λ x. meant x (c .before .before .before .before .before .judge-value .result .state)) (sym (c .before .before .enum-told .given .1)) ∙ c .before .before .before .before .before .judge-value .ensures)
 
 returns-2 : tie.Need-returns-2
 returns-2 c =
     let a = c .before .before .before .before .before .before .before .args in
-    c .refuse .ensures ∙ noted-stop (a .k) (a .slot) (a .v .now) (a .st) _ _ (ap (λ x. meant x (c .before .before .before .before .before .judge-value .result .state)) (sym (c .before .before .met .given .1)) ∙ c .before .before .before .before .before .judge-value .ensures)
+    c .refuse .ensures ∙ noted-stop (a .k) (a .slot) (a .v .now) (a .st) _ _
+    (ap (λ x. meant x (c .before .before .before .before .before .judge-value .result .state)) (sym (c .before .before .met .given .1)) ∙ c .before .before .before .before .before .judge-value .ensures)
 
 pub note-spec : {M : Type 1} → statement M
 note-spec =

@@ -1,3 +1,4 @@
+-- `notes::note_amount` meets its contract. Assumes nothing.
 use mathlib.Core.Path.{_∙_, ap}
 use Rattle.notes.specs.Reading.{on, stop}
 use Rattle.notes.specs.Noting.{judgedBy, summedUp}
@@ -25,13 +26,17 @@ returns : tie.Need-returns
 unfolding judgedBy
 returns c =
     let a = c .before .before .before .before .before .args in
-    c .refuse .ensures ∙ stops (c .before .before .before .amount .result) (amountGiven anItem (a .v .now)) (c .before .before .before .amount .ensures) (c .before .before .number .result) (c .before .before .number .ensures) (a .st .at) (λ n. summedUp n (a .st)) (c .before .if1 .taken)
+    c .refuse .ensures ∙ stops (c .before .before .before .amount .result) (amountGiven anItem (a .v .now))
+    (c .before .before .before .amount .ensures) (c .before .before .number .result) (c .before .before .number .ensures) (a .st .at)
+    (λ n. summedUp n (a .st)) (c .before .if1 .taken)
 
 value-requires : tie.Need-value-requires
 value-requires c κs = search needs
 
 sub-if2 : tie.Need-sub-if2
-sub-if2 c = omega (arith, amount-most anItem (c .before .before .before .before .before .args .v .now), c .value .ensures, ap valueOf (c .before .before .before .amount .ensures))
+sub-if2 c =
+    omega
+    (arith, amount-most anItem (c .before .before .before .before .before .args .v .now), c .value .ensures, ap valueOf (c .before .before .before .amount .ensures))
 
 refuse-requires-2 : tie.Need-refuse-requires-2
 refuse-requires-2 c κs = search needs
@@ -41,7 +46,11 @@ unfolding judgedBy
 returns-2 c =
     let a = c .before .before .before .before .before .before .before .before .args in
     let s : c .before .before .before .value .result ≤ 99999999999999999 = omega (arith, amount-most anItem (c .before .before .before .before .before .before .before .before .args .v .now), c .before .before .before .value .ensures, ap valueOf (c .before .before .before .before .before .before .amount .ensures)) in
-    c .refuse2 .ensures ∙ sum-over (c .before .before .before .value .result) (a .st) s (c .before .if2 .taken) ∙ goes (c .before .before .before .before .before .before .amount .result) (amountGiven anItem (a .v .now)) (c .before .before .before .before .before .before .amount .ensures) (c .before .before .before .before .before .number .result) (c .before .before .before .before .before .number .ensures) (a .st .at) (λ n. summedUp n (a .st)) (c .before .before .before .before .if1 .left) (c .before .before .before .value .result) (c .before .before .before .value .ensures)
+    c .refuse2 .ensures ∙ sum-over (c .before .before .before .value .result) (a .st) s (c .before .if2 .taken) ∙ goes
+    (c .before .before .before .before .before .before .amount .result) (amountGiven anItem (a .v .now))
+    (c .before .before .before .before .before .before .amount .ensures) (c .before .before .before .before .before .number .result)
+    (c .before .before .before .before .before .number .ensures) (a .st .at) (λ n. summedUp n (a .st)) (c .before .before .before .before .if1 .left)
+    (c .before .before .before .value .result) (c .before .before .before .value .ensures)
 
 with-cents-requires : tie.Need-with-cents-requires
 with-cents-requires c κs =
@@ -56,7 +65,12 @@ unfolding judgedBy
 returns-3 c =
     let a = c .before .before .before .before .before .before .before .before .before .args in
     let s : c .before .before .before .before .value .result ≤ 99999999999999999 = omega (arith, amount-most anItem (c .before .before .before .before .before .before .before .before .before .args .v .now), c .before .before .before .before .value .ensures, ap valueOf (c .before .before .before .before .before .before .before .amount .ensures)) in
-    c .read-on .ensures ∙ ap on (c .before .with-cents .ensures) ∙ sum-within (c .before .before .before .before .value .result) (a .st) s (c .before .before .if2 .left) ∙ goes (c .before .before .before .before .before .before .before .amount .result) (amountGiven anItem (a .v .now)) (c .before .before .before .before .before .before .before .amount .ensures) (c .before .before .before .before .before .before .number .result) (c .before .before .before .before .before .before .number .ensures) (a .st .at) (λ n. summedUp n (a .st)) (c .before .before .before .before .before .if1 .left) (c .before .before .before .before .value .result) (c .before .before .before .before .value .ensures)
+    c .read-on .ensures ∙ ap on (c .before .with-cents .ensures) ∙ sum-within (c .before .before .before .before .value .result) (a .st) s
+    (c .before .before .if2 .left) ∙ goes (c .before .before .before .before .before .before .before .amount .result) (amountGiven anItem (a .v .now))
+    (c .before .before .before .before .before .before .before .amount .ensures) (c .before .before .before .before .before .before .number .result)
+    (c .before .before .before .before .before .before .number .ensures) (a .st .at) (λ n. summedUp n (a .st))
+    (c .before .before .before .before .before .if1 .left) (c .before .before .before .before .value .result)
+    (c .before .before .before .before .value .ensures)
 
 pub note-amount-spec : {M : Type 1} → statement M
 note-amount-spec =

@@ -1,3 +1,4 @@
+-- `notes::note_count` meets its contract. Assumes nothing.
 use mathlib.Core.Path.{_∙_, ap}
 use Rattle.notes.specs.Reading.{on, stop}
 use Rattle.notes.specs.Noting.{judgedBy, withCount}
@@ -20,7 +21,8 @@ returns : tie.Need-returns
 unfolding judgedBy
 returns c =
     let a = c .before .before .before .before .before .args in
-    c .refuse .ensures ∙ stops (c .before .before .before .count .result) (countGiven (a .v .now)) (c .before .before .before .count .ensures) (c .before .before .number .result) (c .before .before .number .ensures) (a .st .at) (λ n. on (withCount n (a .st))) (c .before .if1 .taken)
+    c .refuse .ensures ∙ stops (c .before .before .before .count .result) (countGiven (a .v .now)) (c .before .before .before .count .ensures)
+    (c .before .before .number .result) (c .before .before .number .ensures) (a .st .at) (λ n. on (withCount n (a .st))) (c .before .if1 .taken)
 
 value-requires : tie.Need-value-requires
 value-requires c κs = search needs
@@ -35,7 +37,10 @@ returns-2 : tie.Need-returns-2
 unfolding judgedBy
 returns-2 c =
     let a = c .before .before .before .before .before .before .before .args in
-    c .read-on .ensures ∙ ap on (c .before .with-count .ensures) ∙ goes (c .before .before .before .before .before .count .result) (countGiven (a .v .now)) (c .before .before .before .before .before .count .ensures) (c .before .before .before .before .number .result) (c .before .before .before .before .number .ensures) (a .st .at) (λ n. on (withCount n (a .st))) (c .before .before .before .if1 .left) (c .before .before .value .result) (c .before .before .value .ensures)
+    c .read-on .ensures ∙ ap on (c .before .with-count .ensures) ∙ goes (c .before .before .before .before .before .count .result)
+    (countGiven (a .v .now)) (c .before .before .before .before .before .count .ensures) (c .before .before .before .before .number .result)
+    (c .before .before .before .before .number .ensures) (a .st .at) (λ n. on (withCount n (a .st))) (c .before .before .before .if1 .left)
+    (c .before .before .value .result) (c .before .before .value .ensures)
 
 pub note-count-spec : {M : Type 1} → statement M
 note-count-spec =

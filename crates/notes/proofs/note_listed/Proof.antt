@@ -1,3 +1,4 @@
+-- `notes::note_listed` meets its contract. Assumes nothing.
 use borrow.Author.Needs.{needs}
 use Rattle.notes.proofs.note_listed.Statement.{statement}
 use Rattle.notes.proofs.note_listed.Tie as tie

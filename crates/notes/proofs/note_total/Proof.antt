@@ -1,3 +1,4 @@
+-- `notes::note_total` meets its contract. Assumes nothing.
 use mathlib.Core.Path.{_∙_, ap}
 use Rattle.notes.specs.Reading.{on, stop}
 use Rattle.notes.specs.Noting.{judgedBy, withTotal}
@@ -21,7 +22,9 @@ returns : tie.Need-returns
 unfolding judgedBy
 returns c =
     let a = c .before .before .before .before .before .args in
-    c .refuse .ensures ∙ stops (c .before .before .before .amount .result) (amountGiven theTotal (a .v .now)) (c .before .before .before .amount .ensures) (c .before .before .number .result) (c .before .before .number .ensures) (a .st .at) (λ n. on (withTotal n (a .st))) (c .before .if1 .taken)
+    c .refuse .ensures ∙ stops (c .before .before .before .amount .result) (amountGiven theTotal (a .v .now))
+    (c .before .before .before .amount .ensures) (c .before .before .number .result) (c .before .before .number .ensures) (a .st .at)
+    (λ n. on (withTotal n (a .st))) (c .before .if1 .taken)
 
 value-requires : tie.Need-value-requires
 value-requires c κs = search needs
@@ -36,7 +39,10 @@ returns-2 : tie.Need-returns-2
 unfolding judgedBy
 returns-2 c =
     let a = c .before .before .before .before .before .before .before .args in
-    c .read-on .ensures ∙ ap on (c .before .with-total .ensures) ∙ goes (c .before .before .before .before .before .amount .result) (amountGiven theTotal (a .v .now)) (c .before .before .before .before .before .amount .ensures) (c .before .before .before .before .number .result) (c .before .before .before .before .number .ensures) (a .st .at) (λ n. on (withTotal n (a .st))) (c .before .before .before .if1 .left) (c .before .before .value .result) (c .before .before .value .ensures)
+    c .read-on .ensures ∙ ap on (c .before .with-total .ensures) ∙ goes (c .before .before .before .before .before .amount .result)
+    (amountGiven theTotal (a .v .now)) (c .before .before .before .before .before .amount .ensures)
+    (c .before .before .before .before .number .result) (c .before .before .before .before .number .ensures) (a .st .at)
+    (λ n. on (withTotal n (a .st))) (c .before .before .before .if1 .left) (c .before .before .value .result) (c .before .before .value .ensures)
 
 pub note-total-spec : {M : Type 1} → statement M
 note-total-spec =

@@ -1,3 +1,4 @@
+-- `notes::plain` meets its contract. Assumes nothing.
 use Rattle.notes.specs.Noting.{plainGiven}
 use borrow.Author.Needs.{needs}
 use Rattle.notes.proofs.plain.Statement.{statement}

@@ -1,3 +1,4 @@
+-- `profile::has_question` meets its contract. Assumes nothing.
 use Rattle.profile.proofs.Question.{too-short, no-bracket, bracket}
 use borrow.Author.Needs.{needs}
 use Rattle.profile.proofs.has_question.Statement.{statement}

@@ -83,37 +83,66 @@ group-calls t = (
 )
 
 element-row-at-requires : (t : ℕ) → element-lts.Need-row-at-requires (element-calls t) (element-at t) element.Post
-element-row-at-requires t c κs = search needs
+element-row-at-requires n c κs = search needs
 
 element-enter-requires : (t : ℕ) → element-lts.Need-enter-requires (element-calls t) (element-at t) element.Post
-element-enter-requires t c κs = (c .before .before .before .pre .1 .0, rw (c .row-at .ensures, c .before .before .before .pre .1 .5) (c .before .before .before .pre .1 .3), (row-tied (c .before .before .before .args .rows .now) (c .before .before .before .args .k) (c .row-at .result) (c .row-at .ensures) (c .before .before .before .pre .1 .5) (c .before .before .before .pre .1 .1)) .1 .some)
+element-enter-requires n c κs =
+    (c .before .before .before .pre .1 .0, rw (c .row-at .ensures, c .before .before .before .pre .1 .5) (c .before .before .before .pre .1 .3), (row-tied (c .before .before .before .args .rows .now) (c .before .before .before .args .k) (c .row-at .result) (c .row-at .ensures) (c .before .before .before .pre .1 .5) (c .before .before .before .pre .1 .1)) .1 .some)
 
 element-enum-known-met : (t : ℕ) → element-lts.Need-enum-known-met (element-calls t) (element-at t) element.Post
-element-enum-known-met t c = search needs
+element-enum-known-met n c = search needs
 
 element-refuse-requires : (t : ℕ) → element-lts.Need-refuse-requires (element-calls t) (element-at t) element.Post
-element-refuse-requires t c κs = search needs
+element-refuse-requires n c κs = search needs
 
 element-enum-told : (t : ℕ) → element-lts.Need-enum-told (element-calls t) (element-at t) element.Post
-element-enum-told t c = search needs
+element-enum-told n c = search needs
 
 element-add-group : (t : ℕ) → element-lts.Need-add-group (element-calls t) (element-at t) element.Post
-element-add-group t c = search needs
+element-add-group n c = search needs
 
 element-group-requires : (t : ℕ) → element-lts.Need-group-requires (element-calls t) (element-at t) element.Post
-element-group-requires t c κs = (omega (arith, c .before .before .before .before .before .before .before .before .before .pre .0, fine-on (c .before .before .before .before .before .before .before .before .before .args .m .now) (c .before .before .before .before .before .before .before .before .before .args .st .at + 1) (stepped (c .before .before .before .before .before .enter .result)) (c .before .before .before .before .before .enter .result .state) (ap (λ x. meant x (c .before .before .before .before .before .enter .result .state)) (sym (c .before .before .enum-told .given .1))) (c .before .before .before .before .before .enter .ensures .1)), (fine-on (c .before .before .before .before .before .before .before .before .before .args .m .now) (c .before .before .before .before .before .before .before .before .before .args .st .at + 1) (stepped (c .before .before .before .before .before .enter .result)) (c .before .before .before .before .before .enter .result .state) (ap (λ x. meant x (c .before .before .before .before .before .enter .result .state)) (sym (c .before .before .enum-told .given .1))) (c .before .before .before .before .before .enter .ensures .1) .0, group-below-row (c .before .before .before .before .before .before .before .before .before .args .k) (c .before .before .before .before .before .before .row-at .result) (due (c .before .before .before .before .before .before .before .before .before .args .k)) ((row-tied (c .before .before .before .before .before .before .before .before .before .args .rows .now) (c .before .before .before .before .before .before .before .before .before .args .k) (c .before .before .before .before .before .before .row-at .result) (c .before .before .before .before .before .before .row-at .ensures) (c .before .before .before .before .before .before .before .before .before .pre .1 .5) (c .before .before .before .before .before .before .before .before .before .pre .1 .1)) .0) (c .before .before .before .before .before .before .before .before .before .pre .1 .2) (c .if1 .taken), c .before .before .before .before .before .before .before .before .before .pre .1 .4, c .before .before .before .before .before .before .before .before .before .pre .1 .5))
+element-group-requires n c κs =
+    let a = c .before .before .before .before .before .before .before .before .before in
+    let r = c .before .before .before .before .before .before .row-at in
+    let t = row-tied (a .args .rows .now) (a .args .k) (r .result) (r .ensures) (a .pre .1 .5) (a .pre .1 .1) in
+    let e = c .before .before .before .before .before .enter in
+    (omega (arith, a .pre .0, fine-on (a .args .m .now) (a .args .st .at + 1) (stepped (e .result)) (e .result .state) (ap (λ x. meant x (e .result .state)) (sym (c .before .before .enum-told .given .1))) (e .ensures .1)), (fine-on (a .args .m .now) (a .args .st .at + 1) (stepped (e .result)) (e .result .state) (ap (λ x. meant x (e .result .state)) (sym (c .before .before .enum-told .given .1))) (e .ensures .1) .0, group-below-row (a .args .k) (r .result) (due (a .args .k)) (t .0) (a .pre .1 .2) (c .if1 .taken), a .pre .1 .4, a .pre .1 .5))
 
 element-returns : (t : ℕ) → element-lts.Need-returns (element-calls t) (element-at t) element.Post
-element-returns t c = (c .group .ensures .0 ∙ element-group (c .before .before .before .before .before .before .before .before .before .before .args .k) (c .before .before .before .before .before .before .before .row-at .result) (c .before .before .before .before .before .before .before .before .before .before .args .m .now) (c .before .before .before .before .before .before .before .before .before .before .args .st) (c .before .before .before .before .before .before .enter .result .state) ((ap (λ x. meant x (c .before .before .before .before .before .before .enter .result .state)) (sym (c .before .before .before .enum-told .given .1))) ∙ c .before .before .before .before .before .before .enter .ensures .0) (due (c .before .before .before .before .before .before .before .before .before .before .args .k)) ((row-tied (c .before .before .before .before .before .before .before .before .before .before .args .rows .now) (c .before .before .before .before .before .before .before .before .before .before .args .k) (c .before .before .before .before .before .before .before .row-at .result) (c .before .before .before .before .before .before .before .row-at .ensures) (c .before .before .before .before .before .before .before .before .before .before .pre .1 .5) (c .before .before .before .before .before .before .before .before .before .before .pre .1 .1)) .0) (c .before .before .before .before .before .before .before .before .before .before .pre .1 .2) (c .before .if1 .taken), later (c .before .before .before .before .before .before .before .before .before .before .args .m .now) (c .before .before .before .before .before .before .before .before .before .before .args .st .at + 1) (c .before .before .before .before .before .before .enter .result .state .at) (fine-on (c .before .before .before .before .before .before .before .before .before .before .args .m .now) (c .before .before .before .before .before .before .before .before .before .before .args .st .at + 1) (stepped (c .before .before .before .before .before .before .enter .result)) (c .before .before .before .before .before .before .enter .result .state) (ap (λ x. meant x (c .before .before .before .before .before .before .enter .result .state)) (sym (c .before .before .before .enum-told .given .1))) (c .before .before .before .before .before .before .enter .ensures .1) .1) (stepped (c .group .result)) (c .group .ensures .1))
+element-returns n c =
+    let a = c .before .before .before .before .before .before .before .before .before .before in
+    let r = c .before .before .before .before .before .before .before .row-at in
+    let t = row-tied (a .args .rows .now) (a .args .k) (r .result) (r .ensures) (a .pre .1 .5) (a .pre .1 .1) in
+    let e = c .before .before .before .before .before .before .enter in
+    (c .group .ensures .0 ∙ element-group (a .args .k) (r .result) (a .args .m .now) (a .args .st) (e .result .state) ((ap (λ x. meant x (e .result .state)) (sym (c .before .before .before .enum-told .given .1))) ∙ e .ensures .0) (due (a .args .k)) (t .0) (a .pre .1 .2) (c .before .if1 .taken), later (a .args .m .now) (a .args .st .at + 1) (e .result .state .at) (fine-on (a .args .m .now) (a .args .st .at + 1) (stepped (e .result)) (e .result .state) (ap (λ x. meant x (e .result .state)) (sym (c .before .before .before .enum-told .given .1))) (e .ensures .1) .1) (stepped (c .group .result)) (c .group .ensures .1))
 
 element-value-requires : (t : ℕ) → element-lts.Need-value-requires (element-calls t) (element-at t) element.Post
-element-value-requires t c κs = (fine-on (c .before .before .before .before .before .before .before .before .before .args .m .now) (c .before .before .before .before .before .before .before .before .before .args .st .at + 1) (stepped (c .before .before .before .before .before .enter .result)) (c .before .before .before .before .before .enter .result .state) (ap (λ x. meant x (c .before .before .before .before .before .enter .result .state)) (sym (c .before .before .enum-told .given .1))) (c .before .before .before .before .before .enter .ensures .1) .0, leaf-finish (c .before .before .before .before .before .before .before .before .before .args .k) (c .before .before .before .before .before .before .row-at .result) (c .before .before .before .before .before .before .before .before .before .args .names .now) (c .before .before .before .before .before .before .before .before .before .pre .1 .4) (due (c .before .before .before .before .before .before .before .before .before .args .k)) ((row-tied (c .before .before .before .before .before .before .before .before .before .args .rows .now) (c .before .before .before .before .before .before .before .before .before .args .k) (c .before .before .before .before .before .before .row-at .result) (c .before .before .before .before .before .before .row-at .ensures) (c .before .before .before .before .before .before .before .before .before .pre .1 .5) (c .before .before .before .before .before .before .before .before .before .pre .1 .1)) .0) (c .before .before .before .before .before .before .before .before .before .pre .1 .2) (c .if1 .left))
+element-value-requires n c κs =
+    let a = c .before .before .before .before .before .before .before .before .before in
+    let r = c .before .before .before .before .before .before .row-at in
+    let t = row-tied (a .args .rows .now) (a .args .k) (r .result) (r .ensures) (a .pre .1 .5) (a .pre .1 .1) in
+    let e = c .before .before .before .before .before .enter in
+    (fine-on (a .args .m .now) (a .args .st .at + 1) (stepped (e .result)) (e .result .state) (ap (λ x. meant x (e .result .state)) (sym (c .before .before .enum-told .given .1))) (e .ensures .1) .0, leaf-finish (a .args .k) (r .result) (a .args .names .now) (a .pre .1 .4) (due (a .args .k)) (t .0) (a .pre .1 .2) (c .if1 .left))
 
 element-returns-2 : (t : ℕ) → element-lts.Need-returns-2 (element-calls t) (element-at t) element.Post
-element-returns-2 t c = told (c .before .before .before .before .before .before .before .before .before .args .m .now) (c .before .before .before .before .before .before .before .before .before .args .st .at + 1) (stepped (c .refuse .result)) _ (elementOf (due (c .before .before .before .before .before .before .before .before .before .args .k)) (c .before .before .before .before .before .before .before .before .before .args .m .now) (c .before .before .before .before .before .before .before .before .before .args .st)) (c .refuse .ensures) (element-stops (c .before .before .before .before .before .before .before .before .before .args .k) (c .before .before .before .before .before .before .row-at .result) (c .before .before .before .before .before .before .before .before .before .args .m .now) (c .before .before .before .before .before .before .before .before .before .args .st) (due (c .before .before .before .before .before .before .before .before .before .args .k)) ((row-tied (c .before .before .before .before .before .before .before .before .before .args .rows .now) (c .before .before .before .before .before .before .before .before .before .args .k) (c .before .before .before .before .before .before .row-at .result) (c .before .before .before .before .before .before .row-at .ensures) (c .before .before .before .before .before .before .before .before .before .pre .1 .5) (c .before .before .before .before .before .before .before .before .before .pre .1 .1)) .0) (c .before .before .before .before .before .before .before .before .before .pre .1 .2) _ _ ((ap (λ x. meant x (c .before .before .before .before .before .enter .result .state)) (sym (c .before .before .met .given .1))) ∙ c .before .before .before .before .before .enter .ensures .0)) (fine-stop (c .before .before .before .before .before .before .before .before .before .args .m .now) (c .before .before .before .before .before .before .before .before .before .args .st .at + 1) (stepped (c .before .before .before .before .before .enter .result)) _ _ (ap (λ x. meant x (c .before .before .before .before .before .enter .result .state)) (sym (c .before .before .met .given .1))) (c .before .before .before .before .before .enter .ensures .1))
+element-returns-2 n c =
+    let a = c .before .before .before .before .before .before .before .before .before in
+    let r = c .before .before .before .before .before .before .row-at in
+    let t = row-tied (a .args .rows .now) (a .args .k) (r .result) (r .ensures) (a .pre .1 .5) (a .pre .1 .1) in
+    let e = c .before .before .before .before .before .enter in
+    told (a .args .m .now) (a .args .st .at + 1) (stepped (c .refuse .result)) _ (elementOf (due (a .args .k)) (a .args .m .now) (a .args .st))
+    (c .refuse .ensures)
+    (element-stops (a .args .k) (r .result) (a .args .m .now) (a .args .st) (due (a .args .k)) (t .0) (a .pre .1 .2) _ _ ((ap (λ x. meant x (e .result .state)) (sym (c .before .before .met .given .1))) ∙ e .ensures .0))
+    (fine-stop (a .args .m .now) (a .args .st .at + 1) (stepped (e .result)) _ _ (ap (λ x. meant x (e .result .state)) (sym (c .before .before .met .given .1))) (e .ensures .1))
 
 element-returns-3 : (t : ℕ) → element-lts.Need-returns-3 (element-calls t) (element-at t) element.Post
-element-returns-3 t c = (c .value .ensures .0 ∙ rw (c .before .before .before .before .before .before .before .before .before .before .pre .1 .4) (element-value (c .before .before .before .before .before .before .before .before .before .before .args .k) (c .before .before .before .before .before .before .before .row-at .result) (c .before .before .before .before .before .before .before .before .before .before .args .m .now) (c .before .before .before .before .before .before .before .before .before .before .args .st) (c .before .before .before .before .before .before .enter .result .state) ((ap (λ x. meant x (c .before .before .before .before .before .before .enter .result .state)) (sym (c .before .before .before .enum-told .given .1))) ∙ c .before .before .before .before .before .before .enter .ensures .0) (due (c .before .before .before .before .before .before .before .before .before .before .args .k)) ((row-tied (c .before .before .before .before .before .before .before .before .before .before .args .rows .now) (c .before .before .before .before .before .before .before .before .before .before .args .k) (c .before .before .before .before .before .before .before .row-at .result) (c .before .before .before .before .before .before .before .row-at .ensures) (c .before .before .before .before .before .before .before .before .before .before .pre .1 .5) (c .before .before .before .before .before .before .before .before .before .before .pre .1 .1)) .0) (c .before .before .before .before .before .before .before .before .before .before .pre .1 .2) (c .before .if1 .left)), later (c .before .before .before .before .before .before .before .before .before .before .args .m .now) (c .before .before .before .before .before .before .before .before .before .before .args .st .at + 1) (c .before .before .before .before .before .before .enter .result .state .at) (fine-on (c .before .before .before .before .before .before .before .before .before .before .args .m .now) (c .before .before .before .before .before .before .before .before .before .before .args .st .at + 1) (stepped (c .before .before .before .before .before .before .enter .result)) (c .before .before .before .before .before .before .enter .result .state) (ap (λ x. meant x (c .before .before .before .before .before .before .enter .result .state)) (sym (c .before .before .before .enum-told .given .1))) (c .before .before .before .before .before .before .enter .ensures .1) .1) (stepped (c .value .result)) (c .value .ensures .1))
+element-returns-3 n c =
+    let a = c .before .before .before .before .before .before .before .before .before .before in
+    let r = c .before .before .before .before .before .before .before .row-at in
+    let t = row-tied (a .args .rows .now) (a .args .k) (r .result) (r .ensures) (a .pre .1 .5) (a .pre .1 .1) in
+    let e = c .before .before .before .before .before .before .enter in
+    (c .value .ensures .0 ∙ rw (a .pre .1 .4) (element-value (a .args .k) (r .result) (a .args .m .now) (a .args .st) (e .result .state) ((ap (λ x. meant x (e .result .state)) (sym (c .before .before .before .enum-told .given .1))) ∙ e .ensures .0) (due (a .args .k)) (t .0) (a .pre .1 .2) (c .before .if1 .left)), later (a .args .m .now) (a .args .st .at + 1) (e .result .state .at) (fine-on (a .args .m .now) (a .args .st .at + 1) (stepped (e .result)) (e .result .state) (ap (λ x. meant x (e .result .state)) (sym (c .before .before .before .enum-told .given .1))) (e .ensures .1) .1) (stepped (c .value .result)) (c .value .ensures .1))
 
 abbrev group-Inv-loop : group-lts.InvT-loop
 group-Inv-loop m names rows first k₀ seen₀ st₀ k seen st = Loop m first st₀ k seen st
@@ -122,79 +151,189 @@ abbrev group-μ-loop : group-lts.MeasureT-loop
 group-μ-loop m names rows first k₀ seen₀ st₀ k seen st = 85 * (length m - st .at) + (84 - k)
 
 group-loop-holds : (t : ℕ) → group-lts.Need-loop-holds (group-calls t) (group-at t) group.Post group-Inv-loop group-μ-loop
-group-loop-holds t c = begin (c .before .before .args .m .now) (c .before .before .args .first) (c .before .before .args .start) (c .before .before .pre .1 .0) (c .before .before .pre .1 .1)
+group-loop-holds n c =
+    begin (c .before .before .args .m .now) (c .before .before .args .first) (c .before .before .args .start) (c .before .before .pre .1 .0)
+    (c .before .before .pre .1 .1)
 
 group-row-at-requires : (t : ℕ) → group-lts.Need-row-at-requires (group-calls t) (group-at t) group.Post group-Inv-loop group-μ-loop
-group-row-at-requires t c κs = search needs
+group-row-at-requires n c κs = search needs
 
 group-skip-requires : (t : ℕ) → group-lts.Need-skip-requires (group-calls t) (group-at t) group.Post group-Inv-loop group-μ-loop
-group-skip-requires t c κs = c .before .loop .inv .good
+group-skip-requires n c κs = c .before .loop .inv .good
 
 group-close-requires : (t : ℕ) → group-lts.Need-close-requires (group-calls t) (group-at t) group.Post group-Inv-loop group-μ-loop
-group-close-requires t c κs = (c .before .before .skip .ensures .1, end-finish (c .before .before .before .before .loop .k) (c .before .before .before .row-at .result) (c .before .before .before .before .before .before .before .args .names .now) (c .before .before .before .before .before .before .before .pre .1 .2) (due (c .before .before .before .before .loop .k)) ((row-tied (c .before .before .before .before .before .before .before .args .rows .now) (c .before .before .before .before .loop .k) (c .before .before .before .row-at .result) (c .before .before .before .row-at .ensures) (c .before .before .before .before .before .before .before .pre .1 .3) (c .before .before .before .before .loop .inv .row)) .0) (c .if1 .taken))
+group-close-requires n c κs =
+    let a = c .before .before .before .before .before .before .before in
+    let l = c .before .before .before .before .loop in
+    let r = c .before .before .before .row-at in
+    let s = c .before .before .skip in
+    let t = row-tied (a .args .rows .now) (l .k) (r .result) (r .ensures) (a .pre .1 .3) (l .inv .row) in
+    (s .ensures .1, end-finish (l .k) (r .result) (a .args .names .now) (a .pre .1 .2) (due (l .k)) (t .0) (c .if1 .taken))
 
 group-returns : (t : ℕ) → group-lts.Need-returns (group-calls t) (group-at t) group.Post group-Inv-loop group-μ-loop
-group-returns t c = loop-end (c .before .before .before .before .before .before .before .before .args .m .now) (c .before .before .before .before .before .before .before .before .args .names .now) (c .before .before .before .before .before .before .before .before .args .first) (c .before .before .before .before .before .before .before .before .args .start) (c .before .before .before .before .before .loop .k) (c .before .before .before .before .before .loop .seen) (c .before .before .before .before .before .loop .st) (c .before .before .before .before .before .loop .inv) (c .before .before .before .before .row-at .result) ((row-tied (c .before .before .before .before .before .before .before .before .args .rows .now) (c .before .before .before .before .before .loop .k) (c .before .before .before .before .row-at .result) (c .before .before .before .before .row-at .ensures) (c .before .before .before .before .before .before .before .before .pre .1 .3) (c .before .before .before .before .before .loop .inv .row)) .0) ((row-tied (c .before .before .before .before .before .before .before .before .args .rows .now) (c .before .before .before .before .before .loop .k) (c .before .before .before .before .row-at .result) (c .before .before .before .before .row-at .ensures) (c .before .before .before .before .before .before .before .before .pre .1 .3) (c .before .before .before .before .before .loop .inv .row)) .1) (c .before .before .before .before .before .before .before .before .pre .1 .2) (c .before .before .before .skip .result) (c .before .before .before .skip .ensures .0) (c .before .before .before .skip .ensures .1) (c .before .before .before .skip .ensures .2) (c .before .if1 .taken) (stepped (c .close .result)) (c .close .ensures .0) (c .close .ensures .1)
+group-returns n c =
+    let a = c .before .before .before .before .before .before .before .before in
+    let l = c .before .before .before .before .before .loop in
+    let r = c .before .before .before .before .row-at in
+    let s = c .before .before .before .skip in
+    let t = row-tied (a .args .rows .now) (l .k) (r .result) (r .ensures) (a .pre .1 .3) (l .inv .row) in
+    loop-end (a .args .m .now) (a .args .names .now) (a .args .first) (a .args .start) (l .k) (l .seen) (l .st) (l .inv) (r .result) (t .0) (t .1)
+    (a .pre .1 .2) (s .result) (s .ensures .0) (s .ensures .1) (s .ensures .2) (c .before .if1 .taken) (stepped (c .close .result))
+    (c .close .ensures .0) (c .close .ensures .1)
 
 group-due-now-requires : (t : ℕ) → group-lts.Need-due-now-requires (group-calls t) (group-at t) group.Post group-Inv-loop group-μ-loop
-group-due-now-requires t c κs = search needs
+group-due-now-requires n c κs = search needs
 
 group-choose-requires : (t : ℕ) → group-lts.Need-choose-requires (group-calls t) (group-at t) group.Post group-Inv-loop group-μ-loop
-group-choose-requires t c κs = c .before .before .before .skip .ensures .1 .within
+group-choose-requires n c κs = c .before .before .before .skip .ensures .1 .within
 
 group-enum-known-number : (t : ℕ) → group-lts.Need-enum-known-number (group-calls t) (group-at t) group.Post group-Inv-loop group-μ-loop
-group-enum-known-number t c = search needs
+group-enum-known-number n c = search needs
 
 group-refuse-requires : (t : ℕ) → group-lts.Need-refuse-requires (group-calls t) (group-at t) group.Post group-Inv-loop group-μ-loop
-group-refuse-requires t c κs = search needs
+group-refuse-requires n c κs = search needs
 
 group-returns-2 : (t : ℕ) → group-lts.Need-returns-2 (group-calls t) (group-at t) group.Post group-Inv-loop group-μ-loop
-group-returns-2 t c = loop-stop (c .before .before .before .before .before .before .before .before .before .before .before .before .before .args .m .now) (c .before .before .before .before .before .before .before .before .before .before .before .before .before .args .names .now) (c .before .before .before .before .before .before .before .before .before .before .before .before .before .args .first) (c .before .before .before .before .before .before .before .before .before .before .before .before .before .args .start) (c .before .before .before .before .before .before .before .before .before .before .loop .k) (c .before .before .before .before .before .before .before .before .before .before .loop .seen) (c .before .before .before .before .before .before .before .before .before .before .loop .st) (c .before .before .before .before .before .before .before .before .before .before .loop .inv) (c .before .before .before .before .before .before .before .before .before .row-at .result) ((row-tied (c .before .before .before .before .before .before .before .before .before .before .before .before .before .args .rows .now) (c .before .before .before .before .before .before .before .before .before .before .loop .k) (c .before .before .before .before .before .before .before .before .before .row-at .result) (c .before .before .before .before .before .before .before .before .before .row-at .ensures) (c .before .before .before .before .before .before .before .before .before .before .before .before .before .pre .1 .3) (c .before .before .before .before .before .before .before .before .before .before .loop .inv .row)) .0) ((row-tied (c .before .before .before .before .before .before .before .before .before .before .before .before .before .args .rows .now) (c .before .before .before .before .before .before .before .before .before .before .loop .k) (c .before .before .before .before .before .before .before .before .before .row-at .result) (c .before .before .before .before .before .before .before .before .before .row-at .ensures) (c .before .before .before .before .before .before .before .before .before .before .before .before .before .pre .1 .3) (c .before .before .before .before .before .before .before .before .before .before .loop .inv .row)) .1) (c .before .before .before .before .before .before .before .before .before .before .before .before .before .pre .1 .2) (c .before .before .before .before .before .before .before .before .skip .result) (c .before .before .before .before .before .before .before .before .skip .ensures .0) (c .before .before .before .before .before .before .before .before .skip .ensures .1) (c .before .before .before .before .before .before .before .before .skip .ensures .2) (c .before .before .before .before .before .before .if1 .left) (c .before .before .before .before .before .due-now .result) (c .before .before .before .before .before .due-now .ensures) (c .before .before .before .before .choose .result) (c .before .before .before .before .choose .ensures) _ _ (c .before .before .number .given .1) (stepped (c .refuse .result)) (c .refuse .ensures)
+group-returns-2 n c =
+    let a = c .before .before .before .before .before .before .before .before .before .before .before .before .before in
+    let l = c .before .before .before .before .before .before .before .before .before .before .loop in
+    let r = c .before .before .before .before .before .before .before .before .before .row-at in
+    let s = c .before .before .before .before .before .before .before .before .skip in
+    let t = row-tied (a .args .rows .now) (l .k) (r .result) (r .ensures) (a .pre .1 .3) (l .inv .row) in
+    loop-stop (a .args .m .now) (a .args .names .now) (a .args .first) (a .args .start) (l .k) (l .seen) (l .st) (l .inv) (r .result) (t .0) (t .1)
+    (a .pre .1 .2) (s .result) (s .ensures .0) (s .ensures .1) (s .ensures .2) (c .before .before .before .before .before .before .if1 .left)
+    (c .before .before .before .before .before .due-now .result) (c .before .before .before .before .before .due-now .ensures)
+    (c .before .before .before .before .choose .result) (c .before .before .before .before .choose .ensures) _ _ (c .before .before .number .given .1)
+    (stepped (c .refuse .result)) (c .refuse .ensures)
 
 group-enum-told : (t : ℕ) → group-lts.Need-enum-told (group-calls t) (group-at t) group.Post group-Inv-loop group-μ-loop
-group-enum-told t c = search needs
+group-enum-told n c = search needs
 
 group-cast-k : (t : ℕ) → group-lts.Need-cast-k (group-calls t) (group-at t) group.Post group-Inv-loop group-μ-loop
-group-cast-k t c = search needs
+group-cast-k n c = search needs
 
 group-loop-less : (t : ℕ) → group-lts.Need-loop-less (group-calls t) (group-at t) group.Post group-Inv-loop group-μ-loop
-group-loop-less t c = omega (arith, later-row (c .before .before .before .before .before .before .before .before .before .loop .k) (c .before .before .before .before .before .before .before .before .row-at .result) (due (c .before .before .before .before .before .before .before .before .before .loop .k)) ((row-tied (c .before .before .before .before .before .before .before .before .before .before .before .before .args .rows .now) (c .before .before .before .before .before .before .before .before .before .loop .k) (c .before .before .before .before .before .before .before .before .row-at .result) (c .before .before .before .before .before .before .before .before .row-at .ensures) (c .before .before .before .before .before .before .before .before .before .before .before .before .pre .1 .3) (c .before .before .before .before .before .before .before .before .before .loop .inv .row)) .0) (c .before .before .before .before .before .if1 .left), ((row-tied (c .before .before .before .before .before .before .before .before .before .before .before .before .args .rows .now) (c .before .before .before .before .before .before .before .before .before .loop .k) (c .before .before .before .before .before .before .before .before .row-at .result) (c .before .before .before .before .before .before .before .before .row-at .ensures) (c .before .before .before .before .before .before .before .before .before .before .before .before .pre .1 .3) (c .before .before .before .before .before .before .before .before .before .loop .inv .row)) .1), c .before .before .before .before .before .before .before .before .before .loop .inv .row, c .before .before .before .before .before .before .before .skip .ensures .1, c .before .before .before .before .before .before .before .skip .ensures .2)
+group-loop-less n c =
+    let a = c .before .before .before .before .before .before .before .before .before .before .before .before in
+    let l = c .before .before .before .before .before .before .before .before .before .loop in
+    let r = c .before .before .before .before .before .before .before .before .row-at in
+    let s = c .before .before .before .before .before .before .before .skip in
+    let t = row-tied (a .args .rows .now) (l .k) (r .result) (r .ensures) (a .pre .1 .3) (l .inv .row) in
+    omega
+    (arith, later-row (l .k) (r .result) (due (l .k)) (t .0) (c .before .before .before .before .before .if1 .left), (t .1), l .inv .row, s .ensures .1, s .ensures .2)
 
 group-loop-again : (t : ℕ) → group-lts.Need-loop-again (group-calls t) (group-at t) group.Post group-Inv-loop group-μ-loop
-group-loop-again t c = loop-pass (c .before .before .before .before .before .before .before .before .before .before .before .before .args .m .now) (c .before .before .before .before .before .before .before .before .before .before .before .before .args .names .now) (c .before .before .before .before .before .before .before .before .before .before .before .before .args .first) (c .before .before .before .before .before .before .before .before .before .before .before .before .args .start) (c .before .before .before .before .before .before .before .before .before .loop .k) (c .before .before .before .before .before .before .before .before .before .loop .seen) (c .before .before .before .before .before .before .before .before .before .loop .st) (c .before .before .before .before .before .before .before .before .before .loop .inv) (c .before .before .before .before .before .before .before .before .row-at .result) ((row-tied (c .before .before .before .before .before .before .before .before .before .before .before .before .args .rows .now) (c .before .before .before .before .before .before .before .before .before .loop .k) (c .before .before .before .before .before .before .before .before .row-at .result) (c .before .before .before .before .before .before .before .before .row-at .ensures) (c .before .before .before .before .before .before .before .before .before .before .before .before .pre .1 .3) (c .before .before .before .before .before .before .before .before .before .loop .inv .row)) .0) ((row-tied (c .before .before .before .before .before .before .before .before .before .before .before .before .args .rows .now) (c .before .before .before .before .before .before .before .before .before .loop .k) (c .before .before .before .before .before .before .before .before .row-at .result) (c .before .before .before .before .before .before .before .before .row-at .ensures) (c .before .before .before .before .before .before .before .before .before .before .before .before .pre .1 .3) (c .before .before .before .before .before .before .before .before .before .loop .inv .row)) .1) (c .before .before .before .before .before .before .before .before .before .before .before .before .pre .1 .2) (c .before .before .before .before .before .before .before .skip .result) (c .before .before .before .before .before .before .before .skip .ensures .0) (c .before .before .before .before .before .before .before .skip .ensures .1) (c .before .before .before .before .before .before .before .skip .ensures .2) (c .before .before .before .before .before .if1 .left) (c .before .before .before .before .due-now .result) (c .before .before .before .before .due-now .ensures) (c .before .before .before .choose .result) (c .before .before .before .choose .ensures) (c .before .enum-told .given .1)
+group-loop-again n c =
+    let a = c .before .before .before .before .before .before .before .before .before .before .before .before in
+    let l = c .before .before .before .before .before .before .before .before .before .loop in
+    let r = c .before .before .before .before .before .before .before .before .row-at in
+    let s = c .before .before .before .before .before .before .before .skip in
+    let t = row-tied (a .args .rows .now) (l .k) (r .result) (r .ensures) (a .pre .1 .3) (l .inv .row) in
+    loop-pass (a .args .m .now) (a .args .names .now) (a .args .first) (a .args .start) (l .k) (l .seen) (l .st) (l .inv) (r .result) (t .0) (t .1)
+    (a .pre .1 .2) (s .result) (s .ensures .0) (s .ensures .1) (s .ensures .2) (c .before .before .before .before .before .if1 .left)
+    (c .before .before .before .before .due-now .result) (c .before .before .before .before .due-now .ensures)
+    (c .before .before .before .choose .result) (c .before .before .before .choose .ensures) (c .before .enum-told .given .1)
 
 group-enum-told-2 : (t : ℕ) → group-lts.Need-enum-told-2 (group-calls t) (group-at t) group.Post group-Inv-loop group-μ-loop
-group-enum-told-2 t c = search needs
+group-enum-told-2 n c = search needs
 
 group-element-requires : (t : ℕ) → group-lts.Need-element-requires (group-calls t) (group-at t) group.Post group-Inv-loop group-μ-loop
-group-element-requires t c κs = (omega (arith, c .before .before .before .before .before .before .before .before .before .before .before .pre .0, c .before .before .before .before .before .before .before .before .loop .inv .on, c .before .before .before .before .before .before .skip .ensures .2), (c .before .before .before .before .before .before .skip .ensures .1, c .before .before .before .before .before .before .before .before .loop .inv .row, (element-row (c .before .before .before .before .before .before .before .before .loop .k) (c .before .before .before .before .before .before .before .row-at .result) (due (c .before .before .before .before .before .before .before .before .loop .k)) ((row-tied (c .before .before .before .before .before .before .before .before .before .before .before .args .rows .now) (c .before .before .before .before .before .before .before .before .loop .k) (c .before .before .before .before .before .before .before .row-at .result) (c .before .before .before .before .before .before .before .row-at .ensures) (c .before .before .before .before .before .before .before .before .before .before .before .pre .1 .3) (c .before .before .before .before .before .before .before .before .loop .inv .row)) .0) (c .before .before .before .before .if1 .left)), within (c .before .before .before .before .before .before .before .before .loop .k) (c .before .before .before .before .before .before .before .row-at .result) (c .before .before .before .before .before .before .before .before .before .before .before .args .names .now) (c .before .before .before .before .before .before .before .before .before .before .before .pre .1 .2) (c .before .before .before .before .before .before .before .before .before .before .before .args .m .now) (c .before .before .before .before .before .before .before .before .before .before .before .args .rows .now) (c .before .before .before .before .before .before .before .before .before .before .before .pre .1 .3) (c .before .before .before .before .before .before .before .row-at .ensures) (c .before .before .before .before .before .before .skip .result) (c .before .before .before .before .before .before .skip .ensures .1) (c .before .before .before .due-now .result) ((row-tied (c .before .before .before .before .before .before .before .before .before .before .before .args .rows .now) (c .before .before .before .before .before .before .before .before .loop .k) (c .before .before .before .before .before .before .before .row-at .result) (c .before .before .before .before .before .before .before .row-at .ensures) (c .before .before .before .before .before .before .before .before .before .before .before .pre .1 .3) (c .before .before .before .before .before .before .before .before .loop .inv .row)) .0) (element-row (c .before .before .before .before .before .before .before .before .loop .k) (c .before .before .before .before .before .before .before .row-at .result) (due (c .before .before .before .before .before .before .before .before .loop .k)) ((row-tied (c .before .before .before .before .before .before .before .before .before .before .before .args .rows .now) (c .before .before .before .before .before .before .before .before .loop .k) (c .before .before .before .before .before .before .before .row-at .result) (c .before .before .before .before .before .before .before .row-at .ensures) (c .before .before .before .before .before .before .before .before .before .before .before .pre .1 .3) (c .before .before .before .before .before .before .before .before .loop .inv .row)) .0) (c .before .before .before .before .if1 .left)) (sym (c .enum-told2 .given .1) ∙ c .before .before .choose .ensures), c .before .before .before .before .before .before .before .before .before .before .before .pre .1 .2, c .before .before .before .before .before .before .before .before .before .before .before .pre .1 .3))
+group-element-requires n c κs =
+    let a = c .before .before .before .before .before .before .before .before .before .before .before in
+    let l = c .before .before .before .before .before .before .before .before .loop in
+    let r = c .before .before .before .before .before .before .before .row-at in
+    let s = c .before .before .before .before .before .before .skip in
+    let t = row-tied (a .args .rows .now) (l .k) (r .result) (r .ensures) (a .pre .1 .3) (l .inv .row) in
+    (omega (arith, a .pre .0, l .inv .on, s .ensures .2), (s .ensures .1, l .inv .row, (element-row (l .k) (r .result) (due (l .k)) (t .0) (c .before .before .before .before .if1 .left)), within (l .k) (r .result) (a .args .names .now) (a .pre .1 .2) (a .args .m .now) (a .args .rows .now) (a .pre .1 .3) (r .ensures) (s .result) (s .ensures .1) (c .before .before .before .due-now .result) (t .0) (element-row (l .k) (r .result) (due (l .k)) (t .0) (c .before .before .before .before .if1 .left)) (sym (c .enum-told2 .given .1) ∙ c .before .before .choose .ensures), a .pre .1 .2, a .pre .1 .3))
 
 group-enum-known-met : (t : ℕ) → group-lts.Need-enum-known-met (group-calls t) (group-at t) group.Post group-Inv-loop group-μ-loop
-group-enum-known-met t c = search needs
+group-enum-known-met n c = search needs
 
 group-refuse-requires-2 : (t : ℕ) → group-lts.Need-refuse-requires-2 (group-calls t) (group-at t) group.Post group-Inv-loop group-μ-loop
-group-refuse-requires-2 t c κs = search needs
+group-refuse-requires-2 n c κs = search needs
 
 group-returns-3 : (t : ℕ) → group-lts.Need-returns-3 (group-calls t) (group-at t) group.Post group-Inv-loop group-μ-loop
-group-returns-3 t c = loop-fail (c .before .before .before .before .before .before .before .before .before .before .before .before .before .before .before .before .before .args .m .now) (c .before .before .before .before .before .before .before .before .before .before .before .before .before .before .before .before .before .args .names .now) (c .before .before .before .before .before .before .before .before .before .before .before .before .before .before .before .before .before .args .first) (c .before .before .before .before .before .before .before .before .before .before .before .before .before .before .before .before .before .args .start) (c .before .before .before .before .before .before .before .before .before .before .before .before .before .before .loop .k) (c .before .before .before .before .before .before .before .before .before .before .before .before .before .before .loop .seen) (c .before .before .before .before .before .before .before .before .before .before .before .before .before .before .loop .st) (c .before .before .before .before .before .before .before .before .before .before .before .before .before .before .loop .inv) (c .before .before .before .before .before .before .before .before .before .before .before .before .before .row-at .result) ((row-tied (c .before .before .before .before .before .before .before .before .before .before .before .before .before .before .before .before .before .args .rows .now) (c .before .before .before .before .before .before .before .before .before .before .before .before .before .before .loop .k) (c .before .before .before .before .before .before .before .before .before .before .before .before .before .row-at .result) (c .before .before .before .before .before .before .before .before .before .before .before .before .before .row-at .ensures) (c .before .before .before .before .before .before .before .before .before .before .before .before .before .before .before .before .before .pre .1 .3) (c .before .before .before .before .before .before .before .before .before .before .before .before .before .before .loop .inv .row)) .0) ((row-tied (c .before .before .before .before .before .before .before .before .before .before .before .before .before .before .before .before .before .args .rows .now) (c .before .before .before .before .before .before .before .before .before .before .before .before .before .before .loop .k) (c .before .before .before .before .before .before .before .before .before .before .before .before .before .row-at .result) (c .before .before .before .before .before .before .before .before .before .before .before .before .before .row-at .ensures) (c .before .before .before .before .before .before .before .before .before .before .before .before .before .before .before .before .before .pre .1 .3) (c .before .before .before .before .before .before .before .before .before .before .before .before .before .before .loop .inv .row)) .1) (c .before .before .before .before .before .before .before .before .before .before .before .before .before .before .before .before .before .pre .1 .2) (c .before .before .before .before .before .before .before .before .before .before .before .before .skip .result) (c .before .before .before .before .before .before .before .before .before .before .before .before .skip .ensures .0) (c .before .before .before .before .before .before .before .before .before .before .before .before .skip .ensures .1) (c .before .before .before .before .before .before .before .before .before .before .before .before .skip .ensures .2) (c .before .before .before .before .before .before .before .before .before .before .if1 .left) (c .before .before .before .before .before .before .before .before .before .due-now .result) (c .before .before .before .before .before .before .before .before .before .due-now .ensures) (c .before .before .before .before .before .before .before .before .choose .result) (c .before .before .before .before .before .before .before .before .choose .ensures) (c .before .before .before .before .before .before .enum-told2 .given .1) (stepped (c .before .before .before .before .before .element .result)) (c .before .before .before .before .before .element .ensures .0) (c .before .before .before .before .before .element .ensures .1) _ _ (ap (λ x. meant x (c .before .before .before .before .before .element .result .state)) (sym (c .before .before .met .given .1))) (stepped (c .refuse2 .result)) (c .refuse2 .ensures)
+group-returns-3 n c =
+    let a = c .before .before .before .before .before .before .before .before .before .before .before .before .before .before .before .before .before in
+    let l = c .before .before .before .before .before .before .before .before .before .before .before .before .before .before .loop in
+    let r = c .before .before .before .before .before .before .before .before .before .before .before .before .before .row-at in
+    let s = c .before .before .before .before .before .before .before .before .before .before .before .before .skip in
+    let t = row-tied (a .args .rows .now) (l .k) (r .result) (r .ensures) (a .pre .1 .3) (l .inv .row) in
+    loop-fail (a .args .m .now) (a .args .names .now) (a .args .first) (a .args .start) (l .k) (l .seen) (l .st) (l .inv) (r .result) (t .0) (t .1)
+    (a .pre .1 .2) (s .result) (s .ensures .0) (s .ensures .1) (s .ensures .2)
+    (c .before .before .before .before .before .before .before .before .before .before .if1 .left)
+    (c .before .before .before .before .before .before .before .before .before .due-now .result)
+    (c .before .before .before .before .before .before .before .before .before .due-now .ensures)
+    (c .before .before .before .before .before .before .before .before .choose .result)
+    (c .before .before .before .before .before .before .before .before .choose .ensures)
+    (c .before .before .before .before .before .before .enum-told2 .given .1) (stepped (c .before .before .before .before .before .element .result))
+    (c .before .before .before .before .before .element .ensures .0) (c .before .before .before .before .before .element .ensures .1) _ _
+    (ap (λ x. meant x (c .before .before .before .before .before .element .result .state)) (sym (c .before .before .met .given .1)))
+    (stepped (c .refuse2 .result)) (c .refuse2 .ensures)
 
 group-enum-told-3 : (t : ℕ) → group-lts.Need-enum-told-3 (group-calls t) (group-at t) group.Post group-Inv-loop group-μ-loop
-group-enum-told-3 t c = search needs
+group-enum-told-3 n c = search needs
 
 group-cast-k-2 : (t : ℕ) → group-lts.Need-cast-k-2 (group-calls t) (group-at t) group.Post group-Inv-loop group-μ-loop
-group-cast-k-2 t c = search needs
+group-cast-k-2 n c = search needs
 
 group-loop-less-2 : (t : ℕ) → group-lts.Need-loop-less-2 (group-calls t) (group-at t) group.Post group-Inv-loop group-μ-loop
-group-loop-less-2 t c = omega (arith, fine-on (c .before .before .before .before .before .before .before .before .before .before .before .before .before .before .before .before .before .args .m .now) ((c .before .before .before .before .before .before .before .before .before .before .before .before .skip .result) .at + 1) (stepped (c .before .before .before .before .before .element .result)) (c .before .before .before .before .before .element .result .state) (ap (λ x. meant x (c .before .before .before .before .before .element .result .state)) (sym (c .before .before .enum-told3 .given .1))) (c .before .before .before .before .before .element .ensures .1), c .before .before .before .before .before .before .before .before .before .before .before .before .skip .ensures .2, c .before .before .before .before .before .before .before .before .before .before .before .before .before .before .loop .inv .row, ((row-tied (c .before .before .before .before .before .before .before .before .before .before .before .before .before .before .before .before .before .args .rows .now) (c .before .before .before .before .before .before .before .before .before .before .before .before .before .before .loop .k) (c .before .before .before .before .before .before .before .before .before .before .before .before .before .row-at .result) (c .before .before .before .before .before .before .before .before .before .before .before .before .before .row-at .ensures) (c .before .before .before .before .before .before .before .before .before .before .before .before .before .before .before .before .before .pre .1 .3) (c .before .before .before .before .before .before .before .before .before .before .before .before .before .before .loop .inv .row)) .1))
+group-loop-less-2 n c =
+    let a = c .before .before .before .before .before .before .before .before .before .before .before .before .before .before .before .before .before in
+    let l = c .before .before .before .before .before .before .before .before .before .before .before .before .before .before .loop in
+    let r = c .before .before .before .before .before .before .before .before .before .before .before .before .before .row-at in
+    let s = c .before .before .before .before .before .before .before .before .before .before .before .before .skip in
+    let t = row-tied (a .args .rows .now) (l .k) (r .result) (r .ensures) (a .pre .1 .3) (l .inv .row) in
+    omega
+    (arith, fine-on (a .args .m .now) ((s .result) .at + 1) (stepped (c .before .before .before .before .before .element .result)) (c .before .before .before .before .before .element .result .state) (ap (λ x. meant x (c .before .before .before .before .before .element .result .state)) (sym (c .before .before .enum-told3 .given .1))) (c .before .before .before .before .before .element .ensures .1), s .ensures .2, l .inv .row, (t .1))
 
 group-loop-again-2 : (t : ℕ) → group-lts.Need-loop-again-2 (group-calls t) (group-at t) group.Post group-Inv-loop group-μ-loop
-group-loop-again-2 t c = loop-next (c .before .before .before .before .before .before .before .before .before .before .before .before .before .before .before .before .before .args .m .now) (c .before .before .before .before .before .before .before .before .before .before .before .before .before .before .before .before .before .args .names .now) (c .before .before .before .before .before .before .before .before .before .before .before .before .before .before .before .before .before .args .first) (c .before .before .before .before .before .before .before .before .before .before .before .before .before .before .before .before .before .args .start) (c .before .before .before .before .before .before .before .before .before .before .before .before .before .before .loop .k) (c .before .before .before .before .before .before .before .before .before .before .before .before .before .before .loop .seen) (c .before .before .before .before .before .before .before .before .before .before .before .before .before .before .loop .st) (c .before .before .before .before .before .before .before .before .before .before .before .before .before .before .loop .inv) (c .before .before .before .before .before .before .before .before .before .before .before .before .before .row-at .result) ((row-tied (c .before .before .before .before .before .before .before .before .before .before .before .before .before .before .before .before .before .args .rows .now) (c .before .before .before .before .before .before .before .before .before .before .before .before .before .before .loop .k) (c .before .before .before .before .before .before .before .before .before .before .before .before .before .row-at .result) (c .before .before .before .before .before .before .before .before .before .before .before .before .before .row-at .ensures) (c .before .before .before .before .before .before .before .before .before .before .before .before .before .before .before .before .before .pre .1 .3) (c .before .before .before .before .before .before .before .before .before .before .before .before .before .before .loop .inv .row)) .0) ((row-tied (c .before .before .before .before .before .before .before .before .before .before .before .before .before .before .before .before .before .args .rows .now) (c .before .before .before .before .before .before .before .before .before .before .before .before .before .before .loop .k) (c .before .before .before .before .before .before .before .before .before .before .before .before .before .row-at .result) (c .before .before .before .before .before .before .before .before .before .before .before .before .before .row-at .ensures) (c .before .before .before .before .before .before .before .before .before .before .before .before .before .before .before .before .before .pre .1 .3) (c .before .before .before .before .before .before .before .before .before .before .before .before .before .before .loop .inv .row)) .1) (c .before .before .before .before .before .before .before .before .before .before .before .before .before .before .before .before .before .pre .1 .2) (c .before .before .before .before .before .before .before .before .before .before .before .before .skip .result) (c .before .before .before .before .before .before .before .before .before .before .before .before .skip .ensures .0) (c .before .before .before .before .before .before .before .before .before .before .before .before .skip .ensures .1) (c .before .before .before .before .before .before .before .before .before .before .before .before .skip .ensures .2) (c .before .before .before .before .before .before .before .before .before .before .if1 .left) (c .before .before .before .before .before .before .before .before .before .due-now .result) (c .before .before .before .before .before .before .before .before .before .due-now .ensures) (c .before .before .before .before .before .before .before .before .choose .result) (c .before .before .before .before .before .before .before .before .choose .ensures) (c .before .before .before .before .before .before .enum-told2 .given .1) (stepped (c .before .before .before .before .before .element .result)) (c .before .before .before .before .before .element .ensures .0) (c .before .before .before .before .before .element .ensures .1) (c .before .before .before .before .before .element .result .state) (ap (λ x. meant x (c .before .before .before .before .before .element .result .state)) (sym (c .before .before .enum-told3 .given .1))) (c .before .if2 .taken)
+group-loop-again-2 n c =
+    let a = c .before .before .before .before .before .before .before .before .before .before .before .before .before .before .before .before .before in
+    let l = c .before .before .before .before .before .before .before .before .before .before .before .before .before .before .loop in
+    let r = c .before .before .before .before .before .before .before .before .before .before .before .before .before .row-at in
+    let s = c .before .before .before .before .before .before .before .before .before .before .before .before .skip in
+    let t = row-tied (a .args .rows .now) (l .k) (r .result) (r .ensures) (a .pre .1 .3) (l .inv .row) in
+    loop-next (a .args .m .now) (a .args .names .now) (a .args .first) (a .args .start) (l .k) (l .seen) (l .st) (l .inv) (r .result) (t .0) (t .1)
+    (a .pre .1 .2) (s .result) (s .ensures .0) (s .ensures .1) (s .ensures .2)
+    (c .before .before .before .before .before .before .before .before .before .before .if1 .left)
+    (c .before .before .before .before .before .before .before .before .before .due-now .result)
+    (c .before .before .before .before .before .before .before .before .before .due-now .ensures)
+    (c .before .before .before .before .before .before .before .before .choose .result)
+    (c .before .before .before .before .before .before .before .before .choose .ensures)
+    (c .before .before .before .before .before .before .enum-told2 .given .1) (stepped (c .before .before .before .before .before .element .result))
+    (c .before .before .before .before .before .element .ensures .0) (c .before .before .before .before .before .element .ensures .1)
+    (c .before .before .before .before .before .element .result .state)
+    (ap (λ x. meant x (c .before .before .before .before .before .element .result .state)) (sym (c .before .before .enum-told3 .given .1)))
+    (c .before .if2 .taken)
 
 group-loop-less-3 : (t : ℕ) → group-lts.Need-loop-less-3 (group-calls t) (group-at t) group.Post group-Inv-loop group-μ-loop
-group-loop-less-3 t c = omega (arith, fine-on (c .before .before .before .before .before .before .before .before .before .before .before .before .before .before .before .before .args .m .now) ((c .before .before .before .before .before .before .before .before .before .before .before .skip .result) .at + 1) (stepped (c .before .before .before .before .element .result)) (c .before .before .before .before .element .result .state) (ap (λ x. meant x (c .before .before .before .before .element .result .state)) (sym (c .before .enum-told3 .given .1))) (c .before .before .before .before .element .ensures .1), c .before .before .before .before .before .before .before .before .before .before .before .skip .ensures .2)
+group-loop-less-3 n c =
+    let a = c .before .before .before .before .before .before .before .before .before .before .before .before .before .before .before .before in
+    let l = c .before .before .before .before .before .before .before .before .before .before .before .before .before .loop in
+    let r = c .before .before .before .before .before .before .before .before .before .before .before .before .row-at in
+    let s = c .before .before .before .before .before .before .before .before .before .before .before .skip in
+    let t = row-tied (a .args .rows .now) (l .k) (r .result) (r .ensures) (a .pre .1 .3) (l .inv .row) in
+    omega
+    (arith, fine-on (a .args .m .now) ((s .result) .at + 1) (stepped (c .before .before .before .before .element .result)) (c .before .before .before .before .element .result .state) (ap (λ x. meant x (c .before .before .before .before .element .result .state)) (sym (c .before .enum-told3 .given .1))) (c .before .before .before .before .element .ensures .1), s .ensures .2)
 
 group-loop-again-3 : (t : ℕ) → group-lts.Need-loop-again-3 (group-calls t) (group-at t) group.Post group-Inv-loop group-μ-loop
-group-loop-again-3 t c = loop-more (c .before .before .before .before .before .before .before .before .before .before .before .before .before .before .before .before .args .m .now) (c .before .before .before .before .before .before .before .before .before .before .before .before .before .before .before .before .args .names .now) (c .before .before .before .before .before .before .before .before .before .before .before .before .before .before .before .before .args .first) (c .before .before .before .before .before .before .before .before .before .before .before .before .before .before .before .before .args .start) (c .before .before .before .before .before .before .before .before .before .before .before .before .before .loop .k) (c .before .before .before .before .before .before .before .before .before .before .before .before .before .loop .seen) (c .before .before .before .before .before .before .before .before .before .before .before .before .before .loop .st) (c .before .before .before .before .before .before .before .before .before .before .before .before .before .loop .inv) (c .before .before .before .before .before .before .before .before .before .before .before .before .row-at .result) ((row-tied (c .before .before .before .before .before .before .before .before .before .before .before .before .before .before .before .before .args .rows .now) (c .before .before .before .before .before .before .before .before .before .before .before .before .before .loop .k) (c .before .before .before .before .before .before .before .before .before .before .before .before .row-at .result) (c .before .before .before .before .before .before .before .before .before .before .before .before .row-at .ensures) (c .before .before .before .before .before .before .before .before .before .before .before .before .before .before .before .before .pre .1 .3) (c .before .before .before .before .before .before .before .before .before .before .before .before .before .loop .inv .row)) .0) ((row-tied (c .before .before .before .before .before .before .before .before .before .before .before .before .before .before .before .before .args .rows .now) (c .before .before .before .before .before .before .before .before .before .before .before .before .before .loop .k) (c .before .before .before .before .before .before .before .before .before .before .before .before .row-at .result) (c .before .before .before .before .before .before .before .before .before .before .before .before .row-at .ensures) (c .before .before .before .before .before .before .before .before .before .before .before .before .before .before .before .before .pre .1 .3) (c .before .before .before .before .before .before .before .before .before .before .before .before .before .loop .inv .row)) .1) (c .before .before .before .before .before .before .before .before .before .before .before .before .before .before .before .before .pre .1 .2) (c .before .before .before .before .before .before .before .before .before .before .before .skip .result) (c .before .before .before .before .before .before .before .before .before .before .before .skip .ensures .0) (c .before .before .before .before .before .before .before .before .before .before .before .skip .ensures .1) (c .before .before .before .before .before .before .before .before .before .before .before .skip .ensures .2) (c .before .before .before .before .before .before .before .before .before .if1 .left) (c .before .before .before .before .before .before .before .before .due-now .result) (c .before .before .before .before .before .before .before .before .due-now .ensures) (c .before .before .before .before .before .before .before .choose .result) (c .before .before .before .before .before .before .before .choose .ensures) (c .before .before .before .before .before .enum-told2 .given .1) (stepped (c .before .before .before .before .element .result)) (c .before .before .before .before .element .ensures .0) (c .before .before .before .before .element .ensures .1) (c .before .before .before .before .element .result .state) (ap (λ x. meant x (c .before .before .before .before .element .result .state)) (sym (c .before .enum-told3 .given .1))) (c .if2 .left)
+group-loop-again-3 n c =
+    let a = c .before .before .before .before .before .before .before .before .before .before .before .before .before .before .before .before in
+    let l = c .before .before .before .before .before .before .before .before .before .before .before .before .before .loop in
+    let r = c .before .before .before .before .before .before .before .before .before .before .before .before .row-at in
+    let s = c .before .before .before .before .before .before .before .before .before .before .before .skip in
+    let t = row-tied (a .args .rows .now) (l .k) (r .result) (r .ensures) (a .pre .1 .3) (l .inv .row) in
+    loop-more (a .args .m .now) (a .args .names .now) (a .args .first) (a .args .start) (l .k) (l .seen) (l .st) (l .inv) (r .result) (t .0) (t .1)
+    (a .pre .1 .2) (s .result) (s .ensures .0) (s .ensures .1) (s .ensures .2)
+    (c .before .before .before .before .before .before .before .before .before .if1 .left)
+    (c .before .before .before .before .before .before .before .before .due-now .result)
+    (c .before .before .before .before .before .before .before .before .due-now .ensures)
+    (c .before .before .before .before .before .before .before .choose .result)
+    (c .before .before .before .before .before .before .before .choose .ensures) (c .before .before .before .before .before .enum-told2 .given .1)
+    (stepped (c .before .before .before .before .element .result)) (c .before .before .before .before .element .ensures .0)
+    (c .before .before .before .before .element .ensures .1) (c .before .before .before .before .element .result .state)
+    (ap (λ x. meant x (c .before .before .before .before .element .result .state)) (sym (c .before .enum-told3 .given .1))) (c .if2 .left)
 
 pub +element+group-spec : {M : Type 1} → statement M
 +element+group-spec = close μ-element μ-group (λ t. element-lts.spec (element-calls t)

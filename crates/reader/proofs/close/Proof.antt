@@ -1,3 +1,4 @@
+-- `reader::close` meets its contract. Assumes nothing.
 use native.Mathlib.Omega.{arith}
 use mathlib.Core.Path.{_∙_, ap}
 use Rattle.profile.specs.Table.{closesBy}
@@ -26,7 +27,9 @@ cast-at-place : tie.Need-cast-at-place
 cast-at-place c = search needs
 
 add-at-place : tie.Need-add-at-place
-add-at-place c = omega (arith, close-fits (c .before .before .before .before .before .before .before .args .m .now) (c .before .before .before .before .before .before .before .args .st) (closesBy (c .before .before .before .before .before .before .before .args .names .now) (c .before .before .before .before .before .before .before .args .r)) (c .before .before .before .before .before .before .before .pre .0) (c .before .before .before .closing .result) (c .before .before .before .closing .ensures) (c .before .enum-told .given .1) (c .before .before .before .before .before .before .before .args .r .finish) (c .before .before .before .before .before .before .before .pre .1), c .before .before .before .before .before .before .before .pre .0)
+add-at-place c =
+    omega
+    (arith, close-fits (c .before .before .before .before .before .before .before .args .m .now) (c .before .before .before .before .before .before .before .args .st) (closesBy (c .before .before .before .before .before .before .before .args .names .now) (c .before .before .before .before .before .before .before .args .r)) (c .before .before .before .before .before .before .before .pre .0) (c .before .before .before .closing .result) (c .before .before .before .closing .ensures) (c .before .enum-told .given .1) (c .before .before .before .before .before .before .before .args .r .finish) (c .before .before .before .before .before .before .before .pre .1), c .before .before .before .before .before .before .before .pre .0)
 
 at-place-requires : tie.Need-at-place-requires
 at-place-requires c κs = search needs
@@ -47,13 +50,31 @@ refuse-requires-2 : tie.Need-refuse-requires-2
 refuse-requires-2 c κs = search needs
 
 returns : tie.Need-returns
-returns c = closed-whole (c .before .before .before .before .before .before .before .before .before .args .m .now) (c .before .before .before .before .before .before .before .before .before .args .st) (closesBy (c .before .before .before .before .before .before .before .before .before .args .names .now) (c .before .before .before .before .before .before .before .before .before .args .r)) (c .before .before .before .before .before .before .before .before .before .pre .0) (c .before .before .before .before .before .closing .result) (c .before .before .before .before .before .closing .ensures) (c .before .before .before .enum-told .given .1) (c .before .before .before .before .before .before .before .before .before .args .r .finish) (c .before .before .before .before .before .before .before .before .before .pre .1) (stepped (c .read-on .result)) (c .read-on .ensures ∙ ap on (c .before .at-place .ensures))
+returns c =
+    closed-whole (c .before .before .before .before .before .before .before .before .before .args .m .now)
+    (c .before .before .before .before .before .before .before .before .before .args .st)
+    (closesBy (c .before .before .before .before .before .before .before .before .before .args .names .now) (c .before .before .before .before .before .before .before .before .before .args .r))
+    (c .before .before .before .before .before .before .before .before .before .pre .0) (c .before .before .before .before .before .closing .result)
+    (c .before .before .before .before .before .closing .ensures) (c .before .before .before .enum-told .given .1)
+    (c .before .before .before .before .before .before .before .before .before .args .r .finish)
+    (c .before .before .before .before .before .before .before .before .before .pre .1) (stepped (c .read-on .result))
+    (c .read-on .ensures ∙ ap on (c .before .at-place .ensures))
 
 returns-2 : tie.Need-returns-2
-returns-2 c = closed-cut (c .before .before .before .before .before .before .before .args .m .now) (c .before .before .before .before .before .before .before .args .st) (closesBy (c .before .before .before .before .before .before .before .args .names .now) (c .before .before .before .before .before .before .before .args .r)) (c .before .before .before .before .before .before .before .pre .0) (c .before .before .before .closing .result) (c .before .before .before .closing .ensures) (c .before .enum-told2 .given .1) (stepped (c .refuse .result)) (c .refuse .ensures)
+returns-2 c =
+    closed-cut (c .before .before .before .before .before .before .before .args .m .now)
+    (c .before .before .before .before .before .before .before .args .st)
+    (closesBy (c .before .before .before .before .before .before .before .args .names .now) (c .before .before .before .before .before .before .before .args .r))
+    (c .before .before .before .before .before .before .before .pre .0) (c .before .before .before .closing .result)
+    (c .before .before .before .closing .ensures) (c .before .enum-told2 .given .1) (stepped (c .refuse .result)) (c .refuse .ensures)
 
 returns-3 : tie.Need-returns-3
-returns-3 c = closed-other (c .before .before .before .before .before .before .before .args .m .now) (c .before .before .before .before .before .before .before .args .st) (closesBy (c .before .before .before .before .before .before .before .args .names .now) (c .before .before .before .before .before .before .before .args .r)) (c .before .before .before .before .before .before .before .pre .0) (c .before .before .before .closing .result) (c .before .before .before .closing .ensures) (c .before .enum-told3 .given .1) (stepped (c .refuse2 .result)) (c .refuse2 .ensures)
+returns-3 c =
+    closed-other (c .before .before .before .before .before .before .before .args .m .now)
+    (c .before .before .before .before .before .before .before .args .st)
+    (closesBy (c .before .before .before .before .before .before .before .args .names .now) (c .before .before .before .before .before .before .before .args .r))
+    (c .before .before .before .before .before .before .before .pre .0) (c .before .before .before .closing .result)
+    (c .before .before .before .closing .ensures) (c .before .enum-told3 .given .1) (stepped (c .refuse2 .result)) (c .refuse2 .ensures)
 
 pub close-spec : {M : Type 1} → statement M
 close-spec =

@@ -1,3 +1,4 @@
+-- `reader::count` meets its contract. Assumes nothing.
 use mathlib.Core.Path.{_∙_}
 use Rattle.reader.proofs.Steps.{counted-plain, counted-item}
 use borrow.Author.Needs.{needs}

@@ -1,3 +1,4 @@
+-- `reader::item` meets its contract. Assumes nothing.
 use native.Mathlib.Omega.{arith}
 use mathlib.Core.Path.{_∙_, ap, sym}
 use Rattle.profile.specs.Tree.{once}
@@ -15,13 +16,17 @@ refuse-requires : tie.Need-refuse-requires
 refuse-requires c κs = search needs
 
 returns : tie.Need-returns
-returns c = item-long (c .before .before .before .before .args .m .now) (c .before .before .before .before .args .at) (c .before .if1 .taken) (stepped (c .refuse .result)) (c .refuse .ensures)
+returns c =
+    item-long (c .before .before .before .before .args .m .now) (c .before .before .before .before .args .at) (c .before .if1 .taken)
+    (stepped (c .refuse .result)) (c .refuse .ensures)
 
 refuse-requires-2 : tie.Need-refuse-requires-2
 refuse-requires-2 c κs = search needs
 
 returns-2 : tie.Need-returns-2
-returns-2 c = item-far (c .before .before .before .before .before .args .m .now) (c .before .before .before .before .before .args .at) (c .before .before .if1 .left) (c .before .if2 .taken) (stepped (c .refuse2 .result)) (c .refuse2 .ensures)
+returns-2 c =
+    item-far (c .before .before .before .before .before .args .m .now) (c .before .before .before .before .before .args .at)
+    (c .before .before .if1 .left) (c .before .if2 .taken) (stepped (c .refuse2 .result)) (c .refuse2 .ensures)
 
 all-tags-requires : tie.Need-all-tags-requires
 all-tags-requires c κs = search needs
@@ -33,7 +38,11 @@ at-place-requires : tie.Need-at-place-requires
 at-place-requires c κs = search needs
 
 skip-requires : tie.Need-skip-requires
-skip-requires c κs = begins (c .before .before .before .before .before .before .before .args .m .now) (c .before .before .before .before .before .before .before .args .at) (c .before .before .before .before .if1 .left) (c .before .before .before .if2 .left) (c .at-place .result) (c .at-place .ensures ∙ ap (λ s. moved s (c .before .before .before .before .before .before .before .args .at)) (c .before .before .before .before .before .new .ensures))
+skip-requires c κs =
+    begins (c .before .before .before .before .before .before .before .args .m .now)
+    (c .before .before .before .before .before .before .before .args .at) (c .before .before .before .before .if1 .left)
+    (c .before .before .before .if2 .left) (c .at-place .result)
+    (c .at-place .ensures ∙ ap (λ s. moved s (c .before .before .before .before .before .before .before .args .at)) (c .before .before .before .before .before .new .ensures))
 
 slice-aggregate-choose : tie.Need-slice-aggregate-choose
 slice-aggregate-choose c = search needs
@@ -57,7 +66,8 @@ slice-aggregate-element-2 : tie.Need-slice-aggregate-element-2
 slice-aggregate-element-2 c = search needs
 
 element-requires : tie.Need-element-requires
-element-requires c κs = (c .before .before .before .before .before .before .before .before .skip .ensures .1, omega arith, item-element (c .before .before .before .before .before .before .before .before .before .before .before .before .before .before .before .before .args .m .now) (c .before .before .before .before .before .before .before .before .before .before .before .all-tags .result) (c .before .before .before .before .before .before .before .before .before .before .all-rows .result) (c .before .before .before .before .before .row-at .result) (c .before .before .before .before .before .before .before .before .before .before .before .all-tags .ensures) (c .before .before .before .before .before .before .before .before .before .before .all-rows .ensures) (c .before .before .before .before .before .row-at .ensures), item-within (c .before .before .before .before .before .before .before .before .before .before .before .before .before .before .before .before .args .m .now) (c .before .before .before .before .before .before .before .before .before .before .before .all-tags .result) (c .before .before .before .before .before .before .before .before .before .before .all-rows .result) (c .before .before .before .before .before .row-at .result) (c .before .before .before .before .before .before .before .before .before .before .before .all-tags .ensures) (c .before .before .before .before .before .before .before .before .before .before .all-rows .ensures) (c .before .before .before .before .before .row-at .ensures) (c .before .before .before .before .before .before .before .before .skip .result) (c .before .before .before .before .before .before .before .before .skip .ensures .1) (sym (c .before .before .enum-told .given .1) ∙ c .before .before .before .before .choose .ensures), c .before .before .before .before .before .before .before .before .before .before .before .all-tags .ensures, c .before .before .before .before .before .before .before .before .before .before .all-rows .ensures)
+element-requires c κs =
+    (c .before .before .before .before .before .before .before .before .skip .ensures .1, omega arith, item-element (c .before .before .before .before .before .before .before .before .before .before .before .before .before .before .before .before .args .m .now) (c .before .before .before .before .before .before .before .before .before .before .before .all-tags .result) (c .before .before .before .before .before .before .before .before .before .before .all-rows .result) (c .before .before .before .before .before .row-at .result) (c .before .before .before .before .before .before .before .before .before .before .before .all-tags .ensures) (c .before .before .before .before .before .before .before .before .before .before .all-rows .ensures) (c .before .before .before .before .before .row-at .ensures), item-within (c .before .before .before .before .before .before .before .before .before .before .before .before .before .before .before .before .args .m .now) (c .before .before .before .before .before .before .before .before .before .before .before .all-tags .result) (c .before .before .before .before .before .before .before .before .before .before .all-rows .result) (c .before .before .before .before .before .row-at .result) (c .before .before .before .before .before .before .before .before .before .before .before .all-tags .ensures) (c .before .before .before .before .before .before .before .before .before .before .all-rows .ensures) (c .before .before .before .before .before .row-at .ensures) (c .before .before .before .before .before .before .before .before .skip .result) (c .before .before .before .before .before .before .before .before .skip .ensures .1) (sym (c .before .before .enum-told .given .1) ∙ c .before .before .before .before .choose .ensures), c .before .before .before .before .before .before .before .before .before .before .before .all-tags .ensures, c .before .before .before .before .before .before .before .before .before .before .all-rows .ensures)
 
 enum-told-2 : tie.Need-enum-told-2
 enum-told-2 c = search needs
@@ -72,13 +82,50 @@ refuse-requires-4 : tie.Need-refuse-requires-4
 refuse-requires-4 c κs = search needs
 
 returns-3 : tie.Need-returns-3
-returns-3 c = item-enters (c .before .before .before .before .before .before .before .before .before .before .before .before .before .before .before .before .before .args .m .now) (c .before .before .before .before .before .before .before .before .before .before .before .before .before .before .before .before .before .args .at) (c .before .before .before .before .before .before .before .before .before .before .before .before .before .before .if1 .left) (c .before .before .before .before .before .before .before .before .before .before .before .before .before .if2 .left) (c .before .before .before .before .before .before .before .before .before .before .at-place .result) (c .before .before .before .before .before .before .before .before .before .before .at-place .ensures ∙ ap (λ s. moved s (c .before .before .before .before .before .before .before .before .before .before .before .before .before .before .before .before .before .args .at)) (c .before .before .before .before .before .before .before .before .before .before .before .before .before .before .before .new .ensures)) (c .before .before .before .before .before .before .before .before .before .skip .result) (c .before .before .before .before .before .before .before .before .before .skip .ensures .0) (c .before .before .before .before .before .before .before .before .before .skip .ensures .1) (c .before .before .before .before .before .choose .result) (c .before .before .before .before .before .choose .ensures ∙ ap (λ t. tagged once t (c .before .before .before .before .before .before .before .before .before .before .before .before .before .before .before .before .before .args .m .now) (c .before .before .before .before .before .before .before .before .before .skip .result .at)) (item-tag (c .before .before .before .before .before .before .before .before .before .before .before .before .before .before .before .before .before .args .m .now) (c .before .before .before .before .before .before .before .before .before .before .before .before .all-tags .result) (c .before .before .before .before .before .before .before .before .before .before .before .all-rows .result) (c .before .before .before .before .before .before .row-at .result) (c .before .before .before .before .before .before .before .before .before .before .before .before .all-tags .ensures) (c .before .before .before .before .before .before .before .before .before .before .before .all-rows .ensures) (c .before .before .before .before .before .before .row-at .ensures))) (c .before .before .before .enum-told .given .1) (stepped (c .element .result)) (c .element .ensures .0) (c .element .ensures .1)
+returns-3 c =
+    item-enters
+    (c .before .before .before .before .before .before .before .before .before .before .before .before .before .before .before .before .before .args .m .now)
+    (c .before .before .before .before .before .before .before .before .before .before .before .before .before .before .before .before .before .args .at)
+    (c .before .before .before .before .before .before .before .before .before .before .before .before .before .before .if1 .left)
+    (c .before .before .before .before .before .before .before .before .before .before .before .before .before .if2 .left)
+    (c .before .before .before .before .before .before .before .before .before .before .at-place .result)
+    (c .before .before .before .before .before .before .before .before .before .before .at-place .ensures ∙ ap (λ s. moved s (c .before .before .before .before .before .before .before .before .before .before .before .before .before .before .before .before .before .args .at)) (c .before .before .before .before .before .before .before .before .before .before .before .before .before .before .before .new .ensures))
+    (c .before .before .before .before .before .before .before .before .before .skip .result)
+    (c .before .before .before .before .before .before .before .before .before .skip .ensures .0)
+    (c .before .before .before .before .before .before .before .before .before .skip .ensures .1)
+    (c .before .before .before .before .before .choose .result)
+    (c .before .before .before .before .before .choose .ensures ∙ ap (λ t. tagged once t (c .before .before .before .before .before .before .before .before .before .before .before .before .before .before .before .before .before .args .m .now) (c .before .before .before .before .before .before .before .before .before .skip .result .at)) (item-tag (c .before .before .before .before .before .before .before .before .before .before .before .before .before .before .before .before .before .args .m .now) (c .before .before .before .before .before .before .before .before .before .before .before .before .all-tags .result) (c .before .before .before .before .before .before .before .before .before .before .before .all-rows .result) (c .before .before .before .before .before .before .row-at .result) (c .before .before .before .before .before .before .before .before .before .before .before .before .all-tags .ensures) (c .before .before .before .before .before .before .before .before .before .before .before .all-rows .ensures) (c .before .before .before .before .before .before .row-at .ensures)))
+    (c .before .before .before .enum-told .given .1) (stepped (c .element .result)) (c .element .ensures .0) (c .element .ensures .1)
 
 returns-4 : tie.Need-returns-4
-returns-4 c = item-passes (c .before .before .before .before .before .before .before .before .before .before .before .before .before .before .before .args .m .now) (c .before .before .before .before .before .before .before .before .before .before .before .before .before .before .before .args .at) (c .before .before .before .before .before .before .before .before .before .before .before .before .if1 .left) (c .before .before .before .before .before .before .before .before .before .before .before .if2 .left) (c .before .before .before .before .before .before .before .before .at-place .result) (c .before .before .before .before .before .before .before .before .at-place .ensures ∙ ap (λ s. moved s (c .before .before .before .before .before .before .before .before .before .before .before .before .before .before .before .args .at)) (c .before .before .before .before .before .before .before .before .before .before .before .before .before .new .ensures)) (c .before .before .before .before .before .before .before .skip .result) (c .before .before .before .before .before .before .before .skip .ensures .0) (c .before .before .before .before .before .before .before .skip .ensures .1) (c .before .before .before .choose .result) (c .before .before .before .choose .ensures ∙ ap (λ t. tagged once t (c .before .before .before .before .before .before .before .before .before .before .before .before .before .before .before .args .m .now) (c .before .before .before .before .before .before .before .skip .result .at)) (item-tag (c .before .before .before .before .before .before .before .before .before .before .before .before .before .before .before .args .m .now) (c .before .before .before .before .before .before .before .before .before .before .all-tags .result) (c .before .before .before .before .before .before .before .before .before .all-rows .result) (c .before .before .before .before .row-at .result) (c .before .before .before .before .before .before .before .before .before .before .all-tags .ensures) (c .before .before .before .before .before .before .before .before .before .all-rows .ensures) (c .before .before .before .before .row-at .ensures))) (c .before .enum-told2 .given .1) (stepped (c .refuse3 .result)) (c .refuse3 .ensures)
+returns-4 c =
+    item-passes
+    (c .before .before .before .before .before .before .before .before .before .before .before .before .before .before .before .args .m .now)
+    (c .before .before .before .before .before .before .before .before .before .before .before .before .before .before .before .args .at)
+    (c .before .before .before .before .before .before .before .before .before .before .before .before .if1 .left)
+    (c .before .before .before .before .before .before .before .before .before .before .before .if2 .left)
+    (c .before .before .before .before .before .before .before .before .at-place .result)
+    (c .before .before .before .before .before .before .before .before .at-place .ensures ∙ ap (λ s. moved s (c .before .before .before .before .before .before .before .before .before .before .before .before .before .before .before .args .at)) (c .before .before .before .before .before .before .before .before .before .before .before .before .before .new .ensures))
+    (c .before .before .before .before .before .before .before .skip .result)
+    (c .before .before .before .before .before .before .before .skip .ensures .0)
+    (c .before .before .before .before .before .before .before .skip .ensures .1) (c .before .before .before .choose .result)
+    (c .before .before .before .choose .ensures ∙ ap (λ t. tagged once t (c .before .before .before .before .before .before .before .before .before .before .before .before .before .before .before .args .m .now) (c .before .before .before .before .before .before .before .skip .result .at)) (item-tag (c .before .before .before .before .before .before .before .before .before .before .before .before .before .before .before .args .m .now) (c .before .before .before .before .before .before .before .before .before .before .all-tags .result) (c .before .before .before .before .before .before .before .before .before .all-rows .result) (c .before .before .before .before .row-at .result) (c .before .before .before .before .before .before .before .before .before .before .all-tags .ensures) (c .before .before .before .before .before .before .before .before .before .all-rows .ensures) (c .before .before .before .before .row-at .ensures)))
+    (c .before .enum-told2 .given .1) (stepped (c .refuse3 .result)) (c .refuse3 .ensures)
 
 returns-5 : tie.Need-returns-5
-returns-5 c = item-stops (c .before .before .before .before .before .before .before .before .before .before .before .before .before .before .before .before .args .m .now) (c .before .before .before .before .before .before .before .before .before .before .before .before .before .before .before .before .args .at) (c .before .before .before .before .before .before .before .before .before .before .before .before .before .if1 .left) (c .before .before .before .before .before .before .before .before .before .before .before .before .if2 .left) (c .before .before .before .before .before .before .before .before .before .at-place .result) (c .before .before .before .before .before .before .before .before .before .at-place .ensures ∙ ap (λ s. moved s (c .before .before .before .before .before .before .before .before .before .before .before .before .before .before .before .before .args .at)) (c .before .before .before .before .before .before .before .before .before .before .before .before .before .before .new .ensures)) (c .before .before .before .before .before .before .before .before .skip .result) (c .before .before .before .before .before .before .before .before .skip .ensures .0) (c .before .before .before .before .before .before .before .before .skip .ensures .1) (c .before .before .before .before .choose .result) (c .before .before .before .before .choose .ensures ∙ ap (λ t. tagged once t (c .before .before .before .before .before .before .before .before .before .before .before .before .before .before .before .before .args .m .now) (c .before .before .before .before .before .before .before .before .skip .result .at)) (item-tag (c .before .before .before .before .before .before .before .before .before .before .before .before .before .before .before .before .args .m .now) (c .before .before .before .before .before .before .before .before .before .before .before .all-tags .result) (c .before .before .before .before .before .before .before .before .before .before .all-rows .result) (c .before .before .before .before .before .row-at .result) (c .before .before .before .before .before .before .before .before .before .before .before .all-tags .ensures) (c .before .before .before .before .before .before .before .before .before .before .all-rows .ensures) (c .before .before .before .before .before .row-at .ensures))) _ _ (c .before .before .number .given .1) (stepped (c .refuse4 .result)) (c .refuse4 .ensures)
+returns-5 c =
+    item-stops
+    (c .before .before .before .before .before .before .before .before .before .before .before .before .before .before .before .before .args .m .now)
+    (c .before .before .before .before .before .before .before .before .before .before .before .before .before .before .before .before .args .at)
+    (c .before .before .before .before .before .before .before .before .before .before .before .before .before .if1 .left)
+    (c .before .before .before .before .before .before .before .before .before .before .before .before .if2 .left)
+    (c .before .before .before .before .before .before .before .before .before .at-place .result)
+    (c .before .before .before .before .before .before .before .before .before .at-place .ensures ∙ ap (λ s. moved s (c .before .before .before .before .before .before .before .before .before .before .before .before .before .before .before .before .args .at)) (c .before .before .before .before .before .before .before .before .before .before .before .before .before .before .new .ensures))
+    (c .before .before .before .before .before .before .before .before .skip .result)
+    (c .before .before .before .before .before .before .before .before .skip .ensures .0)
+    (c .before .before .before .before .before .before .before .before .skip .ensures .1) (c .before .before .before .before .choose .result)
+    (c .before .before .before .before .choose .ensures ∙ ap (λ t. tagged once t (c .before .before .before .before .before .before .before .before .before .before .before .before .before .before .before .before .args .m .now) (c .before .before .before .before .before .before .before .before .skip .result .at)) (item-tag (c .before .before .before .before .before .before .before .before .before .before .before .before .before .before .before .before .args .m .now) (c .before .before .before .before .before .before .before .before .before .before .before .all-tags .result) (c .before .before .before .before .before .before .before .before .before .before .all-rows .result) (c .before .before .before .before .before .row-at .result) (c .before .before .before .before .before .before .before .before .before .before .before .all-tags .ensures) (c .before .before .before .before .before .before .before .before .before .before .all-rows .ensures) (c .before .before .before .before .before .row-at .ensures)))
+    _ _ (c .before .before .number .given .1) (stepped (c .refuse4 .result)) (c .refuse4 .ensures)
 
 pub item-spec : {M : Type 1} → statement M
 item-spec =

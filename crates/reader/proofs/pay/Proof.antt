@@ -1,3 +1,4 @@
+-- `reader::pay` meets its contract. Assumes nothing.
 use mathlib.Core.Path.{_∙_}
 use Rattle.reader.proofs.Steps.{in-euro, no-euro}
 use borrow.Author.Needs.{needs}
@@ -29,13 +30,19 @@ read-on-requires : tie.Need-read-on-requires
 read-on-requires c κs = search needs
 
 returns : tie.Need-returns
-returns c = c .read-on .ensures ∙ in-euro (c .before .before .before .before .before .before .args .m .now) (c .before .before .before .before .before .before .args .st) (c .before .before .before .before .before .before .pre .1) (c .before .before .same .result) (c .before .before .same .ensures) (c .before .if1 .taken)
+returns c =
+    c .read-on .ensures ∙ in-euro (c .before .before .before .before .before .before .args .m .now)
+    (c .before .before .before .before .before .before .args .st) (c .before .before .before .before .before .before .pre .1)
+    (c .before .before .same .result) (c .before .before .same .ensures) (c .before .if1 .taken)
 
 refuse-requires : tie.Need-refuse-requires
 refuse-requires c κs = search needs
 
 returns-2 : tie.Need-returns-2
-returns-2 c = c .refuse .ensures ∙ no-euro (c .before .before .before .before .before .before .args .m .now) (c .before .before .before .before .before .before .args .st) (c .before .before .before .before .before .before .pre .1) (c .before .before .same .result) (c .before .before .same .ensures) (c .before .if1 .left)
+returns-2 c =
+    c .refuse .ensures ∙ no-euro (c .before .before .before .before .before .before .args .m .now)
+    (c .before .before .before .before .before .before .args .st) (c .before .before .before .before .before .before .pre .1)
+    (c .before .before .same .result) (c .before .before .same .ensures) (c .before .if1 .left)
 
 pub pay-spec : {M : Type 1} → statement M
 pay-spec =

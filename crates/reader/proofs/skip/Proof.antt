@@ -1,3 +1,4 @@
+-- `reader::skip` meets its contract. Assumes nothing.
 use native.Mathlib.Omega.{arith}
 use Rattle.reader.proofs.Steps.{spaces-fit, skips}
 use borrow.Author.Needs.{needs}
@@ -17,13 +18,17 @@ spaces-requires : tie.Need-spaces-requires
 spaces-requires c κs = search needs
 
 add-at-place : tie.Need-add-at-place
-add-at-place c = omega (arith, spaces-fit (c .before .before .before .args .m .now) (c .before .before .before .args .st .at) (c .spaces .result) (c .before .before .before .pre .within) (c .spaces .ensures))
+add-at-place c =
+    omega
+    (arith, spaces-fit (c .before .before .before .args .m .now) (c .before .before .before .args .st .at) (c .spaces .result) (c .before .before .before .pre .within) (c .spaces .ensures))
 
 at-place-requires : tie.Need-at-place-requires
 at-place-requires c κs = search needs
 
 returns : tie.Need-returns
-returns c = skips (c .before .before .before .before .args .m .now) (c .before .before .before .before .args .st) (c .before .spaces .result) (c .at-place .result) (c .before .before .before .before .pre) (c .before .spaces .ensures) (c .at-place .ensures)
+returns c =
+    skips (c .before .before .before .before .args .m .now) (c .before .before .before .before .args .st) (c .before .spaces .result)
+    (c .at-place .result) (c .before .before .before .before .pre) (c .before .spaces .ensures) (c .at-place .ensures)
 
 pub skip-spec : {M : Type 1} → statement M
 skip-spec =

@@ -1,3 +1,4 @@
+-- `text::all_in` meets its contract. Assumes nothing.
 use Rattle.text.specs.Classes.{inClass}
 use Rattle.text.proofs.Scan.{every-lead}
 use borrow.Author.Needs.{needs}

@@ -1,3 +1,4 @@
+-- `text::is_held` meets its contract. Assumes nothing.
 use borrow.Author.Tests.{lt-ltb, le-ltb}
 use Rattle.text.specs.Classes.{holds}
 use borrow.Author.Needs.{needs}

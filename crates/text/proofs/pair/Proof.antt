@@ -1,3 +1,4 @@
+-- `text::pair` meets its contract. Assumes nothing.
 use native.Mathlib.Omega.{arith}
 use Rattle.text.specs.Quoted.{decimal}
 use borrow.Author.Needs.{needs}

@@ -1,3 +1,4 @@
+-- `text::run_in` meets its contract. Assumes nothing.
 use borrow.Author.Needs.{needs}
 use Prim.Native.Nat.{_≤_, _+_, _-_}
 use native.Mathlib.Omega.{arith}
@@ -45,7 +46,8 @@ returns c =
     let l = c .before .before .before .before .loop in
     let m = c .before .before .before .before .before .mask-of in
     let s = c .before .before .before .before .before .before .before .args .s .now in
-    omega (arith, l .inv .1, lead-stop (holds (m .result)) s (l .i) (omega arith) (sym (c .before .is-held .ensures) ∙ c .if1 .left), lead-same (holds (m .result)) (inClass _) (m .ensures) s)
+    omega
+    (arith, l .inv .1, lead-stop (holds (m .result)) s (l .i) (omega arith) (sym (c .before .is-held .ensures) ∙ c .if1 .left), lead-same (holds (m .result)) (inClass _) (m .ensures) s)
 
 returns-2 : tie.Need-returns-2 Inv-loop μ-loop
 returns-2 c =

@@ -1,3 +1,4 @@
+-- `text::some_in` meets its contract. Assumes nothing.
 use borrow.Author.Needs.{needs}
 use Prim.Native.Nat.{_≤_, _-_}
 use native.Mathlib.Omega.{arith}
@@ -32,7 +33,8 @@ returns c =
     let l = c .before .before .before .before .loop in
     let m = c .before .before .before .before .before .mask-of in
     let s = c .before .before .before .before .before .before .before .args .s .now in
-    sym (some-stop (holds (m .result)) s (l .i) (omega arith) (sym (c .before .is-held .ensures) ∙ c .if1 .taken)) ∙ l .inv .1 ∙ some-same (holds (m .result)) (inClass _) (m .ensures) s
+    sym (some-stop (holds (m .result)) s (l .i) (omega arith) (sym (c .before .is-held .ensures) ∙ c .if1 .taken)) ∙ l .inv .1 ∙ some-same
+    (holds (m .result)) (inClass _) (m .ensures) s
 
 add-i : tie.Need-add-i Inv-loop μ-loop
 add-i c = search needs

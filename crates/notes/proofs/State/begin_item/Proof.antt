@@ -1,3 +1,4 @@
+-- `notes::State::begin_item` meets its contract. Assumes nothing.
 use mathlib.Core.Path.{_∙_, ap}
 use Rattle.notes.specs.Reading.{on}
 use Rattle.notes.proofs.Notings.{begins, too-many}

@@ -1,3 +1,4 @@
+-- `notes::State::with_start` meets its contract. Assumes nothing.
 use borrow.Author.Tests.{lt-ltb, le-ltb}
 use borrow.Author.Needs.{needs}
 use Rattle.notes.proofs.State.with_start.Statement.{statement}

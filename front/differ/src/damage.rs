@@ -1,0 +1,887 @@
+//! Damaged messages, with what is known of their refusal.
+
+use crate::message::{
+    accepted, concat, Message, Part, Plan, Spacing, What, DECLARATION, INSTRUMENTS,
+};
+use crate::random::Random;
+use crate::value::{self, Kind, WHITE};
+
+/// What is known of the judge's answer, from the way the message was made.
+#[derive(Clone, Copy, Debug, PartialEq, Eq)]
+pub enum Known {
+    Accepted {
+        count: u64,
+        cents: u64,
+    },
+    Refused {
+        number: u8,
+        place: usize,
+    },
+    /// Refused, whatever the number.
+    Bad,
+    Nothing,
+}
+
+/// One message of a run.
+pub struct Case {
+    pub bytes: Vec<u8>,
+    /// What was done to it.
+    pub damage: &'static str,
+    pub known: Known,
+    /// For a message that is known to be accepted: where each item lies, and its records.
+    pub items: Vec<(usize, usize)>,
+    pub records: Vec<u8>,
+}
+
+type Damage = fn(Message, &mut Random) -> Option<(Vec<u8>, Known)>;
+
+const DAMAGES: &[(&str, Damage)] = &[
+    ("cut", cut),
+    ("cut at a part's end", cut_at_part),
+    ("one edit", one_edit),
+    ("two edits", two_edits),
+    ("byte changed", byte_changed),
+    ("byte deleted", byte_deleted),
+    ("byte inserted", byte_inserted),
+    ("byte doubled", byte_doubled),
+    ("tag doubled", tag_doubled),
+    ("tag dropped", tag_dropped),
+    ("tag swapped with a neighbour", tag_swapped),
+    ("tag malformed", tag_malformed),
+    ("tag replaced by another", tag_replaced),
+    ("`<` alone", lone_bracket),
+    ("element dropped", element_dropped),
+    ("element doubled", element_doubled),
+    ("elements swapped", elements_swapped),
+    ("element not listed", element_not_listed),
+    ("count off by one", count_off),
+    ("total off by one", total_off),
+    ("count and total off by one", both_off),
+    ("slip in IBAN", slip_in_iban),
+    ("slip in identifier", slip_in_identifier),
+    ("slip in amount", slip_in_amount),
+    ("slip in count", slip_in_count),
+    ("slip in total", slip_in_total),
+    ("check digits 00, 01 or 99", alias),
+    ("white space in a tag", white_in_tag),
+    ("white space before the declaration", white_before_declaration),
+    ("white space before a value", white_before_value),
+    ("white space behind a value", white_behind_value),
+    ("foreign byte set", foreign_set),
+    ("foreign byte inserted", foreign_inserted),
+    ("currency changed", currency),
+    ("local instruments mixed", mixed),
+    ("value empty", empty_value),
+    ("value nearly valid", near_value),
+    ("value damaged", damaged_value),
+    ("value random", random_value),
+    ("value nearly valid, then cut", near_value_cut),
+    ("value valid, another", other_value),
+    ("names and remittance replaced", texts_replaced),
+    ("item doubled", item_doubled),
+    ("item doubled, count and total right", item_doubled_right),
+    ("item dropped", item_dropped),
+    ("no item", no_item),
+    ("bytes after the end", after_end),
+    ("beginning wrong", beginning),
+    ("random bytes", random_bytes),
+    ("pieces of tags", pieces),
+    ("two damages", two_damages),
+];
+
+/// One message of the run with this seed: accepted as it is, once in four, or damaged.
+pub fn case(seed: u64, case: u64) -> Case {
+    let random = &mut Random::new(seed, case);
+    let most_items = match random.below(400) {
+        0 => 300,
+        1..=20 => 40,
+        _ => 8,
+    };
+    let mut plan = Plan::by_chance(random, most_items);
+    plan.small = random.once_in(2);
+    let message = accepted(&plan, random);
+    if random.once_in(4) {
+        return whole(message);
+    }
+    loop {
+        let (damage, make) = DAMAGES[random.below(DAMAGES.len())];
+        if let Some((bytes, known)) = make(message.clone(), random) {
+            return Case { bytes, damage, known, items: Vec::new(), records: Vec::new() };
+        }
+    }
+}
+
+/// A message as it is.
+pub fn whole(message: Message) -> Case {
+    Case {
+        bytes: message.bytes(),
+        damage: "none",
+        known: fine(&message),
+        items: message.item_places(),
+        records: message.records.concat(),
+    }
+}
+
+fn fine(message: &Message) -> Known {
+    Known::Accepted { count: message.count, cents: message.cents }
+}
+
+fn is_tag(part: &Part) -> bool {
+    matches!(part.what, What::Start | What::End)
+}
+
+fn is_value(part: &Part) -> bool {
+    matches!(part.what, What::Value(_))
+}
+
+fn kind_of(part: &Part) -> Kind {
+    match part.what {
+        What::Value(kind) => kind,
+        _ => panic!("not a value"),
+    }
+}
+
+/// The number for a value that is not of its kind's form.
+fn form_number(kind: Kind) -> u8 {
+    match kind {
+        Kind::Code(_) => 10,
+        _ => 7,
+    }
+}
+
+fn pick(parts: &[usize], random: &mut Random) -> Option<usize> {
+    (!parts.is_empty()).then(|| parts[random.below(parts.len())])
+}
+
+fn values_of(message: &Message, kind: Kind) -> Vec<usize> {
+    message.parts_that(|part| part.what == What::Value(kind))
+}
+
+/// The length up to the end of `</Document>`.
+fn due(message: &Message) -> usize {
+    let trailing = message.parts.last().filter(|part| part.what == What::White);
+    message.bytes().len() - trailing.map_or(0, |part| part.bytes.len())
+}
+
+/// The message cut to a length: "3: ends where more is due", unless only white space goes.
+fn cut_to(message: &Message, length: usize) -> (Vec<u8>, Known) {
+    let known = match length >= due(message) {
+        true => fine(message),
+        false => Known::Refused { number: 3, place: length },
+    };
+    let mut bytes = message.bytes();
+    bytes.truncate(length);
+    (bytes, known)
+}
+
+fn cut(message: Message, random: &mut Random) -> Option<(Vec<u8>, Known)> {
+    let length = random.between(0, message.bytes().len());
+    Some(cut_to(&message, length))
+}
+
+fn cut_at_part(message: Message, random: &mut Random) -> Option<(Vec<u8>, Known)> {
+    let part = random.between(0, message.parts.len());
+    Some(cut_to(&message, message.place(part)))
+}
+
+fn one_edit(message: Message, random: &mut Random) -> Option<(Vec<u8>, Known)> {
+    let mut bytes = message.bytes();
+    value::edit(&mut bytes, random);
+    Some((bytes, Known::Nothing))
+}
+
+fn two_edits(message: Message, random: &mut Random) -> Option<(Vec<u8>, Known)> {
+    let mut bytes = message.bytes();
+    value::edit(&mut bytes, random);
+    value::edit(&mut bytes, random);
+    Some((bytes, Known::Nothing))
+}
+
+fn byte_changed(message: Message, random: &mut Random) -> Option<(Vec<u8>, Known)> {
+    let mut bytes = message.bytes();
+    let at = random.below(bytes.len());
+    bytes[at] = value::foreign(random);
+    Some((bytes, Known::Nothing))
+}
+
+fn byte_deleted(message: Message, random: &mut Random) -> Option<(Vec<u8>, Known)> {
+    let mut bytes = message.bytes();
+    bytes.remove(random.below(bytes.len()));
+    Some((bytes, Known::Nothing))
+}
+
+fn byte_inserted(message: Message, random: &mut Random) -> Option<(Vec<u8>, Known)> {
+    let mut bytes = message.bytes();
+    bytes.insert(random.between(0, bytes.len()), value::foreign(random));
+    Some((bytes, Known::Nothing))
+}
+
+fn byte_doubled(message: Message, random: &mut Random) -> Option<(Vec<u8>, Known)> {
+    let mut bytes = message.bytes();
+    let at = random.below(bytes.len());
+    bytes.insert(at, bytes[at]);
+    Some((bytes, Known::Nothing))
+}
+
+fn tag_doubled(mut message: Message, random: &mut Random) -> Option<(Vec<u8>, Known)> {
+    let at = pick(&message.parts_that(is_tag), random)?;
+    message.parts.insert(at, message.parts[at].clone());
+    Some((message.bytes(), Known::Bad))
+}
+
+fn tag_dropped(mut message: Message, random: &mut Random) -> Option<(Vec<u8>, Known)> {
+    let at = pick(&message.parts_that(is_tag), random)?;
+    message.parts.remove(at);
+    Some((message.bytes(), Known::Bad))
+}
+
+fn tag_swapped(mut message: Message, random: &mut Random) -> Option<(Vec<u8>, Known)> {
+    let tags = message.parts_that(is_tag);
+    let at = random.below(tags.len() - 1);
+    message.parts.swap(tags[at], tags[at + 1]);
+    Some((message.bytes(), Known::Bad))
+}
+
+fn tag_malformed(mut message: Message, random: &mut Random) -> Option<(Vec<u8>, Known)> {
+    let at = pick(&message.parts_that(is_tag), random)?;
+    let tag = &mut message.parts[at].bytes;
+    let last = tag.len() - 1;
+    match random.below(16) {
+        0 => {
+            let letters: Vec<usize> =
+                (0..tag.len()).filter(|&at| tag[at].is_ascii_alphabetic()).collect();
+            tag[pick(&letters, random)?] ^= 0x20;
+        }
+        1 => drop(tag.splice(last..last, *b" a=\"1\"")),
+        2 => tag.insert(last, random.of(WHITE)),
+        3 => tag.insert(last, b'/'),
+        4 => drop(tag.remove(0)),
+        5 => drop(tag.remove(last)),
+        6 => drop(tag.splice(1..1, *b"ns:")),
+        7 => drop(tag.remove(last - 1)),
+        8 => tag.insert(0, b'<'),
+        9 => tag.push(b'>'),
+        10 => drop(tag.splice(0..0, *b"<!-- -->")),
+        11 => drop(tag.splice(0..0, *b"<![CDATA[]]>")),
+        12 => drop(tag.splice(0..0, *b"&amp;")),
+        13 => drop(tag.splice(0..0, *b"<?pi?>")),
+        14 => tag.insert(1, b'/'),
+        _ => tag.truncate(random.between(1, last)),
+    }
+    Some((message.bytes(), Known::Bad))
+}
+
+fn tag_replaced(mut message: Message, random: &mut Random) -> Option<(Vec<u8>, Known)> {
+    let tags = message.parts_that(is_tag);
+    let (one, other) = (pick(&tags, random)?, pick(&tags, random)?);
+    if message.parts[one].bytes == message.parts[other].bytes {
+        return None;
+    }
+    message.parts[one].bytes = message.parts[other].bytes.clone();
+    Some((message.bytes(), Known::Bad))
+}
+
+fn lone_bracket(mut message: Message, random: &mut Random) -> Option<(Vec<u8>, Known)> {
+    if random.once_in(2) {
+        let at = pick(&message.parts_that(is_tag), random)?;
+        message.parts[at].bytes = b"<".to_vec();
+        // The last tag: `<` and the end, which is a beginning of it.
+        return Some((message.bytes(), Known::Bad));
+    }
+    let mut bytes = message.bytes();
+    bytes.insert(random.between(0, bytes.len()), b'<');
+    Some((bytes, Known::Bad))
+}
+
+/// The parts of the element whose start tag this is: itself to its end tag.
+fn element_at(message: &Message, start: usize) -> (usize, usize) {
+    let mut depth = 0;
+    for at in start..message.parts.len() {
+        match message.parts[at].what {
+            What::Start => depth += 1,
+            What::End => depth -= 1,
+            _ => {}
+        }
+        if depth == 0 {
+            return (start, at + 1);
+        }
+    }
+    panic!("the start tag has an end tag")
+}
+
+fn any_element(message: &Message, random: &mut Random) -> (usize, usize) {
+    let starts = message.parts_that(|part| part.what == What::Start);
+    element_at(message, starts[random.below(starts.len())])
+}
+
+fn element_dropped(mut message: Message, random: &mut Random) -> Option<(Vec<u8>, Known)> {
+    let (first, after) = any_element(&message, random);
+    let known = match message.parts[first].name {
+        "InstrId" | "RmtInf" => fine(&message),
+        _ => Known::Bad,
+    };
+    message.parts.drain(first..after);
+    Some((message.bytes(), known))
+}
+
+fn element_doubled(mut message: Message, random: &mut Random) -> Option<(Vec<u8>, Known)> {
+    let (first, after) = any_element(&message, random);
+    let copy = message.parts[first..after].to_vec();
+    message.parts.splice(after..after, copy);
+    Some((message.bytes(), Known::Bad))
+}
+
+fn elements_swapped(mut message: Message, random: &mut Random) -> Option<(Vec<u8>, Known)> {
+    let (first, after) = any_element(&message, random);
+    let next = (after..message.parts.len()).find(|&at| message.parts[at].what != What::White)?;
+    if message.parts[next].what != What::Start {
+        return None;
+    }
+    let (_, next_after) = element_at(&message, next);
+    // Two items may change places (only their local instruments must agree, and they do).
+    let known = match message.parts[first].name == message.parts[next].name {
+        true => fine(&message),
+        false => Known::Bad,
+    };
+    message.parts[first..next_after].rotate_left(after - first);
+    Some((message.bytes(), known))
+}
+
+fn element_not_listed(mut message: Message, random: &mut Random) -> Option<(Vec<u8>, Known)> {
+    let element = random.pick(&[
+        "<CtrlSum>1</CtrlSum>",
+        "<InstdAgt><FinInstnId><BIC>BANKDEFF</BIC></FinInstnId></InstdAgt>",
+        "<ClrSysRef>A</ClrSysRef>",
+        "<CtgyPurp><Cd>CASH</Cd></CtgyPurp>",
+        "<UltmtDbtr><Nm>A</Nm></UltmtDbtr>",
+        "<PstlAdr><Ctry>DE</Ctry></PstlAdr>",
+        "<Strd>A</Strd>",
+        "<AmdmntInd>false</AmdmntInd>",
+        "<X/>",
+        "<!-- x -->",
+        "<![CDATA[x]]>",
+        "&#65;",
+    ]);
+    let at = pick(&message.parts_that(is_tag), random)?;
+    message.parts[at].bytes.splice(0..0, element.bytes());
+    Some((message.bytes(), Known::Bad))
+}
+
+fn one_off(number: u64, random: &mut Random) -> u64 {
+    match random.below(2) {
+        0 => number + 1,
+        _ => number - 1,
+    }
+}
+
+fn set_count_off(message: &mut Message, random: &mut Random) -> Known {
+    let part = message.header_value("NbOfTxs");
+    let number = one_off(message.count, random);
+    message.parts[part].bytes = value::with_zeros(number, random);
+    Known::Refused { number: 14, place: message.place(part) }
+}
+
+fn set_total_off(message: &mut Message, random: &mut Random) -> Known {
+    let part = message.header_value("TtlIntrBkSttlmAmt");
+    let cents = one_off(message.cents, random);
+    message.parts[part].bytes = value::amount(cents, random);
+    Known::Refused { number: if cents == 0 { 9 } else { 15 }, place: message.place(part) }
+}
+
+fn count_off(mut message: Message, random: &mut Random) -> Option<(Vec<u8>, Known)> {
+    let known = set_count_off(&mut message, random);
+    Some((message.bytes(), known))
+}
+
+fn total_off(mut message: Message, random: &mut Random) -> Option<(Vec<u8>, Known)> {
+    let known = set_total_off(&mut message, random);
+    Some((message.bytes(), known))
+}
+
+fn both_off(mut message: Message, random: &mut Random) -> Option<(Vec<u8>, Known)> {
+    let count = set_count_off(&mut message, random);
+    let total = set_total_off(&mut message, random);
+    let known = match total {
+        Known::Refused { number: 9, .. } => total,
+        _ => count,
+    };
+    Some((message.bytes(), known))
+}
+
+/// A slip in one value of a kind. Answers the part.
+fn slip(message: &mut Message, kind: Kind, random: &mut Random) -> Option<usize> {
+    let part = pick(&values_of(message, kind), random)?;
+    value::slip(kind, &mut message.parts[part].bytes, random).then_some(part)
+}
+
+fn check_digits_slip(
+    mut message: Message,
+    kind: Kind,
+    random: &mut Random,
+) -> Option<(Vec<u8>, Known)> {
+    let part = slip(&mut message, kind, random)?;
+    Some((message.bytes(), Known::Refused { number: 8, place: message.place(part) }))
+}
+
+fn slip_in_iban(message: Message, random: &mut Random) -> Option<(Vec<u8>, Known)> {
+    check_digits_slip(message, Kind::Iban, random)
+}
+
+fn slip_in_identifier(message: Message, random: &mut Random) -> Option<(Vec<u8>, Known)> {
+    check_digits_slip(message, Kind::CreditorId, random)
+}
+
+fn slip_in_amount(mut message: Message, random: &mut Random) -> Option<(Vec<u8>, Known)> {
+    let part = slip(&mut message, Kind::ItemAmount, random)?;
+    let cents = value::cents_of(&message.parts[part].bytes);
+    let known = match (1..=value::ITEM_MOST).contains(&cents) {
+        true => (15, message.header_value("TtlIntrBkSttlmAmt")),
+        false => (9, part),
+    };
+    Some((message.bytes(), Known::Refused { number: known.0, place: message.place(known.1) }))
+}
+
+fn slip_in_count(mut message: Message, random: &mut Random) -> Option<(Vec<u8>, Known)> {
+    let part = slip(&mut message, Kind::Count, random)?;
+    Some((message.bytes(), Known::Refused { number: 14, place: message.place(part) }))
+}
+
+fn slip_in_total(mut message: Message, random: &mut Random) -> Option<(Vec<u8>, Known)> {
+    let part = slip(&mut message, Kind::HeaderAmount, random)?;
+    let number = if value::cents_of(&message.parts[part].bytes) == 0 { 9 } else { 15 };
+    Some((message.bytes(), Known::Refused { number, place: message.place(part) }))
+}
+
+fn alias(mut message: Message, random: &mut Random) -> Option<(Vec<u8>, Known)> {
+    let kind = if random.once_in(2) { Kind::Iban } else { Kind::CreditorId };
+    let part = pick(&values_of(&message, kind), random)?;
+    message.parts[part].bytes = value::alias(kind, random);
+    Some((message.bytes(), Known::Refused { number: 8, place: message.place(part) }))
+}
+
+fn white_in_tag(mut message: Message, random: &mut Random) -> Option<(Vec<u8>, Known)> {
+    let tags = message.parts_that(|part| is_tag(part) || part.what == What::Declaration);
+    let part = pick(&tags, random)?;
+    let at = random.between(1, message.parts[part].bytes.len() - 1);
+    message.parts[part].bytes.insert(at, random.of(WHITE));
+    let opening = message.parts[part].what == What::Declaration
+        || (message.parts[part].name == "Document" && message.parts[part].what == What::Start);
+    let number = if opening { 2 } else { 4 };
+    Some((message.bytes(), Known::Refused { number, place: message.place(part) }))
+}
+
+fn white_before_declaration(message: Message, random: &mut Random) -> Option<(Vec<u8>, Known)> {
+    if message.parts[0].what != What::Declaration {
+        return None;
+    }
+    let place = random.length(1, 5);
+    let bytes = [random.bytes(WHITE, place), message.bytes()].concat();
+    Some((bytes, Known::Refused { number: 2, place }))
+}
+
+fn white_before_value(mut message: Message, random: &mut Random) -> Option<(Vec<u8>, Known)> {
+    let part = pick(&message.parts_that(is_value), random)?;
+    message.parts[part].bytes.insert(0, random.of(WHITE));
+    let number = form_number(kind_of(&message.parts[part]));
+    Some((message.bytes(), Known::Refused { number, place: message.place(part) }))
+}
+
+fn white_behind_value(mut message: Message, random: &mut Random) -> Option<(Vec<u8>, Known)> {
+    let part = pick(&message.parts_that(is_value), random)?;
+    let white = random.of(WHITE);
+    message.parts[part].bytes.push(white);
+    let kind = kind_of(&message.parts[part]);
+    let length = message.parts[part].bytes.len();
+    let known = match kind {
+        Kind::Text70 if white == b' ' && length <= 70 => fine(&message),
+        Kind::Text140 if white == b' ' && length <= 140 => fine(&message),
+        _ => Known::Refused { number: form_number(kind), place: message.place(part) },
+    };
+    Some((message.bytes(), known))
+}
+
+fn no_ascii(random: &mut Random) -> u8 {
+    match random.below(3) {
+        0 => 0,
+        1 => random.of(b"\x01\x0b\x0c\x7f\x80\xa0\xc2\xe2\xff"),
+        _ => 128 | random.next() as u8,
+    }
+}
+
+fn foreign_set(message: Message, random: &mut Random) -> Option<(Vec<u8>, Known)> {
+    let mut bytes = message.bytes();
+    let at = random.below(bytes.len());
+    bytes[at] = no_ascii(random);
+    Some((bytes, Known::Bad))
+}
+
+fn foreign_inserted(message: Message, random: &mut Random) -> Option<(Vec<u8>, Known)> {
+    let mut bytes = message.bytes();
+    bytes.insert(random.between(0, bytes.len()), no_ascii(random));
+    Some((bytes, Known::Bad))
+}
+
+fn currency(mut message: Message, random: &mut Random) -> Option<(Vec<u8>, Known)> {
+    let amounts = message.parts_that(|part| {
+        part.what == What::Start && matches!(part.name, "IntrBkSttlmAmt" | "TtlIntrBkSttlmAmt")
+    });
+    let part = pick(&amounts, random)?;
+    let currency = random.pick(&[
+        "USD", "CHF", "AAA", "ZZZ", "EUS", "XUR", "eur", "E1R", "EUr", "EU", "EURO", "", "E R",
+        "EU\"", "USD ", "\u{20ac}", "E[R", "@UR",
+    ]);
+    let start = message.place(part);
+    let name = message.parts[part].name;
+    message.parts[part].bytes = format!("<{name} Ccy=\"{currency}\">").into_bytes();
+    let known = match currency.len() == 3 && currency.bytes().all(|c| c.is_ascii_uppercase()) {
+        true => Known::Refused { number: 6, place: start + name.len() + 7 },
+        false => Known::Refused { number: 4, place: start },
+    };
+    Some((message.bytes(), known))
+}
+
+fn mixed(mut message: Message, random: &mut Random) -> Option<(Vec<u8>, Known)> {
+    let instruments = values_of(&message, INSTRUMENTS);
+    if instruments.len() < 2 {
+        return None;
+    }
+    let item = random.below(instruments.len());
+    let part = instruments[item];
+    message.parts[part].bytes = match message.parts[part].bytes.as_slice() {
+        b"CORE" => b"B2B".to_vec(),
+        _ => b"CORE".to_vec(),
+    };
+    let place = message.place(instruments[item.max(1)]);
+    Some((message.bytes(), Known::Refused { number: 11, place }))
+}
+
+fn empty_value(mut message: Message, random: &mut Random) -> Option<(Vec<u8>, Known)> {
+    let part = pick(&message.parts_that(is_value), random)?;
+    message.parts[part].bytes.clear();
+    let number = form_number(kind_of(&message.parts[part]));
+    Some((message.bytes(), Known::Refused { number, place: message.place(part) }))
+}
+
+fn replace_value(
+    mut message: Message,
+    random: &mut Random,
+    make: fn(Kind, &mut Random) -> Vec<u8>,
+) -> Option<(Vec<u8>, Known)> {
+    let part = pick(&message.parts_that(is_value), random)?;
+    message.parts[part].bytes = make(kind_of(&message.parts[part]), random);
+    Some((message.bytes(), Known::Nothing))
+}
+
+fn near_value(message: Message, random: &mut Random) -> Option<(Vec<u8>, Known)> {
+    replace_value(message, random, value::near)
+}
+
+fn damaged_value(message: Message, random: &mut Random) -> Option<(Vec<u8>, Known)> {
+    replace_value(message, random, value::damaged)
+}
+
+fn random_value(message: Message, random: &mut Random) -> Option<(Vec<u8>, Known)> {
+    replace_value(message, random, value::random)
+}
+
+fn other_value(message: Message, random: &mut Random) -> Option<(Vec<u8>, Known)> {
+    replace_value(message, random, |kind, random| value::valid(kind, random).bytes)
+}
+
+fn near_value_cut(message: Message, random: &mut Random) -> Option<(Vec<u8>, Known)> {
+    let (mut bytes, _) = near_value(message, random)?;
+    bytes.truncate(random.below(bytes.len()));
+    Some((bytes, Known::Nothing))
+}
+
+/// "A legal Nm or Ustrd replaced by another legal one of equal length alters no answer".
+fn texts_replaced(mut message: Message, random: &mut Random) -> Option<(Vec<u8>, Known)> {
+    for part in &mut message.parts {
+        if let What::Value(Kind::Text70 | Kind::Text140) = part.what {
+            part.bytes = value::text_of_length(random, part.bytes.len());
+        }
+    }
+    Some((message.bytes(), fine(&message)))
+}
+
+fn any_item(message: &Message, random: &mut Random) -> (usize, usize) {
+    message.items[random.below(message.items.len())]
+}
+
+fn item_doubled(mut message: Message, random: &mut Random) -> Option<(Vec<u8>, Known)> {
+    let (first, after) = any_item(&message, random);
+    let copy = message.parts[first..after].to_vec();
+    message.parts.splice(after..after, copy);
+    let place = message.place(message.header_value("NbOfTxs"));
+    Some((message.bytes(), Known::Refused { number: 14, place }))
+}
+
+fn item_doubled_right(mut message: Message, random: &mut Random) -> Option<(Vec<u8>, Known)> {
+    let (first, after) = any_item(&message, random);
+    let copy = message.parts[first..after].to_vec();
+    let amount = copy.iter().find(|part| part.what == What::Value(Kind::ItemAmount))?;
+    message.cents += value::cents_of(&amount.bytes);
+    message.count += 1;
+    let total = message.header_value("TtlIntrBkSttlmAmt");
+    message.parts.splice(after..after, copy);
+    message.parts[total].bytes = value::amount(message.cents, random);
+    let count = message.header_value("NbOfTxs");
+    message.parts[count].bytes = value::with_zeros(message.count, random);
+    Some((message.bytes(), fine(&message)))
+}
+
+fn item_dropped(mut message: Message, random: &mut Random) -> Option<(Vec<u8>, Known)> {
+    if message.items.len() < 2 {
+        return None;
+    }
+    let (first, after) = any_item(&message, random);
+    message.parts.drain(first..after);
+    let place = message.place(message.header_value("NbOfTxs"));
+    Some((message.bytes(), Known::Refused { number: 14, place }))
+}
+
+/// "No item at all: 4 at `</FIToFICstmrDrctDbt>`".
+fn no_item(mut message: Message, random: &mut Random) -> Option<(Vec<u8>, Known)> {
+    let (first, after) = (message.items[0].0, message.items.last()?.1);
+    message.parts.drain(first..after);
+    if random.once_in(2) {
+        let count = message.header_value("NbOfTxs");
+        message.parts[count].bytes = b"0".to_vec();
+    }
+    let close =
+        message.parts_that(|part| part.what == What::End && part.name == "FIToFICstmrDrctDbt")[0];
+    Some((message.bytes(), Known::Refused { number: 4, place: message.place(close) }))
+}
+
+fn after_end(message: Message, random: &mut Random) -> Option<(Vec<u8>, Known)> {
+    let mut bytes = message.bytes();
+    let length = random.between(0, 3);
+    bytes.extend(random.bytes(WHITE, length));
+    let place = bytes.len();
+    match random.below(4) {
+        0 => bytes.extend(message.bytes()),
+        1 => bytes.push(b'<'),
+        2 => bytes.extend(b"<!-- -->"),
+        _ => bytes.push(no_ascii(random)),
+    }
+    // With a message right behind that starts with white space, the first other byte.
+    let white = bytes[place..].iter().take_while(|byte| WHITE.contains(byte)).count();
+    Some((bytes, Known::Refused { number: 16, place: place + white }))
+}
+
+/// "BOM, NUL, comment, DOCTYPE, other root spellings: 2 at that byte"; a second declaration too.
+fn beginning(message: Message, random: &mut Random) -> Option<(Vec<u8>, Known)> {
+    let bytes = message.bytes();
+    if random.once_in(4) {
+        if message.parts[0].what != What::Declaration {
+            return None;
+        }
+        let bytes = [DECLARATION.as_bytes(), &bytes].concat();
+        return Some((bytes, Known::Refused { number: 2, place: DECLARATION.len() }));
+    }
+    let wrong = random.pick(&[
+        "\u{feff}",
+        "\0",
+        "<!-- -->",
+        "<!DOCTYPE Document>",
+        "<?xml version='1.0' encoding='UTF-8'?>",
+        "<?xml version=\"1.0\"?>",
+        "<?xml version=\"1.1\" encoding=\"UTF-8\"?>",
+        "<?xml version=\"1.0\" encoding=\"utf-8\"?>",
+        "<?xml version=\"1.0\" encoding=\"UTF-8\" ?>",
+        "<?xml version=\"1.0\" encoding=\"UTF-8\" standalone=\"yes\"?>",
+        "<?pi?>",
+        "<??>",
+        "<Document>",
+        "<document xmlns=\"urn:iso:std:iso:20022:tech:xsd:pacs.003.001.02\">",
+        "<Document xmlns=\"urn:iso:std:iso:20022:tech:xsd:pacs.003.001.01\">",
+        "<Document  xmlns=\"urn:iso:std:iso:20022:tech:xsd:pacs.003.001.02\">",
+        "<Document xmlns='urn:iso:std:iso:20022:tech:xsd:pacs.003.001.02'>",
+        "x",
+        "&",
+    ]);
+    Some(([wrong.as_bytes(), &bytes].concat(), Known::Refused { number: 2, place: 0 }))
+}
+
+fn random_bytes(_: Message, random: &mut Random) -> Option<(Vec<u8>, Known)> {
+    let length = random.between(0, 120);
+    let bytes = match random.below(3) {
+        0 => (0..length).map(|_| random.next() as u8).collect(),
+        1 => random.bytes(b"<>/? Dx!", length),
+        _ => random.bytes(b" \t\r\n<", length),
+    };
+    Some((bytes, Known::Bad))
+}
+
+/// Parts of a message in any order.
+fn pieces(message: Message, random: &mut Random) -> Option<(Vec<u8>, Known)> {
+    let start = random.below(message.parts.len());
+    let mut parts = message.parts[..start].to_vec();
+    for _ in 0..random.between(1, 6) {
+        parts.push(message.parts[random.below(message.parts.len())].clone());
+    }
+    Some((concat(&parts), Known::Nothing))
+}
+
+/// Two damages: a replaced value and an edit of bytes, the first met decides.
+fn two_damages(mut message: Message, random: &mut Random) -> Option<(Vec<u8>, Known)> {
+    for _ in 0..2 {
+        let part = pick(&message.parts_that(is_value), random)?;
+        message.parts[part].bytes = value::near(kind_of(&message.parts[part]), random);
+    }
+    let tag = pick(&message.parts_that(is_tag), random)?;
+    value::edit(&mut message.parts[tag].bytes, random);
+    Some((message.bytes(), Known::Nothing))
+}
+
+/// The small messages that are swept: one with everything optional, in white space, behind a
+/// declaration; one without.
+fn small_messages(seed: u64) -> [Message; 2] {
+    [(Spacing::Some, true), (Spacing::None, false)].map(|(spacing, full)| {
+        let random = &mut Random::new(seed, u64::MAX - u64::from(full));
+        let items = if full { 1 } else { 2 };
+        let plan = Plan { items, spacing, small: true, declaration: full, optional: Some(full) };
+        accepted(&plan, random)
+    })
+}
+
+/// Every byte of two small messages cut, deleted, doubled, changed and preceded by another, and
+/// every part dropped, doubled, swapped with the next, and replaced by a bracket. `each` gets the
+/// number of the case too, and the sweep's length is answered.
+pub fn sweep(seed: u64, mut each: impl FnMut(u64, Case)) -> u64 {
+    let mut number = 0;
+    let mut give = |bytes: Vec<u8>, damage: &'static str, known: Known| {
+        each(number, Case { bytes, damage, known, items: Vec::new(), records: Vec::new() });
+        number += 1;
+    };
+    for message in small_messages(seed) {
+        let bytes = message.bytes();
+        for length in 0..=bytes.len() {
+            let (bytes, known) = cut_to(&message, length);
+            give(bytes, "sweep: cut", known);
+        }
+        for at in 0..bytes.len() {
+            let mut less = bytes.clone();
+            less.remove(at);
+            give(less, "sweep: byte deleted", Known::Nothing);
+            let mut more = bytes.clone();
+            more.insert(at, bytes[at]);
+            give(more, "sweep: byte doubled", Known::Nothing);
+            let old = bytes[at];
+            for new in [
+                b'<',
+                b'>',
+                b'/',
+                b' ',
+                b'\n',
+                0,
+                0xE9,
+                b'A',
+                b'0',
+                b'"',
+                old ^ 0x20,
+                old.wrapping_add(1),
+                old.wrapping_sub(1),
+            ] {
+                if new != old {
+                    let mut other = bytes.clone();
+                    other[at] = new;
+                    let known = if new == 0 || new > 127 { Known::Bad } else { Known::Nothing };
+                    give(other, "sweep: byte changed", known);
+                }
+            }
+        }
+        for at in 0..=bytes.len() {
+            for new in [b' ', b'<', b'A', b'1', 0] {
+                let mut more = bytes.clone();
+                more.insert(at, new);
+                let known = if matches!(new, 0 | b'<') { Known::Bad } else { Known::Nothing };
+                give(more, "sweep: byte inserted", known);
+            }
+        }
+        for at in 0..message.parts.len() {
+            let mut less = message.parts.clone();
+            let part = less.remove(at);
+            give(concat(&less), "sweep: part dropped", Known::Nothing);
+            less.insert(at, part.clone());
+            less.insert(at, part);
+            give(concat(&less), "sweep: part doubled", Known::Nothing);
+            let mut other = message.parts.clone();
+            other[at].bytes = b"<".to_vec();
+            give(concat(&other), "sweep: part a bracket", Known::Nothing);
+            if at > 0 {
+                let mut other = message.parts.clone();
+                other.swap(at - 1, at);
+                give(concat(&other), "sweep: parts swapped", Known::Nothing);
+            }
+        }
+    }
+    number
+}
+
+/// Messages at the limits of length and of items, with what is known of each.
+pub fn limits(mut each: impl FnMut(u64, Case)) {
+    const LONGEST: usize = 16_777_216;
+    let mut number = 0;
+    let mut give = |bytes: Vec<u8>, damage: &'static str, known: Known| {
+        each(number, Case { bytes, damage, known, items: Vec::new(), records: Vec::new() });
+        number += 1;
+    };
+    let plan = |items| Plan {
+        items,
+        spacing: Spacing::None,
+        small: true,
+        declaration: true,
+        optional: Some(false),
+    };
+    let one = accepted(&plan(1), &mut Random::new(1, 1));
+    for (length, known) in [
+        (LONGEST - 1, fine(&one)),
+        (LONGEST, fine(&one)),
+        (LONGEST + 1, Known::Refused { number: 1, place: 0 }),
+    ] {
+        let mut bytes = one.bytes();
+        bytes.resize(length, b'\n');
+        give(bytes, "limits: white space at the end", known);
+    }
+    for (length, known) in [
+        (LONGEST, Known::Refused { number: 2, place: 0 }),
+        (LONGEST + 1, Known::Refused { number: 1, place: 0 }),
+    ] {
+        give(vec![0; length], "limits: NUL", known);
+    }
+    for (length, known) in [
+        (LONGEST, Known::Refused { number: 3, place: LONGEST }),
+        (LONGEST + 1, Known::Refused { number: 1, place: 0 }),
+    ] {
+        give(vec![b' '; length], "limits: white space", known);
+    }
+
+    let most = accepted(&plan(10_000), &mut Random::new(1, 2));
+    give(most.bytes(), "limits: 10,000 items", fine(&most));
+    let (last, after) = most.items[9999];
+    let place = most.place(after);
+    let before = concat(&most.parts[..after]);
+    for (more, known) in [
+        ("", (3, place)),
+        (" <DrctDbtTxInf", (3, place + 14)),
+        (" <DrctDbtTxInf>", (12, place + 1)),
+        (" <DrctDbtTxInf>_", (12, place + 1)),
+        (" <DrctDbtTxInf/>", (4, place + 1)),
+    ] {
+        let bytes = [&before, more.as_bytes()].concat();
+        let known = Known::Refused { number: known.0, place: known.1 };
+        give(bytes, "limits: item 10,001 begins", known);
+    }
+    let mut more = most.clone();
+    more.parts.splice(after..after, most.parts[last..after].to_vec());
+    give(more.bytes(), "limits: 10,001 items", Known::Refused { number: 12, place });
+    let random = &mut Random::new(1, 3);
+    let mut cut = 0;
+    while cut < 3 {
+        let length = random.between(before.len() - 2000, before.len());
+        let (bytes, known) = cut_to(&most, length);
+        give(bytes, "limits: 10,000 items, cut", known);
+        cut += 1;
+    }
+}

@@ -1,0 +1,91 @@
+//! The C face of the library under test. The only module with unsafe code; its functions are safe:
+//! each lends a slice for the call, and three words for the answer.
+
+#![allow(unsafe_code)]
+
+use crate::value::Kind;
+
+/// The three words of an answer.
+pub type Words = [u64; 3];
+
+type Checker = unsafe extern "C" fn(*const u8, usize, *mut u64);
+
+extern "C" {
+    fn bulk_iban(p: *const u8, n: usize, answer: *mut u64);
+    fn bulk_creditor_id(p: *const u8, n: usize, answer: *mut u64);
+    fn bulk_bic(p: *const u8, n: usize, answer: *mut u64);
+    fn bulk_date(p: *const u8, n: usize, answer: *mut u64);
+    fn bulk_time(p: *const u8, n: usize, answer: *mut u64);
+    fn bulk_reference(p: *const u8, n: usize, answer: *mut u64);
+    fn bulk_text70(p: *const u8, n: usize, answer: *mut u64);
+    fn bulk_text140(p: *const u8, n: usize, answer: *mut u64);
+    fn bulk_count(p: *const u8, n: usize, answer: *mut u64);
+    fn bulk_item_amount(p: *const u8, n: usize, answer: *mut u64);
+    fn bulk_header_amount(p: *const u8, n: usize, answer: *mut u64);
+    #[cfg(feature = "messages")]
+    fn bulk_judge(p: *const u8, n: usize, answer: *mut u64);
+    #[cfg(feature = "messages")]
+    fn bulk_item(p: *const u8, n: usize, i: u64, answer: *mut u64);
+    #[cfg(feature = "records")]
+    fn bulk_records(p: *const u8, n: usize, area: *mut u8, area_len: usize, answer: *mut u64);
+}
+
+/// What the words hold before the call; no answer has it.
+const UNWRITTEN: Words = [u64::MAX; 3];
+
+/// The single checker of a kind: `0, number or cents, 0`, or `number, 0, 0`.
+pub fn check(kind: Kind, value: &[u8]) -> Words {
+    let checker: Checker = match kind {
+        Kind::Iban => bulk_iban,
+        Kind::CreditorId => bulk_creditor_id,
+        Kind::Bic => bulk_bic,
+        Kind::Date => bulk_date,
+        Kind::Time => bulk_time,
+        Kind::Reference => bulk_reference,
+        Kind::Text70 => bulk_text70,
+        Kind::Text140 => bulk_text140,
+        Kind::Count => bulk_count,
+        Kind::ItemAmount => bulk_item_amount,
+        Kind::HeaderAmount => bulk_header_amount,
+        Kind::Code(_) => panic!("a code has no single checker"),
+    };
+    let mut answer = UNWRITTEN;
+    // SAFETY: the value is lent for the call, the answer is three words.
+    unsafe { checker(value.as_ptr(), value.len(), answer.as_mut_ptr()) };
+    answer
+}
+
+/// The judge: `0, count, cents`, or `number, place, 0`.
+#[cfg(feature = "messages")]
+pub fn judge(message: &[u8]) -> Words {
+    let mut answer = UNWRITTEN;
+    // SAFETY: the message is lent for the call, the answer is three words.
+    unsafe { bulk_judge(message.as_ptr(), message.len(), answer.as_mut_ptr()) };
+    answer
+}
+
+/// Where item `i` lies: `0, start, end`, or `number, place, 0`.
+#[cfg(feature = "messages")]
+pub fn item(message: &[u8], i: u64) -> Words {
+    let mut answer = UNWRITTEN;
+    // SAFETY: the message is lent for the call, the answer is three words.
+    unsafe { bulk_item(message.as_ptr(), message.len(), i, answer.as_mut_ptr()) };
+    answer
+}
+
+/// The records: `0, count, cents` and the area written, or `number, place, 0` and the area as lent.
+#[cfg(feature = "records")]
+pub fn records(message: &[u8], area: &mut [u8]) -> Words {
+    let mut answer = UNWRITTEN;
+    // SAFETY: the message is lent for the call, the area mutably so, the answer is three words.
+    unsafe {
+        bulk_records(
+            message.as_ptr(),
+            message.len(),
+            area.as_mut_ptr(),
+            area.len(),
+            answer.as_mut_ptr(),
+        )
+    };
+    answer
+}

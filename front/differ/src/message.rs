@@ -1,0 +1,343 @@
+//! Accepted messages, in parts that a damage can take hold of, with what is known of them.
+
+use crate::random::Random;
+use crate::value::{self, Kind, WHITE};
+
+#[derive(Clone, Copy, Debug, PartialEq, Eq)]
+pub enum What {
+    Declaration,
+    White,
+    Start,
+    End,
+    Value(Kind),
+}
+
+/// A run of bytes: the declaration, white space, one tag, or one value.
+#[derive(Clone, Debug)]
+pub struct Part {
+    pub what: What,
+    /// The element's name, for a tag and for a value.
+    pub name: &'static str,
+    pub bytes: Vec<u8>,
+}
+
+/// An accepted message.
+#[derive(Clone)]
+pub struct Message {
+    pub parts: Vec<Part>,
+    pub count: u64,
+    pub cents: u64,
+    /// Each item: its first part and the part after its last.
+    pub items: Vec<(usize, usize)>,
+    /// Each item's record, made from its values beside the message.
+    pub records: Vec<Vec<u8>>,
+}
+
+/// How white space stands between tags.
+#[derive(Clone, Copy, PartialEq, Eq)]
+pub enum Spacing {
+    None,
+    /// Now and then, some bytes of the four kinds.
+    Some,
+    /// Wherever it may stand.
+    Everywhere,
+    /// A new line and the depth.
+    Indented,
+}
+
+/// What a message is to be made like.
+pub struct Plan {
+    pub items: usize,
+    pub spacing: Spacing,
+    /// Short values, for a small message.
+    pub small: bool,
+    pub declaration: bool,
+    /// InstrId and RmtInf: always, never, or by chance.
+    pub optional: Option<bool>,
+}
+
+impl Plan {
+    /// A plan by chance, with at most so many items.
+    pub fn by_chance(random: &mut Random, most_items: usize) -> Plan {
+        let items = match random.below(16) {
+            0..=6 => 1,
+            7..=10 => 2,
+            11..=14 => random.between(1, most_items.min(6)),
+            _ => random.between(1, most_items),
+        };
+        let spacing = match random.below(6) {
+            0 => Spacing::Some,
+            1 => Spacing::Everywhere,
+            2 => Spacing::Indented,
+            _ => Spacing::None,
+        };
+        Plan { items, spacing, small: false, declaration: random.once_in(2), optional: None }
+    }
+}
+
+pub const ROOT: &str = r#"<Document xmlns="urn:iso:std:iso:20022:tech:xsd:pacs.003.001.02">"#;
+pub const DECLARATION: &str = r#"<?xml version="1.0" encoding="UTF-8"?>"#;
+
+const METHODS: Kind = Kind::Code(&["CLRG"]);
+const SEPA: Kind = Kind::Code(&["SEPA"]);
+pub const INSTRUMENTS: Kind = Kind::Code(&["CORE", "B2B"]);
+const SEQUENCES: Kind = Kind::Code(&["FRST", "RCUR", "FNAL", "OOFF"]);
+const BEARERS: Kind = Kind::Code(&["SLEV"]);
+
+struct Writer<'r> {
+    random: &'r mut Random,
+    spacing: Spacing,
+    small: bool,
+    depth: usize,
+    parts: Vec<Part>,
+}
+
+impl Writer<'_> {
+    fn part(&mut self, what: What, name: &'static str, bytes: Vec<u8>) {
+        self.parts.push(Part { what, name, bytes });
+    }
+
+    fn white(&mut self) {
+        let bytes = match self.spacing {
+            Spacing::None => return,
+            Spacing::Some if !self.random.once_in(6) => return,
+            Spacing::Some | Spacing::Everywhere => {
+                let length = self.random.length(1, 5);
+                self.random.bytes(WHITE, length)
+            }
+            Spacing::Indented => format!("\n{}", "  ".repeat(self.depth)).into_bytes(),
+        };
+        self.part(What::White, "", bytes);
+    }
+
+    fn open(&mut self, name: &'static str) {
+        self.white();
+        self.depth += 1;
+        self.part(What::Start, name, format!("<{name}>").into_bytes());
+    }
+
+    fn close(&mut self, name: &'static str) {
+        self.depth -= 1;
+        self.white();
+        self.part(What::End, name, format!("</{name}>").into_bytes());
+    }
+
+    fn group(&mut self, name: &'static str, inside: impl FnOnce(&mut Self)) {
+        self.open(name);
+        inside(self);
+        self.close(name);
+    }
+
+    /// An element with these bytes as its value.
+    fn given(&mut self, name: &'static str, kind: Kind, bytes: &[u8]) {
+        self.white();
+        let start = match kind {
+            Kind::ItemAmount | Kind::HeaderAmount => format!("<{name} Ccy=\"EUR\">"),
+            _ => format!("<{name}>"),
+        };
+        self.part(What::Start, name, start.into_bytes());
+        self.part(What::Value(kind), name, bytes.to_vec());
+        self.part(What::End, name, format!("</{name}>").into_bytes());
+    }
+
+    /// An element with a value of this kind, which is answered.
+    fn element(&mut self, name: &'static str, kind: Kind) -> Vec<u8> {
+        let mut bytes = value::valid(kind, self.random).bytes;
+        while self.small && bytes.len() > short(kind) {
+            bytes = value::valid(kind, self.random).bytes;
+        }
+        self.given(name, kind, &bytes);
+        bytes
+    }
+
+    fn agent(&mut self, name: &'static str) -> Vec<u8> {
+        self.open(name);
+        self.open("FinInstnId");
+        let bic = self.element("BIC", Kind::Bic);
+        self.close("FinInstnId");
+        self.close(name);
+        bic
+    }
+
+    fn account(&mut self, name: &'static str) -> Vec<u8> {
+        self.open(name);
+        self.open("Id");
+        let iban = self.element("IBAN", Kind::Iban);
+        self.close("Id");
+        self.close(name);
+        iban
+    }
+
+    fn code(&mut self, name: &'static str, kind: Kind, bytes: &[u8]) {
+        self.group(name, |w| w.given("Cd", kind, bytes));
+    }
+
+    /// One item; answers its record.
+    fn item(&mut self, cents: u64, instrument: &[u8], optional: (bool, bool)) -> Vec<u8> {
+        self.open("DrctDbtTxInf");
+
+        self.open("PmtId");
+        if optional.0 {
+            self.element("InstrId", Kind::Reference);
+        }
+        let end_to_end = self.element("EndToEndId", Kind::Reference);
+        let transaction = self.element("TxId", Kind::Reference);
+        self.close("PmtId");
+
+        self.open("PmtTpInf");
+        self.code("SvcLvl", SEPA, b"SEPA");
+        self.code("LclInstrm", INSTRUMENTS, instrument);
+        let sequence = self.element("SeqTp", SEQUENCES);
+        self.close("PmtTpInf");
+
+        let amount = value::amount(cents, self.random);
+        self.given("IntrBkSttlmAmt", Kind::ItemAmount, &amount);
+        self.element("ChrgBr", BEARERS);
+        let date = self.element("ReqdColltnDt", Kind::Date);
+
+        self.open("DrctDbtTx");
+        self.open("MndtRltdInf");
+        let mandate = self.element("MndtId", Kind::Reference);
+        self.element("DtOfSgntr", Kind::Date);
+        self.close("MndtRltdInf");
+        self.open("CdtrSchmeId");
+        self.open("Id");
+        self.open("PrvtId");
+        self.open("Othr");
+        let identifier = self.element("Id", Kind::CreditorId);
+        self.group("SchmeNm", |w| drop(w.element("Prtry", SEPA)));
+        self.close("Othr");
+        self.close("PrvtId");
+        self.close("Id");
+        self.close("CdtrSchmeId");
+        self.close("DrctDbtTx");
+
+        self.group("Cdtr", |w| drop(w.element("Nm", Kind::Text70)));
+        let creditor_iban = self.account("CdtrAcct");
+        let creditor_bic = self.agent("CdtrAgt");
+        self.group("Dbtr", |w| drop(w.element("Nm", Kind::Text70)));
+        let debtor_iban = self.account("DbtrAcct");
+        let debtor_bic = self.agent("DbtrAgt");
+        if optional.1 {
+            self.group("RmtInf", |w| drop(w.element("Ustrd", Kind::Text140)));
+        }
+        self.close("DrctDbtTxInf");
+
+        let mut record = Vec::with_capacity(256);
+        for (field, width) in [
+            (transaction, 35),
+            (end_to_end, 35),
+            (mandate, 35),
+            (debtor_iban, 34),
+            (creditor_iban, 34),
+            (debtor_bic, 11),
+            (format!("{cents:011}").into_bytes(), 11),
+            (date, 10),
+            (sequence, 4),
+            (identifier, 35),
+            (creditor_bic, 11),
+        ] {
+            let end = record.len() + width;
+            record.extend(field);
+            record.resize(end, b' ');
+        }
+        record.push(b'\n');
+        record
+    }
+}
+
+/// The length of a short value.
+fn short(kind: Kind) -> usize {
+    match kind {
+        Kind::Iban => 22,
+        Kind::CreditorId => 18,
+        Kind::Time => 29,
+        Kind::Date | Kind::Bic | Kind::Code(_) => 11,
+        _ => 4,
+    }
+}
+
+/// An accepted message by this plan.
+pub fn accepted(plan: &Plan, random: &mut Random) -> Message {
+    let mut writer =
+        Writer { random, spacing: plan.spacing, small: plan.small, depth: 0, parts: Vec::new() };
+    let w = &mut writer;
+    let amounts: Vec<u64> = (0..plan.items)
+        .map(|_| if plan.small { w.random.worth(1, 9999) } else { value::item_cents(w.random) })
+        .collect();
+    let cents = amounts.iter().sum();
+
+    if plan.declaration {
+        w.part(What::Declaration, "", DECLARATION.into());
+    }
+    w.white();
+    w.depth += 1;
+    w.part(What::Start, "Document", ROOT.into());
+    w.open("FIToFICstmrDrctDbt");
+
+    w.open("GrpHdr");
+    w.element("MsgId", Kind::Reference);
+    w.element("CreDtTm", Kind::Time);
+    let number = match plan.small {
+        true => plan.items.to_string().into_bytes(),
+        false => value::with_zeros(plan.items as u64, w.random),
+    };
+    w.given("NbOfTxs", Kind::Count, &number);
+    let total = value::amount(cents, w.random);
+    w.given("TtlIntrBkSttlmAmt", Kind::HeaderAmount, &total);
+    w.element("IntrBkSttlmDt", Kind::Date);
+    w.group("SttlmInf", |w| drop(w.element("SttlmMtd", METHODS)));
+    w.agent("InstgAgt");
+    w.close("GrpHdr");
+
+    let instrument = value::valid(INSTRUMENTS, w.random).bytes;
+    let mut items = Vec::new();
+    let mut records = Vec::new();
+    for cents in amounts {
+        let first = w.parts.len();
+        let mut by_chance = || plan.optional.unwrap_or_else(|| w.random.once_in(2));
+        let optional = (by_chance(), by_chance());
+        records.push(w.item(cents, &instrument, optional));
+        let start = first + usize::from(w.parts[first].what == What::White);
+        items.push((start, w.parts.len()));
+    }
+
+    w.close("FIToFICstmrDrctDbt");
+    w.close("Document");
+    w.white();
+    Message { parts: writer.parts, count: plan.items as u64, cents, items, records }
+}
+
+impl Message {
+    pub fn bytes(&self) -> Vec<u8> {
+        concat(&self.parts)
+    }
+
+    /// The place of a part's first byte.
+    pub fn place(&self, part: usize) -> usize {
+        self.parts[..part].iter().map(|part| part.bytes.len()).sum()
+    }
+
+    /// Where each item lies.
+    pub fn item_places(&self) -> Vec<(usize, usize)> {
+        let mut places = vec![0];
+        for part in &self.parts {
+            places.push(places.last().unwrap() + part.bytes.len());
+        }
+        self.items.iter().map(|&(first, after)| (places[first], places[after])).collect()
+    }
+
+    /// The parts that are so.
+    pub fn parts_that(&self, are: impl Fn(&Part) -> bool) -> Vec<usize> {
+        (0..self.parts.len()).filter(|&at| are(&self.parts[at])).collect()
+    }
+
+    /// The part that is the value of the header's element of this name.
+    pub fn header_value(&self, name: &str) -> usize {
+        self.parts_that(|part| matches!(part.what, What::Value(_)) && part.name == name)[0]
+    }
+}
+
+pub fn concat(parts: &[Part]) -> Vec<u8> {
+    parts.iter().flat_map(|part| part.bytes.iter().copied()).collect()
+}

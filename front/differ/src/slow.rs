@@ -1,0 +1,512 @@
+//! A second judge of the profile, slow and made in another way: the elements are a table that is
+//! read as text, every tag is a pattern, and every kind is judged by templates and wide numbers.
+//! `plain` is held against it.
+
+use crate::value::Kind;
+
+/// The paper's indented order. `?` 0 or 1, `+` 1 or more; `=` and the kind for a value.
+const TABLE: &str = "
+FIToFICstmrDrctDbt
+  GrpHdr
+    MsgId = reference
+    CreDtTm = time
+    NbOfTxs = count
+    TtlIntrBkSttlmAmt = header-amount
+    IntrBkSttlmDt = date
+    SttlmInf
+      SttlmMtd = CLRG
+    InstgAgt
+      FinInstnId
+        BIC = bic
+  DrctDbtTxInf +
+    PmtId
+      InstrId ? = reference
+      EndToEndId = reference
+      TxId = reference
+    PmtTpInf
+      SvcLvl
+        Cd = SEPA
+      LclInstrm
+        Cd = CORE B2B
+      SeqTp = FRST RCUR FNAL OOFF
+    IntrBkSttlmAmt = item-amount
+    ChrgBr = SLEV
+    ReqdColltnDt = date
+    DrctDbtTx
+      MndtRltdInf
+        MndtId = reference
+        DtOfSgntr = date
+      CdtrSchmeId
+        Id
+          PrvtId
+            Othr
+              Id = creditor-id
+              SchmeNm
+                Prtry = SEPA
+    Cdtr
+      Nm = text70
+    CdtrAcct
+      Id
+        IBAN = iban
+    CdtrAgt
+      FinInstnId
+        BIC = bic
+    Dbtr
+      Nm = text70
+    DbtrAcct
+      Id
+        IBAN = iban
+    DbtrAgt
+      FinInstnId
+        BIC = bic
+    RmtInf ?
+      Ustrd = text140
+";
+
+struct Node {
+    name: &'static str,
+    least: usize,
+    most: usize,
+    /// Of a value: its kind, or the codes listed.
+    value: Option<&'static str>,
+    children: Vec<Node>,
+}
+
+/// The table as a tree.
+pub struct Slow {
+    top: Vec<Node>,
+}
+
+fn nodes(lines: &mut std::iter::Peekable<std::str::Lines<'static>>, depth: usize) -> Vec<Node> {
+    let mut nodes = Vec::new();
+    while let Some(line) = lines.peek() {
+        let text = line.trim_start();
+        if line.len() - text.len() != 2 * depth {
+            break;
+        }
+        lines.next();
+        let (name, value) = match text.split_once(" = ") {
+            Some((name, value)) => (name, Some(value)),
+            None => (text, None),
+        };
+        let (name, least, most) = match name.split_once(' ') {
+            Some((name, "?")) => (name, 0, 1),
+            Some((name, _)) => (name, 1, usize::MAX),
+            None => (name, 1, 1),
+        };
+        let children = nodes_below(lines, depth, value.is_none());
+        nodes.push(Node { name, least, most, value, children });
+    }
+    nodes
+}
+
+fn nodes_below(
+    lines: &mut std::iter::Peekable<std::str::Lines<'static>>,
+    depth: usize,
+    group: bool,
+) -> Vec<Node> {
+    if group {
+        nodes(lines, depth + 1)
+    } else {
+        Vec::new()
+    }
+}
+
+type Refusal = (u8, usize);
+
+/// A tag as a pattern: `^` stands for any capital (no tag has that byte).
+fn fits(pattern: &str, byte: u8, at: usize) -> bool {
+    match pattern.as_bytes()[at] {
+        b'^' => (b'A'..=b'Z').contains(&byte),
+        fixed => fixed == byte,
+    }
+}
+
+struct Run<'m> {
+    message: &'m [u8],
+    at: usize,
+    count: (u64, usize),
+    total: (u64, usize),
+    items: Vec<(usize, usize)>,
+    sum: u128,
+    instrument: Option<Vec<u8>>,
+    /// The names of the groups that are open.
+    path: Vec<&'static str>,
+}
+
+impl Run<'_> {
+    /// Which of the patterns stands here; `number` where none does.
+    fn choose(&mut self, patterns: &[String], number: u8) -> Result<usize, Refusal> {
+        let left = &self.message[self.at..];
+        let mut ends = false;
+        for (which, pattern) in patterns.iter().enumerate() {
+            let shared = (0..pattern.len().min(left.len())).all(|at| fits(pattern, left[at], at));
+            if shared && left.len() >= pattern.len() {
+                self.at += pattern.len();
+                return Ok(which);
+            }
+            ends |= shared;
+        }
+        Err(if ends { (3, self.message.len()) } else { (number, self.at) })
+    }
+
+    fn white(&mut self) {
+        while self.at < self.message.len() && b" \t\r\n".contains(&self.message[self.at]) {
+            self.at += 1;
+        }
+    }
+
+    fn children(&mut self, children: &[Node], end: &str) -> Result<(), Refusal> {
+        let mut had = vec![0usize; children.len()];
+        let mut child = 0;
+        loop {
+            // Every tag that may come: this child again, a later one when those between may be
+            // left out, the end when all that must have come have.
+            let mut patterns = Vec::new();
+            let mut which = Vec::new();
+            let mut may_end = true;
+            for at in child..children.len() {
+                if had[at] < children[at].most {
+                    patterns.push(start_tag(&children[at]));
+                    which.push(at);
+                }
+                if had[at] < children[at].least {
+                    may_end = false;
+                    break;
+                }
+            }
+            if may_end {
+                patterns.push(format!("</{end}>"));
+            }
+            self.white();
+            let place = self.at;
+            let chosen = self.choose(&patterns, 4)?;
+            if chosen == which.len() {
+                return Ok(());
+            }
+            child = which[chosen];
+            had[child] += 1;
+            self.element(&children[child], place)?;
+        }
+    }
+
+    /// An element, its start tag at `place` just taken.
+    fn element(&mut self, node: &Node, place: usize) -> Result<(), Refusal> {
+        if matches!(node.value, Some("item-amount" | "header-amount")) {
+            let currency = self.at - 5;
+            if &self.message[currency..currency + 3] != b"EUR" {
+                return Err((6, currency));
+            }
+        }
+        if node.name == "DrctDbtTxInf" && self.items.len() == 10_000 {
+            return Err((12, place));
+        }
+        match node.value {
+            Some(kind) => self.value(node.name, kind)?,
+            None => {
+                self.path.push(node.name);
+                self.children(&node.children, node.name)?;
+                self.path.pop();
+            }
+        }
+        if node.name == "DrctDbtTxInf" {
+            self.items.push((place, self.at));
+        }
+        Ok(())
+    }
+
+    fn value(&mut self, name: &str, kind: &str) -> Result<(), Refusal> {
+        let place = self.at;
+        let Some(length) = self.message[place..].iter().position(|&b| b == b'<') else {
+            return Err((3, self.message.len()));
+        };
+        let bytes = &self.message[place..place + length];
+        let worth = match checker(kind) {
+            Some(check) => check(bytes).map_err(|number| (number, place))?,
+            None if kind.split(' ').any(|code| code.as_bytes() == bytes) => 0,
+            None => return Err((10, place)),
+        };
+        match name {
+            "NbOfTxs" => self.count = (worth, place),
+            "TtlIntrBkSttlmAmt" => self.total = (worth, place),
+            "Cd" if self.path.last() == Some(&"LclInstrm") => {
+                let first = self.instrument.get_or_insert_with(|| bytes.to_vec());
+                if first.as_slice() != bytes {
+                    return Err((11, place));
+                }
+            }
+            "IntrBkSttlmAmt" => {
+                self.sum += u128::from(worth);
+                if self.sum > 99_999_999_999_999_999 {
+                    return Err((13, place));
+                }
+            }
+            _ => {}
+        }
+        self.at = place + length;
+        self.choose(&[format!("</{name}>")], 4)?;
+        Ok(())
+    }
+}
+
+fn start_tag(node: &Node) -> String {
+    match node.value {
+        Some("item-amount" | "header-amount") => format!("<{} Ccy=\"^^^\">", node.name),
+        _ => format!("<{}>", node.name),
+    }
+}
+
+/// What the slow judge answers: count, cents and the items' places.
+pub type Answer = Result<(u64, u64, Vec<(usize, usize)>), Refusal>;
+
+impl Default for Slow {
+    fn default() -> Self {
+        Slow::new()
+    }
+}
+
+impl Slow {
+    pub fn new() -> Slow {
+        let mut lines = TABLE.trim_matches('\n').lines().peekable();
+        let top = nodes(&mut lines, 0);
+        assert!(lines.next().is_none());
+        Slow { top }
+    }
+
+    pub fn judge(&self, message: &[u8]) -> Answer {
+        if message.len() > 16 << 20 {
+            return Err((1, 0));
+        }
+        let mut run = Run {
+            message,
+            at: 0,
+            count: (0, 0),
+            total: (0, 0),
+            items: Vec::new(),
+            sum: 0,
+            instrument: None,
+            path: Vec::new(),
+        };
+        if message.len() >= 2 && &message[..2] == b"<?" {
+            run.choose(&["<?xml version=\"1.0\" encoding=\"UTF-8\"?>".to_string()], 2)?;
+        }
+        run.white();
+        let root = "<Document xmlns=\"urn:iso:std:iso:20022:tech:xsd:pacs.003.001.02\">";
+        run.choose(&[root.to_string()], 2)?;
+        run.children(&self.top, "Document")?;
+        run.white();
+        if run.at < message.len() {
+            return Err((16, run.at));
+        }
+        if run.count.0 != run.items.len() as u64 {
+            return Err((14, run.count.1));
+        }
+        if u128::from(run.total.0) != run.sum {
+            return Err((15, run.total.1));
+        }
+        Ok((run.items.len() as u64, run.total.0, run.items))
+    }
+}
+
+type Checker = fn(&[u8]) -> Result<u64, u8>;
+
+fn checker(kind: &str) -> Option<Checker> {
+    Some(match kind {
+        "reference" => reference,
+        "text70" => |v| text(v, 70),
+        "text140" => |v| text(v, 140),
+        "date" => |v| date(v).then_some(0).ok_or(7),
+        "time" => time,
+        "count" => count,
+        "item-amount" => |v| amount(v, 99_999_999_999),
+        "header-amount" => |v| amount(v, 99_999_999_999_999_999),
+        "bic" => bic,
+        "iban" => iban,
+        "creditor-id" => creditor_id,
+        _ => return None,
+    })
+}
+
+/// The single checker of a kind.
+pub fn check(kind: Kind, value: &[u8]) -> Result<u64, u8> {
+    let name = match kind {
+        Kind::Iban => "iban",
+        Kind::CreditorId => "creditor-id",
+        Kind::Bic => "bic",
+        Kind::Date => "date",
+        Kind::Time => "time",
+        Kind::Reference => "reference",
+        Kind::Text70 => "text70",
+        Kind::Text140 => "text140",
+        Kind::Count => "count",
+        Kind::ItemAmount => "item-amount",
+        Kind::HeaderAmount => "header-amount",
+        Kind::Code(_) => panic!("a code has no single checker"),
+    };
+    checker(name).expect("each kind has one")(value)
+}
+
+const SIGNS: &[u8] = b"/-?:().,'+";
+
+/// Whether each byte is of the class that the template's byte names: `A` capital, `9` digit, `X`
+/// capital or digit, `x` letter or digit, `r` reference set, `T` A-Z 2-9, `L` A-N P-Z 0-9; after a
+/// backslash, and otherwise, the byte itself.
+fn like(value: &[u8], template: &str) -> bool {
+    let mut at = 0;
+    let mut template = template.bytes();
+    while let Some(class) = template.next() {
+        let Some(&byte) = value.get(at) else { return false };
+        let capital = (65..=90).contains(&byte);
+        let small = (97..=122).contains(&byte);
+        let digit = (48..=57).contains(&byte);
+        let is = match class {
+            b'A' => capital,
+            b'9' => digit,
+            b'X' => capital || digit,
+            b'x' => capital || small || digit,
+            b'r' => capital || small || digit || SIGNS.contains(&byte),
+            b'T' => capital || (50..=57).contains(&byte),
+            b'L' => (capital && byte != 79) || digit,
+            b'\\' => template.next() == Some(byte),
+            other => byte == other,
+        };
+        if !is {
+            return false;
+        }
+        at += 1;
+    }
+    at == value.len()
+}
+
+fn number(digits: &[u8]) -> u128 {
+    std::str::from_utf8(digits).unwrap().parse().unwrap()
+}
+
+fn reference(value: &[u8]) -> Result<u64, u8> {
+    let holds = (1..=35).contains(&value.len())
+        && like(value, &"r".repeat(value.len()))
+        && value[0] != b'/'
+        && value[value.len() - 1] != b'/'
+        && !value.windows(2).any(|two| two == b"//");
+    holds.then_some(0).ok_or(7)
+}
+
+fn text(value: &[u8], longest: usize) -> Result<u64, u8> {
+    if value.is_empty() || value.len() > longest || value[0] == 32 {
+        return Err(7);
+    }
+    let without: Vec<u8> = value.iter().copied().filter(|&b| b != 32).collect();
+    like(&without, &"r".repeat(without.len())).then_some(0).ok_or(7)
+}
+
+/// The day's number, and back: only a real day comes back as itself.
+fn date(value: &[u8]) -> bool {
+    if !like(value, "9999-99-99") {
+        return false;
+    }
+    let (y, m, d) =
+        (number(&value[..4]) as i64, number(&value[5..7]) as i64, number(&value[8..]) as i64);
+    if y == 0 {
+        return false;
+    }
+    let shifted = if m <= 2 { y - 1 } else { y };
+    let era = shifted.div_euclid(400);
+    let of_era = shifted - era * 400;
+    let of_year = (153 * (if m > 2 { m - 3 } else { m + 9 }) + 2) / 5 + d - 1;
+    let day = era * 146_097 + of_era * 365 + of_era / 4 - of_era / 100 + of_year;
+    // And back.
+    let era = day.div_euclid(146_097);
+    let of_cycle = day - era * 146_097;
+    let year = (of_cycle - of_cycle / 1460 + of_cycle / 36_524 - of_cycle / 146_096) / 365;
+    let of_year = of_cycle - (365 * year + year / 4 - year / 100);
+    let month = (5 * of_year + 2) / 153;
+    let day = of_year - (153 * month + 2) / 5 + 1;
+    let month_back = if month < 10 { month + 3 } else { month - 9 };
+    let year_back = year + era * 400 + i64::from(month_back <= 2);
+    (year_back, month_back, day) == (y, m, d)
+}
+
+fn time(value: &[u8]) -> Result<u64, u8> {
+    for fraction in ["", ".999"] {
+        for zone in ["", "Z", "+99:99", "-99:99"] {
+            let template = format!("9999-99-99\\T99:99:99{fraction}{zone}");
+            if !like(value, &template) {
+                continue;
+            }
+            let two = |at: usize| number(&value[at..at + 2]);
+            let end = value.len();
+            let zone_holds = zone.len() < 6
+                || (two(end - 2) < 60
+                    && (two(end - 5) < 14 || (two(end - 5) == 14 && two(end - 2) == 0)));
+            let holds = date(&value[..10]) && two(11) < 24 && two(14) < 60 && two(17) < 60;
+            return (holds && zone_holds).then_some(0).ok_or(7);
+        }
+    }
+    Err(7)
+}
+
+fn count(value: &[u8]) -> Result<u64, u8> {
+    if value.is_empty() || value.len() > 15 || !like(value, &"9".repeat(value.len())) {
+        return Err(7);
+    }
+    Ok(number(value) as u64)
+}
+
+fn amount(value: &[u8], most: u128) -> Result<u64, u8> {
+    for whole in 1..=15 {
+        for (fraction, times) in [("", 100), (".9", 10), (".99", 1)] {
+            if like(value, &format!("{}{fraction}", "9".repeat(whole))) {
+                let digits: Vec<u8> = value.iter().copied().filter(|&b| b != b'.').collect();
+                let cents = number(&digits) * times;
+                return if (1..=most).contains(&cents) { Ok(cents as u64) } else { Err(9) };
+            }
+        }
+    }
+    Err(7)
+}
+
+fn bic(value: &[u8]) -> Result<u64, u8> {
+    (like(value, "AAAAAATL") || like(value, "AAAAAATLXXX")).then_some(0).ok_or(7)
+}
+
+/// Long division of the written number, character by character.
+fn leaves_one(written: &[u8]) -> bool {
+    let mut rest = 0;
+    for &byte in written {
+        let worth = match byte {
+            48..=57 => vec![byte - 48],
+            65..=90 => vec![(byte - 55) / 10, (byte - 55) % 10],
+            97..=122 => vec![(byte - 87) / 10, (byte - 87) % 10],
+            _ => vec![],
+        };
+        for digit in worth {
+            rest = (rest * 10 + u32::from(digit)) % 97;
+        }
+    }
+    rest == 1
+}
+
+fn checked(start: &[u8], body: &[u8]) -> Result<u64, u8> {
+    let two = number(&start[2..4]);
+    let written = [body, start].concat();
+    ((2..=98).contains(&two) && leaves_one(&written)).then_some(0).ok_or(8)
+}
+
+fn iban(value: &[u8]) -> Result<u64, u8> {
+    if !(15..=34).contains(&value.len())
+        || !like(value, &format!("AA99{}", "X".repeat(value.len() - 4)))
+    {
+        return Err(7);
+    }
+    checked(&value[..4], &value[4..])
+}
+
+fn creditor_id(value: &[u8]) -> Result<u64, u8> {
+    if !(8..=35).contains(&value.len())
+        || !like(value, &format!("AA99xxx{}", "r".repeat(value.len() - 7)))
+        || value[7..].iter().all(|b| SIGNS.contains(b))
+    {
+        return Err(7);
+    }
+    checked(&value[..4], &value[7..])
+}

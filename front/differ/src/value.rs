@@ -1,0 +1,869 @@
+//! Values of each kind.
+
+use crate::random::Random;
+
+pub const CAPITALS: &[u8] = b"ABCDEFGHIJKLMNOPQRSTUVWXYZ";
+pub const DIGITS: &[u8] = b"0123456789";
+pub const CAPITALS_DIGITS: &[u8] = b"ABCDEFGHIJKLMNOPQRSTUVWXYZ0123456789";
+pub const LETTERS_DIGITS: &[u8] = b"ABCDEFGHIJKLMNOPQRSTUVWXYZabcdefghijklmnopqrstuvwxyz0123456789";
+pub const REFERENCE_SET: &[u8] =
+    b"ABCDEFGHIJKLMNOPQRSTUVWXYZabcdefghijklmnopqrstuvwxyz0123456789/-?:().,'+";
+/// The set without the slash.
+const PLAIN_SET: &[u8] = b"ABCDEFGHIJKLMNOPQRSTUVWXYZabcdefghijklmnopqrstuvwxyz0123456789-?:().,'+";
+pub const WHITE: &[u8] = b" \t\r\n";
+
+#[derive(Clone, Copy, Debug, PartialEq, Eq)]
+pub enum Kind {
+    Iban,
+    CreditorId,
+    Bic,
+    Date,
+    Time,
+    Reference,
+    Text70,
+    Text140,
+    Count,
+    ItemAmount,
+    HeaderAmount,
+    /// A code, with those listed for it.
+    Code(&'static [&'static str]),
+}
+
+/// The kinds that have a single checker.
+pub const CHECKED: [Kind; 11] = [
+    Kind::Iban,
+    Kind::CreditorId,
+    Kind::Bic,
+    Kind::Date,
+    Kind::Time,
+    Kind::Reference,
+    Kind::Text70,
+    Kind::Text140,
+    Kind::Count,
+    Kind::ItemAmount,
+    Kind::HeaderAmount,
+];
+
+pub const ITEM_MOST: u64 = 99_999_999_999;
+pub const HEADER_MOST: u64 = 99_999_999_999_999_999;
+
+/// A value and what its checker answers: the number, the cents, or 0.
+pub struct Valid {
+    pub bytes: Vec<u8>,
+    pub worth: u64,
+}
+
+fn yes(bytes: Vec<u8>) -> Valid {
+    Valid { bytes, worth: 0 }
+}
+
+/// A valid value of this kind.
+pub fn valid(kind: Kind, random: &mut Random) -> Valid {
+    match kind {
+        Kind::Iban => yes(iban(random)),
+        Kind::CreditorId => yes(creditor_id(random)),
+        Kind::Bic => yes(bic(random)),
+        Kind::Date => yes(date(random)),
+        Kind::Time => yes(time(random)),
+        Kind::Reference => yes(reference(random)),
+        Kind::Text70 => yes(text(random, 70)),
+        Kind::Text140 => yes(text(random, 140)),
+        Kind::Count => {
+            let worth = random.worth(0, 999_999_999_999_999);
+            Valid { bytes: with_zeros(worth, random), worth }
+        }
+        Kind::ItemAmount => {
+            let worth = item_cents(random);
+            Valid { bytes: amount(worth, random), worth }
+        }
+        Kind::HeaderAmount => {
+            let worth = match random.below(8) {
+                0 => 1,
+                1 => HEADER_MOST,
+                2 => HEADER_MOST / 100 * 100,
+                _ => random.worth(1, HEADER_MOST),
+            };
+            Valid { bytes: amount(worth, random), worth }
+        }
+        Kind::Code(list) => yes(random.pick(list).as_bytes().to_vec()),
+    }
+}
+
+/// Cents of an item.
+pub fn item_cents(random: &mut Random) -> u64 {
+    match random.below(12) {
+        0 => 1,
+        1 => ITEM_MOST,
+        2 => 99,
+        3 => 100,
+        4 => ITEM_MOST / 100 * 100,
+        5 => 10 * random.worth(1, 1000),
+        _ => random.worth(1, ITEM_MOST),
+    }
+}
+
+/// A number in at most 15 digits, with or without leading zeros.
+pub fn with_zeros(number: u64, random: &mut Random) -> Vec<u8> {
+    let digits = number.to_string();
+    let zeros = match random.below(4) {
+        0 => random.between(0, 15 - digits.len()),
+        1 => 15 - digits.len(),
+        _ => 0,
+    };
+    format!("{}{digits}", "0".repeat(zeros)).into_bytes()
+}
+
+/// Cents written as an amount: 0, 1 or 2 decimals where that can be, with or without leading zeros.
+pub fn amount(cents: u64, random: &mut Random) -> Vec<u8> {
+    let mut bytes = with_zeros(cents / 100, random);
+    let fraction = cents % 100;
+    let least = match fraction {
+        0 => 0,
+        _ if fraction % 10 == 0 => 1,
+        _ => 2,
+    };
+    match random.between(least, 2) {
+        0 => {}
+        1 => bytes.extend(format!(".{}", fraction / 10).bytes()),
+        _ => bytes.extend(format!(".{fraction:02}").bytes()),
+    }
+    bytes
+}
+
+/// The cents of an amount that is of the form. By text, to be of another make than the judges.
+pub fn cents_of(amount: &[u8]) -> u64 {
+    let text = std::str::from_utf8(amount).expect("an amount is of digits and a point");
+    let (whole, fraction) = text.split_once('.').unwrap_or((text, ""));
+    format!("{whole}{fraction:0<2}").parse().expect("at most 17 digits")
+}
+
+/// The rest by 97 of the number that the letters and digits write, digit by digit.
+pub fn rest97(characters: &[u8]) -> u32 {
+    let mut written = String::new();
+    for &c in characters {
+        if let Some(worth) = (c as char).to_digit(36) {
+            written.push_str(&worth.to_string());
+        }
+    }
+    written.bytes().fold(0, |rest, digit| (rest * 10 + u32::from(digit - b'0')) % 97)
+}
+
+/// The check digits (02 to 98) for a country and what the number starts with.
+pub fn check_digits(country: &[u8], body: &[u8]) -> Vec<u8> {
+    let rest = rest97(&[body, country, b"00"].concat());
+    format!("{:02}", 98 - rest).into_bytes()
+}
+
+fn iban(random: &mut Random) -> Vec<u8> {
+    if random.once_in(8) {
+        let published: [&str; 8] = [
+            "DE87200500001234567890",
+            "DE21500500009876543210",
+            "GB82WEST12345698765432",
+            "FR1420041010050500013M02606",
+            "NO9386011117947",
+            "MT84MALT011000012345MTLCAST001S",
+            "BE68539007547034",
+            "AT611904300234573201",
+        ];
+        return random.pick(&published).as_bytes().to_vec();
+    }
+    let country = random.bytes(CAPITALS, 2);
+    let length = random.length(11, 30);
+    let set = random.pick(&[DIGITS, CAPITALS, CAPITALS_DIGITS, DIGITS]);
+    let body = random.bytes(set, length);
+    let check = check_digits(&country, &body);
+    [country, check, body].concat()
+}
+
+/// An IBAN or an identifier whose check digits are 00, 01 or 99 and whose rest by 97 is 1.
+pub fn alias(kind: Kind, random: &mut Random) -> Vec<u8> {
+    loop {
+        let mut value = valid(kind, random).bytes;
+        let alias: &[u8] = match &value[2..4] {
+            b"97" => b"00",
+            b"98" => b"01",
+            b"02" => b"99",
+            _ => continue,
+        };
+        value[2..4].copy_from_slice(alias);
+        return value;
+    }
+}
+
+fn creditor_id(random: &mut Random) -> Vec<u8> {
+    if random.once_in(8) {
+        return random.pick(&["DE98ZZZ09999999999", "DE98ABC09999999999"]).as_bytes().to_vec();
+    }
+    let country = random.bytes(CAPITALS, 2);
+    let business = match random.below(2) {
+        0 => b"ZZZ".to_vec(),
+        _ => random.bytes(LETTERS_DIGITS, 3),
+    };
+    let length = random.length(1, 28);
+    let set = random.pick(&[DIGITS, LETTERS_DIGITS, REFERENCE_SET, b"/-+aZ09".as_slice()]);
+    let mut national = random.bytes(set, length);
+    if !national.iter().any(u8::is_ascii_alphanumeric) {
+        let at = random.below(length);
+        national[at] = random.of(LETTERS_DIGITS);
+    }
+    let check = check_digits(&country, &national);
+    [country, check, business, national].concat()
+}
+
+fn bic(random: &mut Random) -> Vec<u8> {
+    let mut bytes = random.bytes(CAPITALS, 6);
+    bytes.push(random.of(b"ABCDEFGHIJKLMNOPQRSTUVWXYZ23456789"));
+    bytes.push(random.of(b"ABCDEFGHIJKLMNPQRSTUVWXYZ0123456789"));
+    if random.once_in(2) {
+        bytes.extend(random.bytes(CAPITALS_DIGITS, 3));
+    }
+    bytes
+}
+
+fn days(year: usize, month: usize) -> usize {
+    let leap = year % 400 == 0 || (year % 4 == 0 && year % 100 != 0);
+    [31, if leap { 29 } else { 28 }, 31, 30, 31, 30, 31, 31, 30, 31, 30, 31][month - 1]
+}
+
+fn date(random: &mut Random) -> Vec<u8> {
+    let year = match random.below(8) {
+        0 => 1,
+        1 => 9999,
+        2 => 100 * random.between(1, 99),
+        3 => 400 * random.between(1, 24),
+        4 => 4 * random.between(1, 2499),
+        _ => random.between(1, 9999),
+    };
+    let month = if random.once_in(4) { 2 } else { random.between(1, 12) };
+    let day = random.length(1, days(year, month));
+    format!("{year:04}-{month:02}-{day:02}").into_bytes()
+}
+
+fn time(random: &mut Random) -> Vec<u8> {
+    let (hour, minute, second) = (random.length(0, 23), random.length(0, 59), random.length(0, 59));
+    let mut bytes = date(random);
+    bytes.extend(format!("T{hour:02}:{minute:02}:{second:02}").bytes());
+    if random.once_in(2) {
+        bytes.push(b'.');
+        bytes.extend(random.bytes(DIGITS, 3));
+    }
+    match random.below(3) {
+        0 => {}
+        1 => bytes.push(b'Z'),
+        _ => {
+            let offset = random.length(0, 14 * 60);
+            bytes.push(random.of(b"+-"));
+            bytes.extend(format!("{:02}:{:02}", offset / 60, offset % 60).bytes());
+        }
+    }
+    bytes
+}
+
+fn reference(random: &mut Random) -> Vec<u8> {
+    let length = random.length(1, 35);
+    let set =
+        random.pick(&[REFERENCE_SET, CAPITALS_DIGITS, b"/-?:().,'+".as_slice(), b"A/".as_slice()]);
+    let mut bytes = random.bytes(set, length);
+    for at in 0..length {
+        if bytes[at] == b'/' && (at == 0 || at + 1 == length || bytes[at - 1] == b'/') {
+            bytes[at] = random.of(PLAIN_SET);
+        }
+    }
+    bytes
+}
+
+fn text(random: &mut Random, longest: usize) -> Vec<u8> {
+    let length = random.length(1, longest);
+    text_of_length(random, length)
+}
+
+/// A text of just this length.
+pub fn text_of_length(random: &mut Random, length: usize) -> Vec<u8> {
+    let mut bytes = random.bytes(REFERENCE_SET, length);
+    for byte in bytes.iter_mut().skip(1) {
+        if random.once_in(5) {
+            *byte = b' ';
+        }
+    }
+    bytes
+}
+
+/// Handmade values that stand beside the lines of a kind; some are valid.
+fn handmade(kind: Kind) -> &'static [&'static str] {
+    match kind {
+        Kind::Iban => &[
+            "DE87200500001234567891",
+            "DE78200500001234567890",
+            "de87200500001234567890",
+            "DE8720050000123456789a",
+            "DE87 2005 0000 1234 5678 90",
+            "DE87200500001234567890 ",
+            "NO938601111794",
+            "NO9386011117947",
+            "DE00200500001234567890",
+            "DE99200500001234567890",
+            "D187200500001234567890",
+            "1E87200500001234567890",
+            "DEX7200500001234567890",
+            "DE8X200500001234567890",
+            "DE87-20050000-1234567890",
+            "00000000000000000000000",
+        ],
+        Kind::CreditorId => &[
+            "DE98ZZZ09999999999",
+            "DE98zzz09999999999",
+            "DE00ZZZ09999999999",
+            "DE01ZZZ09999999999",
+            "DE99ZZZ09999999999",
+            "DE98ZZZ",
+            "DE98ZZZ/",
+            "DE98ZZZ//",
+            "DE98ZZZ-+?:()",
+            "DE98Z/Z09999999999",
+            "DE98ZZ 09999999999",
+            "DE98ZZZ0 9999999999",
+            "DE98ZZZ/09999999999",
+            "DE98ZZZ09999999999//",
+            "De98ZZZ09999999999",
+            "DE9AZZZ09999999999",
+            "DE98ZZZ09999999999_",
+        ],
+        Kind::Bic => &[
+            "BANKDEFF",
+            "BANKDEFFXXX",
+            "BANKDEFFXX",
+            "BANKDEF",
+            "BANKDEFFX",
+            "BANKDEFFXXXX",
+            "BANKDE0F",
+            "BANKDE1F",
+            "BANKDE2F",
+            "BANKDE9F",
+            "BANKDEFO",
+            "BANKDEF0",
+            "BANKDEF1",
+            "BANKDEFN",
+            "BANKDEFP",
+            "B4NKDEFF",
+            "BANKD3FF",
+            "bANKDEFF",
+            "BANKDEfF",
+            "BANKDEFf",
+            "BANKDEFFxXX",
+            "BANKDEFF000",
+            "BANKDEFF999",
+            "BANKDEFFOOO",
+            "BANK DEFF",
+        ],
+        Kind::Date => &[
+            "2000-02-29",
+            "1900-02-29",
+            "2100-02-29",
+            "2004-02-29",
+            "2005-02-29",
+            "0000-01-01",
+            "0001-01-01",
+            "9999-12-31",
+            "0004-02-29",
+            "0100-02-29",
+            "0400-02-29",
+            "2010-00-01",
+            "2010-13-01",
+            "2010-01-00",
+            "2010-01-32",
+            "2010-04-31",
+            "2010-06-31",
+            "2010-09-31",
+            "2010-11-31",
+            "2010-02-30",
+            "10000-01-01",
+            "2010-1-01",
+            "2010-01-1",
+            "2010/01/01",
+            "20100101",
+            "+010-01-01",
+            "-001-01-01",
+            "2010-01-01Z",
+            "01-01-2010",
+            "2010-01:01",
+        ],
+        Kind::Time => &[
+            "2010-12-01T00:00:00",
+            "2010-12-01T24:00:00",
+            "2010-12-01T23:60:00",
+            "2010-12-01T23:59:60",
+            "2010-12-01T23:59:59",
+            "2010-12-01T09:30",
+            "2010-12-01T9:30:00",
+            "2010-12-01 09:30:00",
+            "2010-12-01t09:30:00",
+            "2010-12-01T09:30:00z",
+            "2010-12-01T09:30:00.1",
+            "2010-12-01T09:30:00.12",
+            "2010-12-01T09:30:00.123",
+            "2010-12-01T09:30:00.1234",
+            "2010-12-01T09:30:00.",
+            "2010-12-01T09:30:00,123",
+            "2010-12-01T09:30:00+14:00",
+            "2010-12-01T09:30:00+14:01",
+            "2010-12-01T09:30:00-14:00",
+            "2010-12-01T09:30:00-14:59",
+            "2010-12-01T09:30:00+15:00",
+            "2010-12-01T09:30:00-00:00",
+            "2010-12-01T09:30:00+13:60",
+            "2010-12-01T09:30:00+00:59",
+            "2010-12-01T09:30:00+00:60",
+            "2010-12-01T09:30:00+1400",
+            "2010-12-01T09:30:00+14",
+            "2010-12-01T09:30:00+14:00Z",
+            "2010-12-01T09:30:00ZZ",
+            "2010-12-01T09:30:00.123+01:00",
+            "2010-12-01T09:30:00+01:00.123",
+            "2010-12-01",
+            "2010-12-01T",
+            "2010-11-31T09:30:00",
+            "0000-12-01T09:30:00",
+            "2010-12-01T09-30-00",
+            "2010-12-01T09:30:00 01:00",
+            "2010-12-01T09:30:00.12Z",
+            "2010-12-01T09:30:00.Z",
+        ],
+        Kind::Reference => &[
+            "A",
+            "/",
+            "//",
+            "A/",
+            "/A",
+            "A/B",
+            "A//B",
+            "A/B/C",
+            "A B",
+            " A",
+            "A ",
+            "A_B",
+            "A&B",
+            "A#",
+            "A\"",
+            "\u{e9}",
+            "12345678901234567890123456789012345",
+            "123456789012345678901234567890123456",
+            "1234567890123456789012345678901234/",
+            "-?:().,'+",
+            "A;B",
+            "A*B",
+            "A@B",
+            "A[",
+            "A`",
+            "A{",
+        ],
+        Kind::Text70 | Kind::Text140 => &[
+            "A",
+            " ",
+            " A",
+            "A ",
+            "A  B",
+            "/",
+            "//",
+            "/A/",
+            "A_B",
+            "A&amp;B",
+            "\u{e9}",
+            "A\tB",
+            "A\nB",
+            "A\rB",
+            "A\0B",
+            "-",
+            "A>B",
+            "A\"B",
+            "A;",
+            "M\u{fc}ller",
+        ],
+        Kind::Count => &[
+            "0",
+            "00",
+            "1",
+            "01",
+            "999999999999999",
+            "1000000000000000",
+            "0000000000000001",
+            "000000000000001",
+            "-1",
+            "+1",
+            "1.",
+            "1.0",
+            " 1",
+            "1 ",
+            "1,000",
+            "0x1",
+            "a",
+        ],
+        Kind::ItemAmount | Kind::HeaderAmount => &[
+            "0",
+            "0.0",
+            "0.00",
+            "0.01",
+            "0.001",
+            "5.3",
+            "5.30",
+            "5.",
+            ".5",
+            "0005.00",
+            "999999999.99",
+            "1000000000",
+            "1000000000.00",
+            "1000000000.0",
+            "000000999999999.99",
+            "999999999999999",
+            "999999999999999.9",
+            "999999999999999.99",
+            "9999999999999999",
+            "0000000000000000",
+            "0000000000000001",
+            "000000000000001",
+            "000000000000000",
+            "000000000000000.01",
+            "1,00",
+            "1.234",
+            "1.2.3",
+            "1..2",
+            "+1",
+            "-1",
+            "-0.01",
+            "1e3",
+            " 1",
+            "1 ",
+            "1. 5",
+            "1.5 ",
+            "\u{661}",
+            "1000000000.01",
+            "0.1",
+            "0.10",
+            "00.09",
+        ],
+        Kind::Code(_) => &[
+            "CLRG", "SEPA", "CORE", "B2B", "FRST", "RCUR", "FNAL", "OOFF", "SLEV", "CORE ",
+            " CORE", "COR1", "b2b", "sepa", "SEP", "SEPAX", "B2", "B2BX", "SHAR", "INDA", "URGP",
+            "RPRE", "_",
+        ],
+    }
+}
+
+/// A value that is nearly of its kind, or just so.
+pub fn near(kind: Kind, random: &mut Random) -> Vec<u8> {
+    match (kind, random.below(5)) {
+        (_, 0 | 1) => random.pick(handmade(kind)).as_bytes().to_vec(),
+        // Too long or too short by one or so, the rest right.
+        (Kind::Iban, 2) => {
+            let country = random.bytes(CAPITALS, 2);
+            let length = *random.pick(&[&9, &10, &11, &30, &31, &32]);
+            let body = random.bytes(CAPITALS_DIGITS, length);
+            let check = check_digits(&country, &body);
+            [country, check, body].concat()
+        }
+        (Kind::CreditorId, 2) => {
+            let country = random.bytes(CAPITALS, 2);
+            let length = *random.pick(&[&0, &1, &2, &27, &28, &29]);
+            let national = random.bytes(REFERENCE_SET, length);
+            let check = check_digits(&country, &national);
+            [country, check, b"ZZZ".to_vec(), national].concat()
+        }
+        // The rest is right, but a letter of the body is small, or the country is, or a place of the
+        // business code is no letter or digit.
+        (Kind::Iban, 3) => {
+            let country = random.bytes(LETTERS_DIGITS, 2);
+            let length = random.between(11, 30);
+            let body = random.bytes(LETTERS_DIGITS, length);
+            let check = check_digits(&country, &body);
+            [country, check, body].concat()
+        }
+        (Kind::CreditorId, 3) => {
+            let country = random.bytes(LETTERS_DIGITS, 2);
+            let business = random.bytes(REFERENCE_SET, 3);
+            let length = random.between(1, 28);
+            let national = random.bytes(REFERENCE_SET, length);
+            let check = check_digits(&country, &national);
+            [country, check, business, national].concat()
+        }
+        (Kind::Iban | Kind::CreditorId, 4) => alias(kind, random),
+        (Kind::Reference, 2) => edge(random, b"A/", 33, 37),
+        (Kind::Text70, 2) => edge(random, b"A /", 68, 72),
+        (Kind::Text140, 2) => edge(random, b"A /", 138, 142),
+        (Kind::Count, 2) => edge(random, b"019", 13, 17),
+        (Kind::ItemAmount, 2) => {
+            let cents = ITEM_MOST - 2 + random.below(5) as u64;
+            amount(cents, random)
+        }
+        (Kind::ItemAmount | Kind::HeaderAmount, 3) => {
+            let mut bytes = edge(random, b"019", 13, 17);
+            match random.below(3) {
+                0 => bytes.extend(b".9"),
+                1 => bytes.extend(b".99"),
+                _ => {}
+            }
+            bytes
+        }
+        _ => damaged(kind, random),
+    }
+}
+
+fn edge(random: &mut Random, set: &[u8], least: usize, most: usize) -> Vec<u8> {
+    let length = random.between(least, most);
+    random.bytes(set, length)
+}
+
+/// Bytes that a damage sets or puts in.
+pub fn foreign(random: &mut Random) -> u8 {
+    match random.below(6) {
+        0 => random.next() as u8,
+        1 => random.of(WHITE),
+        2 => random.of(b"\0\x01\x1f\x7f\x80\xa0\xbf\xc3\xe9\xff"),
+        3 => random.of(b"<>/=\"'&;!?-_.,:+[]@`{}^"),
+        _ => random.of(REFERENCE_SET),
+    }
+}
+
+/// One edit of bytes: changed, deleted, inserted, doubled, exchanged, case turned, one more or less,
+/// cut, longer.
+pub fn edit(bytes: &mut Vec<u8>, random: &mut Random) {
+    let length = bytes.len();
+    if length == 0 {
+        bytes.push(foreign(random));
+        return;
+    }
+    let at = random.below(length);
+    match random.below(13) {
+        0 | 1 => bytes[at] = foreign(random),
+        2 => drop(bytes.remove(at)),
+        3 => bytes.insert(random.between(0, length), foreign(random)),
+        4 => bytes.insert(at, bytes[at]),
+        5 if length > 1 => bytes.swap(at, if at + 1 == length { at - 1 } else { at + 1 }),
+        6 => bytes[at] ^= 0x20,
+        7 => bytes[at] = bytes[at].wrapping_add(1),
+        8 => bytes[at] = bytes[at].wrapping_sub(1),
+        9 => bytes.truncate(at),
+        10 => bytes.push(random.of(LETTERS_DIGITS)),
+        11 => bytes.insert(0, random.of(LETTERS_DIGITS)),
+        12 => bytes[at] = random.of(DIGITS),
+        _ => bytes[at] ^= 1 << random.below(8),
+    }
+}
+
+/// A valid value with one to three edits.
+pub fn damaged(kind: Kind, random: &mut Random) -> Vec<u8> {
+    let mut bytes = valid(kind, random).bytes;
+    for _ in 0..random.pick(&[&1, &1, &1, &2, &3]).to_owned() {
+        edit(&mut bytes, random);
+    }
+    bytes
+}
+
+/// A random value over a small alphabet of its kind, often of the right shape.
+pub fn random(kind: Kind, random: &mut Random) -> Vec<u8> {
+    if random.once_in(20) {
+        let length = random.between(0, 40);
+        return (0..length).map(|_| random.next() as u8).collect();
+    }
+    if random.once_in(200) {
+        let byte = random.of(b"A0 ./9");
+        return vec![byte; random.between(100, 5000)];
+    }
+    match kind {
+        Kind::Iban => {
+            let length = random.between(9, 32);
+            let set = random.pick(&[DIGITS, CAPITALS_DIGITS, b"01A".as_slice()]);
+            [random.bytes(CAPITALS, 2), random.bytes(DIGITS, 2), random.bytes(set, length)].concat()
+        }
+        Kind::CreditorId => {
+            let length = random.between(0, 30);
+            let set = random.pick(&[DIGITS, REFERENCE_SET, b"/-1a".as_slice()]);
+            let business = random.bytes(LETTERS_DIGITS, 3);
+            let head = [random.bytes(CAPITALS, 2), random.bytes(DIGITS, 2)].concat();
+            [head, business, random.bytes(set, length)].concat()
+        }
+        Kind::Bic => {
+            let length = random.between(7, 12);
+            random.bytes(random_set(&[b"ABNOPZ0129", CAPITALS], length), length)
+        }
+        Kind::Date => template("####-##-##", random),
+        Kind::Time => {
+            let fraction = random.pick(&["", ".###", ".##"]);
+            let zone = random.pick(&["", "Z", "+##:##", "-##:##", "+1#:##", "-1#:00"]);
+            let start = random.pick(&["20##-0#-1#T1#:2#:3#", "####-##-##T##:##:##"]);
+            template(&format!("{start}{fraction}{zone}"), random)
+        }
+        Kind::Reference => edge(random, b"A/-", 0, 37),
+        Kind::Text70 => edge(random, b"A /", 0, 72),
+        Kind::Text140 => edge(random, b"A /", 0, 142),
+        Kind::Count => edge(random, b"0123456789", 0, 17),
+        Kind::ItemAmount | Kind::HeaderAmount => edge(random, b"0019.", 0, 18),
+        Kind::Code(_) => edge(random, b"CORE2BSPA", 0, 5),
+    }
+}
+
+fn random_set<'a>(sets: &[&'a [u8]], length: usize) -> &'a [u8] {
+    sets[length % sets.len()]
+}
+
+/// Digits for `#`, often small ones.
+fn template(template: &str, random: &mut Random) -> Vec<u8> {
+    let small = random.once_in(2);
+    let digits = if small { b"0012".as_slice() } else { DIGITS };
+    template.bytes().map(|b| if b == b'#' { random.of(digits) } else { b }).collect()
+}
+
+/// A value to ask one checker for, and its right answer where it is known.
+pub struct Case {
+    pub kind: Kind,
+    pub bytes: Vec<u8>,
+    pub sort: &'static str,
+    pub known: Option<Result<u64, u8>>,
+}
+
+/// One value of the run with this seed.
+pub fn case(seed: u64, case: u64) -> Case {
+    let mut random = Random::new(seed, case);
+    let random = &mut random;
+    let kind = CHECKED[random.below(CHECKED.len())];
+    let (sort, bytes, known) = match random.below(11) {
+        0..=2 => {
+            let valid = valid(kind, random);
+            ("valid", valid.bytes, Some(Ok(valid.worth)))
+        }
+        3..=5 => ("damaged", damaged(kind, random), None),
+        6 | 7 => ("near", near(kind, random), None),
+        8 | 9 => ("random", self::random(kind, random), None),
+        _ => {
+            let mut bytes = valid(kind, random).bytes;
+            match kind {
+                Kind::Iban | Kind::CreditorId => {
+                    slip(kind, &mut bytes, random);
+                    ("slip", bytes, Some(Err(8)))
+                }
+                _ => ("empty", Vec::new(), Some(Err(7))),
+            }
+        }
+    };
+    Case { kind, bytes, sort, known }
+}
+
+/// Values beside each other, for every kind: each place of a valid value set to each byte, each byte
+/// put in at each place, each place left out; each length of one byte; the days of many months, all
+/// hours, minutes, seconds and zones. `each` gets the number of the case too.
+pub fn sweep(seed: u64, mut each: impl FnMut(u64, Case)) {
+    let mut number = 0;
+    let mut give = |kind: Kind, bytes: Vec<u8>, sort: &'static str| {
+        each(number, Case { kind, bytes, sort, known: None });
+        number += 1;
+    };
+    for (at, kind) in CHECKED.into_iter().enumerate() {
+        let random = &mut Random::new(seed, u64::MAX - at as u64);
+        for _ in 0..3 {
+            let value = valid(kind, random).bytes;
+            for at in 0..=value.len() {
+                for byte in 0..=255 {
+                    let mut more = value.clone();
+                    more.insert(at, byte);
+                    give(kind, more, "sweep: byte inserted");
+                    if at < value.len() {
+                        let mut other = value.clone();
+                        other[at] = byte;
+                        give(kind, other, "sweep: byte set");
+                    }
+                }
+                if at < value.len() {
+                    let mut less = value.clone();
+                    less.remove(at);
+                    give(kind, less, "sweep: byte left out");
+                }
+                give(kind, value[..at].to_vec(), "sweep: cut");
+            }
+        }
+        for byte in 0..=255 {
+            for length in 0..150 {
+                give(kind, vec![byte; length], "sweep: one byte many times");
+            }
+        }
+        for value in handmade(kind) {
+            give(kind, value.as_bytes().to_vec(), "sweep: handmade");
+        }
+    }
+    let mut day = |year: usize, month: usize, day: usize| {
+        let text = format!("{year:04}-{month:02}-{day:02}");
+        give(Kind::Time, format!("{text}T00:00:00").into_bytes(), "sweep: days");
+        give(Kind::Date, text.into_bytes(), "sweep: days");
+    };
+    for year in 0..=9999 {
+        day(year, 1, 1);
+        day(year, 2, 28);
+        day(year, 2, 29);
+        day(year, 2, 30);
+    }
+    for year in [0, 1, 4, 1900, 2000, 2010, 2012, 9999] {
+        (0..100).for_each(|month| (0..100).for_each(|d| day(year, month, d)));
+    }
+    let mut time = |text: String| give(Kind::Time, text.into_bytes(), "sweep: times");
+    for two in 0..100 {
+        time(format!("2010-12-01T{two:02}:00:00"));
+        time(format!("2010-12-01T00:{two:02}:00"));
+        time(format!("2010-12-01T00:00:{two:02}"));
+        for minutes in 0..100 {
+            for sign in ["+", "-", ".000+", ".999-"] {
+                time(format!("2010-12-01T12:00:00{sign}{two:02}:{minutes:02}"));
+            }
+        }
+    }
+}
+
+/// The places of a value where a slip must be caught.
+fn slip_places(kind: Kind, length: usize) -> Vec<usize> {
+    match kind {
+        Kind::CreditorId => (0..4).chain(7..length).collect(),
+        _ => (0..length).collect(),
+    }
+}
+
+/// A slip: one digit replaced by another, two neighbouring digits exchanged, and for IBAN and
+/// identifier a letter by another, two neighbouring letters exchanged. Each changes the value's
+/// worth, or its rest by 97. Answers false where the value has no such place.
+pub fn slip(kind: Kind, bytes: &mut [u8], random: &mut Random) -> bool {
+    let places = slip_places(kind, bytes.len());
+    let small = |byte: u8| byte.to_ascii_lowercase();
+    if random.once_in(2) {
+        // Two neighbours of one sort; behind position 7 of an identifier they lie beside each other.
+        let pairs: Vec<usize> = places
+            .iter()
+            .copied()
+            .filter(|&at| places.contains(&(at + 1)))
+            .filter(|&at| {
+                let (one, other) = (bytes[at], bytes[at + 1]);
+                let digits = one.is_ascii_digit() && other.is_ascii_digit();
+                let letters = one.is_ascii_alphabetic() && other.is_ascii_alphabetic();
+                (digits || letters) && small(one) != small(other)
+            })
+            .collect();
+        if !pairs.is_empty() {
+            let at = pairs[random.below(pairs.len())];
+            bytes.swap(at, at + 1);
+            return true;
+        }
+    }
+    let singles: Vec<usize> =
+        places.into_iter().filter(|&at| bytes[at].is_ascii_alphanumeric()).collect();
+    if singles.is_empty() {
+        return false;
+    }
+    let at = singles[random.below(singles.len())];
+    let old = bytes[at];
+    let set = if old.is_ascii_digit() {
+        DIGITS
+    } else if old.is_ascii_uppercase() {
+        CAPITALS
+    } else {
+        b"abcdefghijklmnopqrstuvwxyz"
+    };
+    while bytes[at] == old {
+        bytes[at] = random.of(set);
+    }
+    true
+}

@@ -1,0 +1,83 @@
+//! A plain judge of one SEPA interbank collection message (pacs.003.001.02), by document 01.
+//!
+//! The message lies in lent bytes and is read once, left to right; the first fault met ends the
+//! reading. Nothing is allocated.
+
+#![forbid(unsafe_code)]
+#![warn(missing_docs)]
+
+mod message;
+mod record;
+mod value;
+
+pub use value::{
+    bic, count, creditor_id, date, header_amount, iban, item_amount, reference, text140, text70,
+    time,
+};
+
+use message::{read, Refusal};
+use value::number;
+
+/// What the judge answers.
+#[derive(Clone, Copy, Debug, PartialEq, Eq)]
+pub enum Verdict {
+    /// The message is of the profile.
+    Accepted {
+        /// The items that stand in it.
+        count: u64,
+        /// Their sum in cents.
+        cents: u64,
+    },
+    /// The message is not of the profile.
+    Refused {
+        /// The refusal's number in the paper's table.
+        number: u8,
+        /// Its place, at most the message's length.
+        place: usize,
+    },
+}
+
+/// Judges a message: its count and its total in cents, or the first fault met.
+pub fn judge(message: &[u8]) -> Verdict {
+    verdict(read::<false>(message, |_, _| {}))
+}
+
+/// Where item `i` (from 0) lies: the place of the `<` of its start tag and the place after the `>`
+/// of its end tag. The judge's refusal comes first; then "18: asked for an item not there (from 0),
+/// place 0".
+pub fn item(message: &[u8], i: u64) -> Result<(usize, usize), (u8, usize)> {
+    let mut asked = None;
+    read::<false>(message, |at, item| {
+        if at as u64 == i {
+            asked = Some((item.start, item.end));
+        }
+    })?;
+    asked.ok_or((number::NO_SUCH_ITEM, 0))
+}
+
+/// Judges a message and writes one record of 256 bytes for each item: "record i goes to bytes 256i
+/// to 256i+255. Bytes beyond the last record keep what they held." A refusal "leaves the record area
+/// exactly as lent"; "17: record area under 256 times the count, place 0" comes after the judge's.
+pub fn records(message: &[u8], area: &mut [u8]) -> Verdict {
+    let judged = judge(message);
+    let Verdict::Accepted { count, .. } = judged else {
+        return judged;
+    };
+    if (area.len() as u64) < record::LENGTH as u64 * count {
+        return Verdict::Refused { number: number::AREA_TOO_SMALL, place: 0 };
+    }
+    // The message is accepted, so this second reading takes the values as they lie.
+    verdict(read::<true>(message, |at, item| {
+        record::write(&mut area[record::LENGTH * at..][..record::LENGTH], item);
+    }))
+}
+
+fn verdict(read: Result<(u64, u64), Refusal>) -> Verdict {
+    match read {
+        Ok((count, cents)) => Verdict::Accepted { count, cents },
+        Err((number, place)) => Verdict::Refused { number, place },
+    }
+}
+
+#[cfg(test)]
+mod tests;

@@ -1,0 +1,39 @@
+//! The posting record: "256 bytes, no file header, every unused byte a space".
+
+use crate::message::Item;
+
+/// The bytes of one record.
+pub const LENGTH: usize = 256;
+
+/// Writes one record: "TxId 35, EndToEndId 35, MndtId 35, debtor IBAN 34, creditor IBAN 34, debtor
+/// agent BIC 11, item cents as 11 digits, ReqdColltnDt 10, SeqTp 4, creditor identifier 35, creditor
+/// agent BIC 11, then LF (byte 255). Each record is first made as 256 spaces".
+#[inline]
+pub fn write(record: &mut [u8], item: &Item) {
+    record.fill(b' ');
+    put(record, 0, item.transaction);
+    put(record, 35, item.end_to_end);
+    put(record, 70, item.mandate);
+    put(record, 105, item.debtor_iban);
+    put(record, 139, item.creditor_iban);
+    put(record, 173, item.debtor_bic);
+    put_cents(&mut record[184..195], item.cents);
+    put(record, 195, item.collection_date);
+    put(record, 205, item.sequence_type);
+    put(record, 209, item.creditor_id);
+    put(record, 244, item.creditor_bic);
+    record[255] = b'\n';
+}
+
+#[inline]
+fn put(record: &mut [u8], at: usize, value: &[u8]) {
+    record[at..at + value.len()].copy_from_slice(value);
+}
+
+#[inline]
+fn put_cents(field: &mut [u8], mut cents: u64) {
+    for digit in field.iter_mut().rev() {
+        *digit = b'0' + (cents % 10) as u8;
+        cents /= 10;
+    }
+}

@@ -1,0 +1,527 @@
+//! The paper's cases: "Either side of each line", the whole example, and the readings of the open
+//! points of document 01.
+
+use super::*;
+
+const DECLARATION: &str = r#"<?xml version="1.0" encoding="UTF-8"?>"#;
+const ROOT: &str = r#"<Document xmlns="urn:iso:std:iso:20022:tech:xsd:pacs.003.001.02">"#;
+
+fn header(count: &str, total: &str) -> String {
+    format!(
+        "<FIToFICstmrDrctDbt><GrpHdr><MsgId>MSG/1</MsgId><CreDtTm>2010-12-01T09:30:00</CreDtTm>\
+         <NbOfTxs>{count}</NbOfTxs><TtlIntrBkSttlmAmt Ccy=\"EUR\">{total}</TtlIntrBkSttlmAmt>\
+         <IntrBkSttlmDt>2010-12-03</IntrBkSttlmDt><SttlmInf><SttlmMtd>CLRG</SttlmMtd></SttlmInf>\
+         <InstgAgt><FinInstnId><BIC>BANKDEFF</BIC></FinInstnId></InstgAgt></GrpHdr>"
+    )
+}
+
+/// The item of the paper's whole example, with this amount and this local instrument.
+fn one_item(amount: &str, instrument: &str) -> String {
+    format!(
+        "<DrctDbtTxInf><PmtId><InstrId>I1</InstrId><EndToEndId>E1</EndToEndId><TxId>T1</TxId></PmtId>\
+         <PmtTpInf><SvcLvl><Cd>SEPA</Cd></SvcLvl><LclInstrm><Cd>{instrument}</Cd></LclInstrm>\
+         <SeqTp>RCUR</SeqTp></PmtTpInf><IntrBkSttlmAmt Ccy=\"EUR\">{amount}</IntrBkSttlmAmt>\
+         <ChrgBr>SLEV</ChrgBr><ReqdColltnDt>2010-12-03</ReqdColltnDt><DrctDbtTx><MndtRltdInf>\
+         <MndtId>M1</MndtId><DtOfSgntr>2010-11-20</DtOfSgntr></MndtRltdInf><CdtrSchmeId><Id><PrvtId>\
+         <Othr><Id>DE98ZZZ09999999999</Id><SchmeNm><Prtry>SEPA</Prtry></SchmeNm></Othr></PrvtId></Id>\
+         </CdtrSchmeId></DrctDbtTx><Cdtr><Nm>Creditor</Nm></Cdtr><CdtrAcct><Id>\
+         <IBAN>DE87200500001234567890</IBAN></Id></CdtrAcct><CdtrAgt><FinInstnId><BIC>BANKDEFFXXX\
+         </BIC></FinInstnId></CdtrAgt><Dbtr><Nm>Debtor</Nm></Dbtr><DbtrAcct><Id>\
+         <IBAN>DE21500500009876543210</IBAN></Id></DbtrAcct><DbtrAgt><FinInstnId><BIC>SPUEDE2UXXX\
+         </BIC></FinInstnId></DbtrAgt><RmtInf><Ustrd>Invoice 1</Ustrd></RmtInf></DrctDbtTxInf>"
+    )
+}
+
+const CLOSE: &str = "</FIToFICstmrDrctDbt></Document>";
+
+fn whole(count: &str, total: &str, items: &[String]) -> String {
+    format!("{ROOT}{}{}{CLOSE}", header(count, total), items.concat())
+}
+
+fn sample() -> String {
+    whole("1", "12.34", &[one_item("12.34", "CORE")])
+}
+
+fn refused(message: &str) -> (u8, usize) {
+    match judge(message.as_bytes()) {
+        Verdict::Refused { number, place } => (number, place),
+        accepted => panic!("{accepted:?}: {message}"),
+    }
+}
+
+fn place_of(message: &str, part: &str) -> usize {
+    message.find(part).expect("the part stands in the message")
+}
+
+/// The sample with its first `old` replaced: refused with this number, where the replacement lies
+/// and `further` bytes on.
+fn refuses(old: &str, new: &str, number: u8, further: usize) {
+    let sample = sample();
+    let place = place_of(&sample, old) + further;
+    assert_eq!(refused(&sample.replacen(old, new, 1)), (number, place), "{old} -> {new}");
+}
+
+fn accepts(old: &str, new: &str) {
+    let changed = sample().replacen(old, new, 1);
+    let accepted = Verdict::Accepted { count: 1, cents: 1234 };
+    assert_eq!(judge(changed.as_bytes()), accepted, "{old} -> {new}");
+}
+
+#[test]
+fn item_amounts_either_side() {
+    assert_eq!(item_amount(b"0.01"), Ok(1));
+    assert_eq!(item_amount(b"0.00"), Err(9));
+    assert_eq!(item_amount(b"5.3"), Ok(530));
+    assert_eq!(item_amount(b"5."), Err(7));
+    assert_eq!(item_amount(b"0005.00"), Ok(500));
+    assert_eq!(item_amount(b"999999999.99"), Ok(99_999_999_999));
+    assert_eq!(item_amount(b"1000000000"), Err(9));
+}
+
+#[test]
+fn amounts_of_other_forms() {
+    for no in
+        ["", ".", ".5", "1.234", "1,00", "+1", "-1", " 1", "1 ", "1e3", "1.", "1..0", "1.0.", "1.a"]
+    {
+        assert_eq!(item_amount(no.as_bytes()), Err(7), "{no}");
+        assert_eq!(header_amount(no.as_bytes()), Err(7), "{no}");
+    }
+    assert_eq!(item_amount(b"0"), Err(9));
+    assert_eq!(header_amount(b"000000000000000.00"), Err(9));
+    assert_eq!(header_amount(b"999999999999999.99"), Ok(99_999_999_999_999_999));
+    assert_eq!(item_amount(b"000000000000001"), Ok(100));
+    assert_eq!(item_amount(b"0000000000000001"), Err(7));
+    assert_eq!(header_amount(b"9999999999999999"), Err(7));
+}
+
+#[test]
+fn counts() {
+    assert_eq!(count(b"0"), Ok(0));
+    assert_eq!(count(b"007"), Ok(7));
+    assert_eq!(count(b"999999999999999"), Ok(999_999_999_999_999));
+    assert_eq!(count(b"0000000000000001"), Err(7));
+    for no in ["", "1.", "1.0", " 1", "-1", "a", "1a"] {
+        assert_eq!(count(no.as_bytes()), Err(7), "{no}");
+    }
+}
+
+#[test]
+fn ibans_either_side() {
+    assert_eq!(iban(b"DE87200500001234567890"), Ok(0));
+    assert_eq!(iban(b"DE87200500001234567891"), Err(8));
+    assert_eq!(iban(b"DE21500500009876543210"), Ok(0));
+    for published in [
+        "GB82WEST12345698765432",
+        "FR1420041010050500013M02606",
+        "NO9386011117947",
+        "MT84MALT011000012345MTLCAST001S",
+    ] {
+        assert_eq!(iban(published.as_bytes()), Ok(0), "{published}");
+    }
+    for no in [
+        "",
+        "DE",
+        "DE87",
+        "de87200500001234567890",
+        "DE8720050000123456789a",
+        "DE87 2005 0000 1234 5678 90",
+        "NO938601111794",
+        "D087200500001234567890",
+        "DEA7200500001234567890",
+    ] {
+        assert_eq!(iban(no.as_bytes()), Err(7), "{no}");
+    }
+    assert_eq!(iban(&[b"NO93".as_slice(), &[b'1'; 30]].concat()), Err(8));
+    assert_eq!(iban(&[b"NO93".as_slice(), &[b'1'; 31]].concat()), Err(7));
+}
+
+/// "accepting check digits 00, 01 or 99 because the remainder fits" is an error that looks
+/// reasonable.
+#[test]
+fn check_digits_are_02_to_98() {
+    for (true_digits, false_digits) in [(97, 0), (98, 1), (2, 99)] {
+        let account = (0..1000)
+            .map(|n| format!("DE{true_digits:02}{n:011}"))
+            .find(|account| iban(account.as_bytes()) == Ok(0))
+            .expect("one in 97 has these digits");
+        let alias = format!("DE{false_digits:02}{}", &account[4..]);
+        assert_eq!(iban(alias.as_bytes()), Err(8), "{alias}");
+        let identifier = format!("DE{true_digits:02}ZZZ{}", &account[4..]);
+        assert_eq!(creditor_id(identifier.as_bytes()), Ok(0), "{identifier}");
+        let alias = format!("DE{false_digits:02}ZZZ{}", &account[4..]);
+        assert_eq!(creditor_id(alias.as_bytes()), Err(8), "{alias}");
+    }
+}
+
+#[test]
+fn identifiers_either_side() {
+    assert_eq!(creditor_id(b"DE98ZZZ09999999999"), Ok(0));
+    assert_eq!(creditor_id(b"DE98ABC09999999999"), Ok(0));
+    assert_eq!(creditor_id(b"DE98a1c09999999999"), Ok(0));
+    assert_eq!(creditor_id(b"DE00ZZZ09999999999"), Err(8));
+    assert_eq!(creditor_id(b"DE98ZZZ/0-99?9:9(9)9.9,9'9+"), Err(8));
+    assert_eq!(creditor_id(b"DE98ZZZ//0-99?9:9(9)9.9,9'9+9"), Ok(0));
+    for no in [
+        "",
+        "DE98ZZZ",
+        "DE98ZZZ/",
+        "DE98ZZZ-?:",
+        "DE98Z-Z09999999999",
+        "DE98ZZZ0999999 9999",
+        "dE98ZZZ09999999999",
+        "DE9 ZZZ09999999999",
+    ] {
+        assert_eq!(creditor_id(no.as_bytes()), Err(7), "{no}");
+    }
+    let filled =
+        |length: usize| [b"DE98ZZZ09999999999".as_slice(), &vec![b'+'; length - 18]].concat();
+    assert_eq!(creditor_id(&filled(35)), Ok(0));
+    assert_eq!(creditor_id(&filled(36)), Err(7));
+    // Letters of either case have one worth.
+    let letters =
+        (2..=98).map(|c| format!("AT{c:02}zzzaBc")).find(|i| creditor_id(i.as_bytes()) == Ok(0));
+    let same = letters.expect("one of them fits").replace("aBc", "AbC");
+    assert_eq!(creditor_id(same.as_bytes()), Ok(0));
+}
+
+#[test]
+fn dates_either_side() {
+    assert_eq!(date(b"2000-02-29"), Ok(0));
+    assert_eq!(date(b"1900-02-29"), Err(7));
+    for yes in ["0001-01-01", "9999-12-31", "2004-02-29", "2010-04-30"] {
+        assert_eq!(date(yes.as_bytes()), Ok(0), "{yes}");
+    }
+    for no in [
+        "",
+        "0000-01-01",
+        "2010-00-01",
+        "2010-13-01",
+        "2010-01-00",
+        "2010-01-32",
+        "2010-04-31",
+        "2011-02-29",
+        "10000-01-01",
+        "2010-1-01",
+        "2010/01/01",
+        "2010-01-01 ",
+        "2010-01-0a",
+    ] {
+        assert_eq!(date(no.as_bytes()), Err(7), "{no}");
+    }
+}
+
+#[test]
+fn times() {
+    for yes in ["", ".000", ".999Z", "Z", "+00:00", "-00:00", "+14:00", "-14:00", ".123-13:59"] {
+        assert_eq!(time(format!("2010-12-01T23:59:59{yes}").as_bytes()), Ok(0), "{yes}");
+    }
+    for no in [
+        ".", ".1", ".12", ".1234", "z", "ZZ", "+", "+14:01", "+15:00", "-00:60", "+13:60", "+1400",
+        "+14", " ", ".123.123", "+14:00Z", "Z+14:00", ".12Z",
+    ] {
+        assert_eq!(time(format!("2010-12-01T23:59:59{no}").as_bytes()), Err(7), "{no}");
+    }
+    for no in [
+        "",
+        "2010-12-01",
+        "2010-12-01T",
+        "2010-12-01T24:00:00",
+        "2010-12-01T23:60:00",
+        "2010-12-01T23:59:60",
+        "2010-12-01 23:59:59",
+        "2010-12-01t23:59:59",
+        "2010-12-01T23:59",
+        "2010-11-31T23:59:59",
+    ] {
+        assert_eq!(time(no.as_bytes()), Err(7), "{no}");
+    }
+}
+
+#[test]
+fn bics() {
+    for yes in ["BANKDEFF", "BANKDEFFXXX", "SPUEDE2UXXX", "ABCDEF2A", "ABCDEF90", "ABCDEFZ0123"] {
+        assert_eq!(bic(yes.as_bytes()), Ok(0), "{yes}");
+    }
+    for no in [
+        "",
+        "BANKDEF",
+        "BANKDEFFX",
+        "BANKDEFFXX",
+        "BANKDEFFXXXX",
+        "BANKDE0F",
+        "BANKDE1F",
+        "BANKDEFO",
+        "BANK1EFF",
+        "bANKDEFF",
+        "BANKDEFFXxX",
+    ] {
+        assert_eq!(bic(no.as_bytes()), Err(7), "{no}");
+    }
+}
+
+#[test]
+fn references_and_texts() {
+    for yes in ["A", "a/b", "A/B/C", "-?:().,'+", "12345678901234567890123456789012345"] {
+        assert_eq!(reference(yes.as_bytes()), Ok(0), "{yes}");
+    }
+    for no in [
+        "",
+        "/",
+        "//",
+        "/A",
+        "A/",
+        "A//B",
+        "A B",
+        " A",
+        "A_",
+        "\u{e9}",
+        "A\0",
+        "123456789012345678901234567890123456",
+    ] {
+        assert_eq!(reference(no.as_bytes()), Err(7), "{no}");
+    }
+    for (longest, text) in [(70, text70 as fn(&[u8]) -> Result<u64, u8>), (140, text140)] {
+        assert_eq!(text(&vec![b'A'; longest]), Ok(0));
+        assert_eq!(text(&vec![b'A'; longest + 1]), Err(7));
+        for yes in ["A", "/", "//A//", "A ", "A  B"] {
+            assert_eq!(text(yes.as_bytes()), Ok(0), "{yes}");
+        }
+        for no in ["", " ", " A", "A\t", "A\n", "A_", "A&", "\u{e9}"] {
+            assert_eq!(text(no.as_bytes()), Err(7), "{no}");
+        }
+    }
+}
+
+#[test]
+fn beginnings() {
+    assert_eq!(refused(""), (3, 0));
+    assert_eq!(refused("<"), (3, 1));
+    assert_eq!(refused("<?xml>"), (2, 0));
+    assert_eq!(refused("<?"), (3, 2));
+    assert_eq!(refused(" "), (3, 1));
+    assert_eq!(refused(" <"), (3, 2));
+    assert_eq!(refused(" <?"), (2, 1));
+    assert_eq!(refused(&format!(" {DECLARATION}{ROOT}")), (2, 1));
+    assert_eq!(refused(DECLARATION), (3, 38));
+    assert_eq!(refused(&format!("{DECLARATION} \n")), (3, 40));
+    assert_eq!(refused(&format!("{DECLARATION}{DECLARATION}")), (2, 38));
+    assert_eq!(refused(&format!("{DECLARATION}\n{DECLARATION}")), (2, 39));
+    assert_eq!(refused(&format!("{DECLARATION}x")), (2, 38));
+    assert_eq!(refused("\u{feff}<Document"), (2, 0));
+    assert_eq!(refused("\0"), (2, 0));
+    assert_eq!(refused("<!--"), (2, 0));
+    assert_eq!(refused("<Document>"), (2, 0));
+    assert_eq!(refused("  <document"), (2, 2));
+    assert_eq!(refused(ROOT), (3, ROOT.len()));
+    assert_eq!(refused(&format!("{ROOT} <FIToFICstmrDrctDbt/>")), (4, ROOT.len() + 1));
+    assert_eq!(refused(&format!("{ROOT}</Document>")), (4, ROOT.len()));
+}
+
+#[test]
+fn accepted_with_and_without_declaration_and_white_space() {
+    let accepted = Verdict::Accepted { count: 1, cents: 1234 };
+    let sample = sample();
+    assert_eq!(judge(sample.as_bytes()), accepted);
+    for spaced in [
+        format!("{DECLARATION}{sample}"),
+        format!("{DECLARATION} \t\r\n{sample} \t\r\n"),
+        format!("\n{sample}"),
+    ] {
+        assert_eq!(judge(spaced.as_bytes()), accepted, "{spaced}");
+    }
+    accepts("<FIToFICstmrDrctDbt>", "\n<FIToFICstmrDrctDbt>");
+    accepts("</Document>", "\t</Document>");
+    accepts("<EndToEndId>", "\r\n  <EndToEndId>");
+    accepts("</PmtId>", " </PmtId>");
+    accepts("<BIC>", " <BIC>");
+    accepts("<NbOfTxs>1<", "<NbOfTxs>000000000000001<");
+    accepts(">12.34</Ttl", ">0000012.34</Ttl");
+    accepts("<InstrId>I1</InstrId>", "");
+    accepts("<RmtInf><Ustrd>Invoice 1</Ustrd></RmtInf>", "");
+}
+
+#[test]
+fn cut_anywhere_is_3() {
+    let message = format!("{DECLARATION}\n{}", sample());
+    for length in 0..message.len() {
+        assert_eq!(refused(&message[..length]), (3, length), "{length}");
+    }
+}
+
+#[test]
+fn tags() {
+    refuses("<MsgId>", "<MsgID>", 4, 0);
+    refuses("<MsgId>", "x<MsgId>", 4, 0);
+    refuses("<MsgId>", " \nx<MsgId>", 4, 2);
+    refuses("<MsgId>", "<MsgId >", 4, 0);
+    refuses("<MsgId>", "< MsgId>", 4, 0);
+    refuses("</MsgId>", "</MsgID>", 4, 0);
+    refuses("</InstrId>", "</InstrId><InstrId>A</InstrId>", 4, 10);
+    refuses("<RmtInf><Ustrd>Invoice 1</Ustrd>", "<RmtInf>", 4, 8);
+    refuses("</Ustrd>", "</Ustrd><Ustrd>A</Ustrd>", 4, 8);
+    refuses("</RmtInf>", "</RmtInf><RmtInf>", 4, 9);
+    refuses("</Document>", "</Document>\n x", 16, 13);
+    refuses("</Document>", "</Document>\0", 16, 11);
+    let none = format!("{ROOT}{}{CLOSE}", header("1", "1"));
+    assert_eq!(refused(&none), (4, place_of(&none, CLOSE)));
+}
+
+#[test]
+fn values_in_place() {
+    refuses("MSG/1", "", 7, 0);
+    refuses("MSG/1", "_", 7, 0);
+    refuses("MSG/1", " MSG/1", 7, 0);
+    refuses("MSG/1", "MSG/1 ", 7, 0);
+    refuses("CLRG", "", 10, 0);
+    refuses("CLRG", "CLRG ", 10, 0);
+    refuses("SLEV", "SLEv", 10, 0);
+    refuses("RCUR", "RCURR", 10, 0);
+    refuses("CORE", "COR1", 10, 0);
+    refuses("DE21500500009876543210", "DE21500500009876543201", 8, 0);
+    refuses("DE98ZZZ09999999999", "DE98ZZZ09999999998", 8, 0);
+    refuses("12.34</Intr", "0.00</Intr", 9, 0);
+    refuses(">1</NbOfTxs>", ">0</NbOfTxs>", 14, 1);
+    refuses(">12.34</Ttl", ">12.33</Ttl", 15, 1);
+    let opened = &sample()[..place_of(&sample(), "MSG/1")];
+    assert_eq!(refused(&format!("{opened}_")), (3, opened.len() + 1));
+    assert_eq!(refused(&format!("{opened}_<")), (7, opened.len()));
+    assert_eq!(refused(&format!("{opened}A<")), (3, opened.len() + 2));
+    assert_eq!(refused(&format!("{opened}<")), (7, opened.len()));
+    assert_eq!(refused(&format!("{opened}A<x")), (4, opened.len() + 1));
+}
+
+#[test]
+fn currencies() {
+    let tag = "<TtlIntrBkSttlmAmt Ccy=\"";
+    let opened = &sample()[..place_of(&sample(), tag)];
+    let capital = opened.len() + tag.len();
+    for (after, number, place) in [
+        ("EU", 3, capital + 2),
+        ("XYZ", 3, capital + 3),
+        ("XYZ\"", 3, capital + 4),
+        ("XYZ\">", 6, capital),
+        ("USD\">_", 6, capital),
+        ("EUR\">", 3, capital + 5),
+        ("U1", 4, opened.len()),
+        ("eur\">1<", 4, opened.len()),
+        ("E1R\">1<", 4, opened.len()),
+        ("EURO\">1<", 4, opened.len()),
+        ("EUR\" >1<", 4, opened.len()),
+        ("USD\"/", 4, opened.len()),
+    ] {
+        assert_eq!(refused(&format!("{opened}{tag}{after}")), (number, place), "{after}");
+    }
+    refuses("<IntrBkSttlmAmt Ccy=\"EUR\">", "<IntrBkSttlmAmt>", 4, 0);
+    refuses("<IntrBkSttlmAmt Ccy=\"EUR\">", "<IntrBkSttlmAmt Ccy='EUR'>", 4, 0);
+    refuses("<IntrBkSttlmAmt Ccy=\"EUR\">", "<IntrBkSttlmAmt Ccy=\"CHF\">", 6, 21);
+}
+
+#[test]
+fn count_and_total() {
+    let two = [one_item("1.23", "B2B"), one_item("1.23", "B2B")];
+    assert_eq!(
+        judge(whole("2", "2.46", &two).as_bytes()),
+        Verdict::Accepted { count: 2, cents: 246 }
+    );
+    let wrong = whole("3", "2.47", &two);
+    assert_eq!(refused(&wrong), (14, place_of(&wrong, "3</NbOfTxs>")));
+    let wrong = whole("2", "2.47", &two);
+    assert_eq!(refused(&wrong), (15, place_of(&wrong, "2.47<")));
+    let mixed = whole("2", "2.46", &[one_item("1.23", "B2B"), one_item("1.23", "CORE")]);
+    assert_eq!(refused(&mixed), (11, place_of(&mixed, "CORE")));
+    // 10 comes before 11, and 11 before the end tag.
+    let mixed = whole("2", "2.46", &[one_item("1.23", "B2B"), one_item("1.23", "CORE<")]);
+    assert_eq!(refused(&mixed), (11, place_of(&mixed, "CORE")));
+}
+
+#[test]
+fn item_places() {
+    let message = whole("2", "2.46", &[one_item("1.23", "CORE"), one_item("1.23", "CORE")]);
+    let length = one_item("1.23", "CORE").len();
+    let first = place_of(&message, "<DrctDbtTxInf>");
+    assert_eq!(item(message.as_bytes(), 0), Ok((first, first + length)));
+    assert_eq!(item(message.as_bytes(), 1), Ok((first + length, first + 2 * length)));
+    assert_eq!(item(message.as_bytes(), 2), Err((18, 0)));
+    assert_eq!(item(message.as_bytes(), u64::MAX), Err((18, 0)));
+    assert_eq!(item(b"", 0), Err((3, 0)));
+    assert_eq!(item(&message.as_bytes()[..message.len() - 1], 7), Err((3, message.len() - 1)));
+}
+
+fn whole_example() -> String {
+    let spaces = |n: usize| " ".repeat(n);
+    let record = [
+        "T1",
+        &spaces(33),
+        "E1",
+        &spaces(33),
+        "M1",
+        &spaces(33),
+        "DE21500500009876543210",
+        &spaces(12),
+        "DE87200500001234567890",
+        &spaces(12),
+        "SPUEDE2UXXX",
+        "00000001234",
+        "2010-12-03",
+        "RCUR",
+        "DE98ZZZ09999999999",
+        &spaces(17),
+        "BANKDEFFXXX",
+        "\n",
+    ]
+    .concat();
+    assert_eq!(record.len(), 256);
+    record
+}
+
+#[test]
+fn record_of_the_whole_example() {
+    let mut area = [0xAA; 300];
+    let verdict = records(sample().as_bytes(), &mut area);
+    assert_eq!(verdict, Verdict::Accepted { count: 1, cents: 1234 });
+    assert_eq!(&area[..256], whole_example().as_bytes());
+    assert_eq!(area[256..], [0xAA; 44]);
+}
+
+#[test]
+fn record_areas() {
+    let two = whole("2", "24.68", &[one_item("12.34", "CORE"), one_item("12.34", "CORE")]);
+    for length in [0, 1, 256, 511] {
+        let mut area = vec![7; length];
+        let verdict = records(two.as_bytes(), &mut area);
+        assert_eq!(verdict, Verdict::Refused { number: 17, place: 0 });
+        assert_eq!(area, vec![7; length]);
+    }
+    let mut area = [7; 512];
+    assert_eq!(records(two.as_bytes(), &mut area), Verdict::Accepted { count: 2, cents: 2468 });
+    assert_eq!(area.as_slice(), whole_example().repeat(2).as_bytes());
+    // Refused at the end only: no record is written.
+    let mut area = [7; 512];
+    assert_eq!(
+        records(&two.as_bytes()[..two.len() - 1], &mut area),
+        Verdict::Refused { number: 3, place: two.len() - 1 }
+    );
+    assert_eq!(area, [7; 512]);
+}
+
+#[test]
+fn limits() {
+    // The longest message: white space up to 16,777,216 bytes.
+    let mut longest = sample().into_bytes();
+    longest.resize(16_777_216, b' ');
+    assert_eq!(judge(&longest), Verdict::Accepted { count: 1, cents: 1234 });
+    longest.push(b' ');
+    assert_eq!(judge(&longest), Verdict::Refused { number: 1, place: 0 });
+    longest.fill(0);
+    assert_eq!(judge(&longest), Verdict::Refused { number: 1, place: 0 });
+
+    // 10,000 items, and one more.
+    let item = one_item("999999999.99", "CORE");
+    let most = format!("{ROOT}{}{}", header("10000", "9999999999900.00"), item.repeat(10_000));
+    let accepted = Verdict::Accepted { count: 10_000, cents: 999_999_999_990_000 };
+    assert_eq!(judge(format!("{most}{CLOSE}").as_bytes()), accepted);
+    assert_eq!(refused(&format!("{most} <DrctDbtTxInf")), (3, most.len() + 14));
+    assert_eq!(refused(&format!("{most} <DrctDbtTxInf>")), (12, most.len() + 1));
+    assert_eq!(refused(&format!("{most} <DrctDbtTxInf/>")), (4, most.len() + 1));
+    assert_eq!(refused(&format!("{most} <DrctDbtTxInf>x")), (12, most.len() + 1));
+}

@@ -1,0 +1,373 @@
+//! The value kinds. Each checker is asked for the bytes of one value, as they lie in the message.
+//!
+//! "Accepting, the amount's answers the cents and the count's the number, the others yes" (here 0).
+//! "A single checker asked alone answers with 7 to 9."
+
+/// The refusal numbers of the paper's table. "Number 5 is not used."
+pub mod number {
+    /// over 16,777,216 bytes
+    pub const TOO_LONG: u8 = 1;
+    /// starts `<?` but not the declaration, or root tag wrong
+    pub const ROOT: u8 = 2;
+    /// ends where more is due
+    pub const ENDS: u8 = 3;
+    /// not a tag that may come here
+    pub const TAG: u8 = 4;
+    /// currency, three capitals, not EUR
+    pub const CURRENCY: u8 = 6;
+    /// value not of its kind's form
+    pub const FORM: u8 = 7;
+    /// check digits
+    pub const CHECK_DIGITS: u8 = 8;
+    /// amount outside its range
+    pub const RANGE: u8 = 9;
+    /// code not listed
+    pub const CODE: u8 = 10;
+    /// LclInstrm differs from the first item's
+    pub const INSTRUMENT: u8 = 11;
+    /// item 10,001 begins
+    pub const TOO_MANY: u8 = 12;
+    /// running sum over the header total's upper range
+    pub const SUM: u8 = 13;
+    /// NbOfTxs is not the item count
+    pub const COUNT: u8 = 14;
+    /// total is not the sum
+    pub const TOTAL: u8 = 15;
+    /// bytes after `</Document>` and white space
+    pub const AFTER: u8 = 16;
+    /// record area under 256 times the count
+    pub const AREA_TOO_SMALL: u8 = 17;
+    /// asked for an item not there
+    pub const NO_SUCH_ITEM: u8 = 18;
+}
+
+use number::{CHECK_DIGITS, CODE, FORM, RANGE};
+
+/// "Header total: 1 to 99,999,999,999,999,999 cents."
+pub const HEADER_MOST: u64 = 99_999_999_999_999_999;
+/// "Item: 1 to 99,999,999,999 cents."
+pub const ITEM_MOST: u64 = 99_999_999_999;
+
+/// Yes, or not of the form.
+#[inline]
+fn form(holds: bool) -> Result<u64, u8> {
+    if holds {
+        Ok(0)
+    } else {
+        Err(FORM)
+    }
+}
+
+/// `A-Z a-z 0-9 / - ? : ( ) . , ' +`
+#[inline]
+fn in_reference_set(byte: u8) -> bool {
+    matches!(
+        byte,
+        b'A'..=b'Z' | b'a'..=b'z' | b'0'..=b'9'
+            | b'/' | b'-' | b'?' | b':' | b'(' | b')' | b'.' | b',' | b'\'' | b'+'
+    )
+}
+
+/// That set and space.
+#[inline]
+fn in_text_set(byte: u8) -> bool {
+    in_reference_set(byte) || byte == b' '
+}
+
+#[inline]
+fn is_capital_or_digit(byte: &u8) -> bool {
+    byte.is_ascii_uppercase() || byte.is_ascii_digit()
+}
+
+/// The number that two digits write, if they are digits.
+#[inline]
+fn two_digits(tens: u8, units: u8) -> Option<u32> {
+    (tens.is_ascii_digit() && units.is_ascii_digit())
+        .then(|| u32::from(tens - b'0') * 10 + u32::from(units - b'0'))
+}
+
+/// Reference: "1 to 35 of `A-Z a-z 0-9 / - ? : ( ) . , ' +`. No `/` first or last, no `//`."
+#[inline]
+pub fn reference(value: &[u8]) -> Result<u64, u8> {
+    if value.len() > 35 {
+        return Err(FORM);
+    }
+    // A slash that is taken to stand before the value makes a first slash the second of two, and
+    // an empty value one that ends in a slash.
+    let mut last = b'/';
+    for &byte in value {
+        if !in_reference_set(byte) || (byte == b'/' && last == b'/') {
+            return Err(FORM);
+        }
+        last = byte;
+    }
+    form(last != b'/')
+}
+
+/// Text: "that set and space, first byte not a space. No slash rule."
+#[inline]
+fn text(value: &[u8], longest: usize) -> Result<u64, u8> {
+    form(
+        value.len() <= longest
+            && value.first().is_some_and(|&first| first != b' ')
+            && value.iter().all(|&byte| in_text_set(byte)),
+    )
+}
+
+/// Text of a name: "Nm 1 to 70".
+#[inline]
+pub fn text70(value: &[u8]) -> Result<u64, u8> {
+    text(value, 70)
+}
+
+/// Text of a remittance: "Ustrd 1 to 140".
+#[inline]
+pub fn text140(value: &[u8]) -> Result<u64, u8> {
+    text(value, 140)
+}
+
+/// Date: "`YYYY-MM-DD`, year 0001 to 9999, a real Gregorian day."
+#[inline]
+pub fn date(value: &[u8]) -> Result<u64, u8> {
+    form(is_date(value).unwrap_or(false))
+}
+
+#[inline]
+fn is_date(value: &[u8]) -> Option<bool> {
+    let &[y1, y2, y3, y4, b'-', m1, m2, b'-', d1, d2] = value else {
+        return None;
+    };
+    let year = two_digits(y1, y2)? * 100 + two_digits(y3, y4)?;
+    let month = two_digits(m1, m2)?;
+    let day = two_digits(d1, d2)?;
+    Some(year >= 1 && day >= 1 && day <= days_in(year, month))
+}
+
+/// The days of a month, 0 for a month that is none.
+#[inline]
+fn days_in(year: u32, month: u32) -> u32 {
+    match month {
+        1 | 3 | 5 | 7 | 8 | 10 | 12 => 31,
+        4 | 6 | 9 | 11 => 30,
+        2 if year % 4 == 0 && (year % 100 != 0 || year % 400 == 0) => 29,
+        2 => 28,
+        _ => 0,
+    }
+}
+
+/// Time: "date, `T`, `hh:mm:ss` (00-23, 00-59, 00-59), then optionally `.` and three digits, then
+/// nothing, `Z`, or a sign and `hh:mm` from 00:00 to 14:00."
+#[inline]
+pub fn time(value: &[u8]) -> Result<u64, u8> {
+    form(is_time(value).unwrap_or(false))
+}
+
+#[inline]
+fn is_time(value: &[u8]) -> Option<bool> {
+    let (day, after) = value.split_at_checked(10)?;
+    let &[b'T', h1, h2, b':', m1, m2, b':', s1, s2, ref after @ ..] = after else {
+        return None;
+    };
+    let after = match after {
+        [b'.', f1, f2, f3, zone @ ..] if [f1, f2, f3].iter().all(|f| f.is_ascii_digit()) => zone,
+        zone => zone,
+    };
+    let zone_holds = match *after {
+        [] | [b'Z'] => true,
+        [b'+' | b'-', h1, h2, b':', m1, m2] => {
+            let (hours, minutes) = (two_digits(h1, h2)?, two_digits(m1, m2)?);
+            minutes <= 59 && hours * 60 + minutes <= 14 * 60
+        }
+        _ => false,
+    };
+    Some(
+        is_date(day)?
+            && two_digits(h1, h2)? <= 23
+            && two_digits(m1, m2)? <= 59
+            && two_digits(s1, s2)? <= 59
+            && zone_holds,
+    )
+}
+
+/// The digits at the start of a value as a number, and what follows them; "1 to 15 digits".
+#[inline]
+fn up_to_15_digits(value: &[u8]) -> Result<(u64, &[u8]), u8> {
+    let mut number = 0;
+    let mut length = 0;
+    while length < value.len() && value[length].is_ascii_digit() {
+        if length == 15 {
+            return Err(FORM);
+        }
+        number = number * 10 + u64::from(value[length] - b'0');
+        length += 1;
+    }
+    if length == 0 {
+        return Err(FORM);
+    }
+    Ok((number, &value[length..]))
+}
+
+/// Count: "1 to 15 digits". Answers the number.
+#[inline]
+pub fn count(value: &[u8]) -> Result<u64, u8> {
+    match up_to_15_digits(value)? {
+        (number, []) => Ok(number),
+        _ => Err(FORM),
+    }
+}
+
+/// Amount: "1 to 15 digits, optionally `.` and one or two digits. Its worth in cents is the digits
+/// before the point times 100, plus the fraction as two digits. Leading zeros change nothing."
+#[inline]
+fn amount(value: &[u8], most: u64) -> Result<u64, u8> {
+    let (whole, after) = up_to_15_digits(value)?;
+    let fraction = match *after {
+        [] => Some(0),
+        [b'.', tens] => two_digits(tens, b'0'),
+        [b'.', tens, units] => two_digits(tens, units),
+        _ => None,
+    };
+    let cents = whole * 100 + u64::from(fraction.ok_or(FORM)?);
+    if cents == 0 || cents > most {
+        return Err(RANGE);
+    }
+    Ok(cents)
+}
+
+/// An item's amount: "Item: 1 to 99,999,999,999 cents." Answers the cents.
+#[inline]
+pub fn item_amount(value: &[u8]) -> Result<u64, u8> {
+    amount(value, ITEM_MOST)
+}
+
+/// The header's amount: "Header total: 1 to 99,999,999,999,999,999 cents." Answers the cents.
+#[inline]
+pub fn header_amount(value: &[u8]) -> Result<u64, u8> {
+    amount(value, HEADER_MOST)
+}
+
+/// BIC: "six capitals; one of `A-Z 2-9`; one of `A-N P-Z 0-9`; then nothing or three of `A-Z 0-9`."
+#[inline]
+pub fn bic(value: &[u8]) -> Result<u64, u8> {
+    let Some((&[ref party @ .., seventh, eighth], branch)) = value.split_first_chunk::<8>() else {
+        return Err(FORM);
+    };
+    form(
+        party.iter().all(u8::is_ascii_uppercase)
+            && matches!(seventh, b'A'..=b'Z' | b'2'..=b'9')
+            && matches!(eighth, b'A'..=b'N' | b'P'..=b'Z' | b'0'..=b'9')
+            && matches!(branch.len(), 0 | 3)
+            && branch.iter().all(is_capital_or_digit),
+    )
+}
+
+/// IBAN: "two capitals, two digits, then capitals or digits; 15 to 34 in all", and its check digits:
+/// "move the first four characters to the end".
+#[inline]
+pub fn iban(value: &[u8]) -> Result<u64, u8> {
+    if !(15..=34).contains(&value.len()) || !value[4..].iter().all(is_capital_or_digit) {
+        return Err(FORM);
+    }
+    check_digits(country_and_digits(value)?, &value[4..])
+}
+
+/// Creditor identifier: "8 to 35; two capitals, two digits, three letters or digits, then the
+/// reference set (no slash rule) with at least one letter or digit", and its check digits: "drop
+/// positions 5 to 7, drop what is no letter or digit, move the first four to the end".
+#[inline]
+pub fn creditor_id(value: &[u8]) -> Result<u64, u8> {
+    if !(8..=35).contains(&value.len()) {
+        return Err(FORM);
+    }
+    let head = country_and_digits(value)?;
+    let (business, national) = value[4..].split_at(3);
+    if !business.iter().all(u8::is_ascii_alphanumeric)
+        || !national.iter().all(|&byte| in_reference_set(byte))
+        || !national.iter().any(u8::is_ascii_alphanumeric)
+    {
+        return Err(FORM);
+    }
+    check_digits(head, national)
+}
+
+/// "two capitals, two digits": the first four characters of an IBAN and of an identifier.
+#[inline]
+fn country_and_digits(value: &[u8]) -> Result<&[u8; 4], u8> {
+    match value.first_chunk() {
+        Some(head @ [b'A'..=b'Z', b'A'..=b'Z', b'0'..=b'9', b'0'..=b'9']) => Ok(head),
+        _ => Err(FORM),
+    }
+}
+
+/// Check digits (ISO 7064 MOD 97-10): the letters and digits of `body`, then `head`. "Write A to Z
+/// (either case) as 10 to 35. The number leaves 1 when divided by 97, and the check digits are 02
+/// to 98."
+#[inline]
+fn check_digits(head: &[u8; 4], body: &[u8]) -> Result<u64, u8> {
+    let check = (head[2] - b'0') * 10 + (head[3] - b'0');
+    let rest = head.iter().fold(body.iter().fold(0, append), append);
+    if (2..=98).contains(&check) && rest % 97 == 1 {
+        Ok(0)
+    } else {
+        Err(CHECK_DIGITS)
+    }
+}
+
+/// A number that leaves the same rest by 97 as the one that is written when `byte` is written behind
+/// `number`: two digits for a letter, one for a digit, none for another byte.
+#[inline]
+fn append(number: u64, byte: &u8) -> u64 {
+    // 100 times this and 35 more is still a u64.
+    const LARGEST: u64 = 100_000_000_000_000_000;
+    let number = if number > LARGEST { number % 97 } else { number };
+    match byte {
+        b'0'..=b'9' => number * 10 + u64::from(byte - b'0'),
+        b'A'..=b'Z' => number * 100 + u64::from(byte - b'A' + 10),
+        b'a'..=b'z' => number * 100 + u64::from(byte - b'a' + 10),
+        _ => number,
+    }
+}
+
+/// The codes: one function for each element that has one.
+pub mod code {
+    use super::CODE;
+
+    #[inline]
+    fn listed(is: bool) -> Result<u64, u8> {
+        if is {
+            Ok(0)
+        } else {
+            Err(CODE)
+        }
+    }
+
+    /// "SttlmMtd `CLRG`"
+    #[inline]
+    pub fn settlement_method(value: &[u8]) -> Result<u64, u8> {
+        listed(value == b"CLRG")
+    }
+
+    /// "SvcLvl `SEPA`"; "Prtry `SEPA`"
+    #[inline]
+    pub fn sepa(value: &[u8]) -> Result<u64, u8> {
+        listed(value == b"SEPA")
+    }
+
+    /// "LclInstrm `CORE` or `B2B`"
+    #[inline]
+    pub fn local_instrument(value: &[u8]) -> Result<u64, u8> {
+        listed(value == b"CORE" || value == b"B2B")
+    }
+
+    /// "SeqTp `FRST RCUR FNAL OOFF`"
+    #[inline]
+    pub fn sequence_type(value: &[u8]) -> Result<u64, u8> {
+        listed(value == b"FRST" || value == b"RCUR" || value == b"FNAL" || value == b"OOFF")
+    }
+
+    /// "ChrgBr `SLEV`"
+    #[inline]
+    pub fn charge_bearer(value: &[u8]) -> Result<u64, u8> {
+        listed(value == b"SLEV")
+    }
+}
