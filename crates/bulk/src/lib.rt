@@ -20,6 +20,7 @@ ghost use Rattle.bulk.specs.Told.{told, toldVerdict, toldExtent};
 ghost use Rattle.judge.specs.Verdict.{meant, located};
 ghost use Rattle.judge.specs.Message.{judged};
 ghost use Rattle.judge.specs.Items.{item as itemOf};
+ghost use Rattle.records.specs.Area.{recorded};
 
 // Writes the three words.
 fn tell(a: Answer, answer: &mut [u64; 3])
@@ -70,6 +71,15 @@ pub extern "C" fn bulk_item(message: &[u8], i: u64, answer: &mut [u64; 3])
     ensures { λ _. ⌜ now (answer .exit) ≡ toldExtent (itemOf i (now (message .entry))) ⌝ }
 {
     tell_extent(judge::item(message, i), answer);
+}
+
+// A message and a record area: the three words as of `bulk_judge`, or 17, 0, 0 where the area is too small;
+// and a record for each item, or the area as lent.
+#[no_mangle]
+pub extern "C" fn bulk_records(message: &[u8], area: &mut [u8], answer: &mut [u64; 3])
+    ensures { λ _. ⌜ (now (answer .exit) ≡ toldVerdict (recorded (now (message .entry)) (now (area .entry)) .verdict)) × (now (area .exit) ≡ recorded (now (message .entry)) (now (area .entry)) .area) ⌝ }
+{
+    tell_verdict(records::records(message, area), answer);
 }
 
 // An IBAN.

@@ -1,0 +1,23 @@
+-- `bulk::bulk_records` meets its contract: what is told is what `records` answered, and the area is as that left it. Assumes nothing.
+use mathlib.Core.Path.{ap, _∙_}
+use Rattle.bulk.specs.Told.{toldVerdict}
+use borrow.Author.Needs.{needs}
+use Rattle.bulk.proofs.bulk_records.Statement.{statement}
+use Rattle.bulk.proofs.bulk_records.Tie as tie
+
+records-requires : tie.Need-records-requires
+records-requires c κs = search needs
+
+tell-verdict-requires : tie.Need-tell-verdict-requires
+tell-verdict-requires c κs = search needs
+
+same-length : tie.Need-same-length
+same-length c = search needs
+
+returns : tie.Need-returns
+returns c =
+    let r = c .before .before .before .before .records in
+    (c .tell-verdict .ensures ∙ ap toldVerdict (r .ensures .0), r .ensures .1)
+
+pub bulk-records-spec : {M : Type 1} → statement M
+bulk-records-spec = tie.close (tie.spec records-requires tell-verdict-requires same-length returns)

@@ -1,0 +1,4 @@
+pub mod Steady
+pub mod Like
+pub mod Walk
+pub mod Accepted

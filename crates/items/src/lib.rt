@@ -1,0 +1,1 @@
+// The items of an accepted message, one behind the other: laws only.

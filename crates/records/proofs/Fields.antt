@@ -1,0 +1,161 @@
+-- Fields laid one behind the other into a record of spaces. Assumes nothing.
+use mathlib.Core.Path.{_≡_, refl, ap, sym, _∙_}
+use mathlib.Core.List.{List, [], _∷_, _++_, append-assoc}
+use Prim.Native.Nat.{ℕ, zero, suc, _+_, _-_, _≤_, _<_}
+use native.Mathlib.Numerals.{add-one}
+use native.Mathlib.Nat.{add-zero}
+use native.Mathlib.Omega.{arith}
+use lib.ListN.{length, take, drop, getD, set, replicate, length-append, length-take, length-replicate, take-append-drop, drop-of-length-le, replicate-append-replicate}
+use lib.Seq.{paste, paste-suc, take-all, take-length, take-nil, take-take, take-at, drop-at, set-at, drop-drop}
+use Rattle.text.specs.Truth.{lead}
+use Rattle.text.proofs.Scan.{rest-of, lead-le}
+use Rattle.profile.specs.Tags.{inValue}
+use Rattle.reader.specs.Reader.{valueAt}
+use Rattle.notes.specs.declared.State.{State}
+use Rattle.records.specs.Record.{padded, digits, fieldAt, recordOf, laid}
+use Rattle.records.proofs.Digits.{length-digits}
+
+-- ---- a value laid byte by byte
+module _ (rec : List ℕ) (at : ℕ) (v : List ℕ) where
+  pub lay-more : (out : List ℕ) (i : ℕ) → length rec ≡ 256 → at + length v ≤ 256 → i < length v
+      → out ≡ paste rec at v i → set out (at + i) (getD v i 0) ≡ paste rec at v (i + 1)
+  lay-more out i n fits h e = rw (e, add-one i) (paste-suc rec at v i 0 (omega arith) h)
+
+  pub lay-end : (out : List ℕ) (i : ℕ) → i ≤ length v → length v ≤ i → out ≡ paste rec at v i → out ≡ laid at v rec
+  unfolding laid
+  lay-end out i h g e =
+      let z : i ≡ length v = omega arith in
+      e ∙ rw (z, take-length v, append-assoc)
+
+-- nothing laid
+pub laid-none : (at : ℕ) (rec : List ℕ) → rec ≡ laid at [] rec
+unfolding laid
+laid-none at rec = rw (add-zero at) (sym (take-append-drop at rec))
+
+-- ---- the value at a place of the message, as much of it as a field holds
+module _ (m : List ℕ) (start width : ℕ) where
+  pub field-none : length m < start → take width (valueAt m start) ≡ []
+  field-none h =
+      let g : length m ≤ start = omega arith in
+      rw (drop-of-length-le m g) (take-nil width)
+
+  module _ (n : ℕ) (e : n ≡ lead inValue (take (length m - start) (drop start m))) where
+    n-is : n ≡ lead inValue (drop start m)
+    n-is = e ∙ ap (lead inValue) (rest-of start m)
+
+    pub held : n ≤ length (take (length m - start) (drop start m))
+    held = rw (rest-of start m) (rw n-is (lead-le inValue (drop start m)))
+
+    pub field-short : n < width → take n (take (length m - start) (drop start m)) ≡ take width (valueAt m start)
+    field-short h =
+        rw (rest-of start m)
+        (rw (← n-is) (sym (take-all width (take n (drop start m)) (simp length-take (omega arith)))))
+
+    pub field-long : width ≤ n → take width (take (length m - start) (drop start m)) ≡ take width (valueAt m start)
+    field-long h = rw (rest-of start m) (rw (← n-is) (sym (take-take width n (drop start m) h)))
+
+-- ---- the record as far as it is written: its fields, and spaces behind them
+pub record So (at : ℕ) (d r : List ℕ) : Type 0 where
+  pub is : r ≡ d ++ replicate (256 - at) 32
+  pub long : length d ≡ at
+
+drop-replicate : (k n x : ℕ) → drop k (replicate n x) ≡ replicate (n - k) x
+drop-replicate zero n x =
+    let z : n - zero ≡ n = omega arith in
+    rw z
+drop-replicate (suc k) zero x =
+    let z : zero - suc k ≡ zero = omega arith in
+    rw z
+drop-replicate (suc k) (suc n) x =
+    let z : suc n - suc k ≡ n - k = omega arith in
+    rw z (drop-replicate k n x)
+
+take-replicate : (k n x : ℕ) → k ≤ n → take k (replicate n x) ≡ replicate k x
+take-replicate zero n x h = refl
+take-replicate (suc k) zero x h = absurd (let z : ⊥ = omega arith in z)
+take-replicate (suc k) (suc n) x h = ap (λ (l : List ℕ). x ∷ l) (take-replicate k n x (omega arith))
+
+take-padded : (w n : ℕ) (v : List ℕ) → w ≤ n → take w (v ++ replicate n 32) ≡ take w v ++ replicate (w - length (take w v)) 32
+take-padded zero n v h = refl
+take-padded (suc w) n [] h =
+    let z : suc w - 0 ≡ suc w = omega arith in
+    rw z (take-replicate (suc w) n 32 h)
+take-padded (suc w) n (c ∷ v) h =
+    let z : suc w - suc (length (take w v)) ≡ w - length (take w v) = omega arith in
+    rw z (ap (λ (l : List ℕ). c ∷ l) (take-padded w n v (omega arith)))
+
+padded-is : (w : ℕ) (v : List ℕ) → padded w v ≡ take w v ++ replicate (w - length (take w v)) 32
+unfolding padded
+padded-is w v = take-padded w w v (omega arith)
+
+pub length-padded : (w : ℕ) (v : List ℕ) → length (padded w v) ≡ w
+unfolding padded
+length-padded w v = simp (length-take, length-append, length-replicate) (omega arith)
+
+module _ {at : ℕ} {d r : List ℕ} (s : So at d r) where
+  -- whatever is laid next
+  laid-next : (u : List ℕ) → laid at u r ≡ (d ++ u) ++ replicate (256 - (at + length u)) 32
+  unfolding laid
+  laid-next u =
+      let n = length u in
+      let z : 256 - at - n ≡ 256 - (at + n) = omega arith in
+      let e : drop (at + n) (d ++ replicate (256 - at) 32) ≡ replicate (256 - (at + n)) 32 =
+      sym (drop-drop n at (d ++ replicate (256 - at) 32))
+      ∙ ap (drop n) (drop-at d (replicate (256 - at) 32) at (s .long))
+      ∙ drop-replicate n (256 - at) 32
+      ∙ ap (λ (k : ℕ). replicate k 32) z in
+      rw (s .is, take-at d (replicate (256 - at) 32) at (s .long), e, append-assoc)
+
+  pub next-whole : {r′ : List ℕ} (w : ℕ) (u : List ℕ) → length u ≡ w → r′ ≡ laid at u r → So (at + w) (d ++ u) r′
+  next-whole w u n e =
+      record {
+        is = e ∙ laid-next u ∙ rw n;
+        long = length-append d u ∙ (rw (s .long, n));
+      }
+
+  pub next-padded : {r′ : List ℕ} (w : ℕ) (v : List ℕ) → at + w ≤ 256 → r′ ≡ laid at (take w v) r → So (at + w) (d ++ padded w v) r′
+  next-padded w v fits e =
+      let u = take w v in
+      let rest = 256 - (at + w) in
+      let h : length u ≤ w = simp length-take (omega arith) in
+      let z : 256 - (at + length u) ≡ w - length u + rest = omega arith in
+      let f : laid at u r ≡ (d ++ padded w v) ++ replicate rest 32 =
+      laid-next u
+      ∙ rw (z, ← replicate-append-replicate {A = ℕ} (w - length u) rest 32, padded-is w v) (simp append-assoc) in
+      record { is = e ∙ f; long = length-append d (padded w v) ∙ (rw (s .long, length-padded w v)) }
+
+-- the last byte
+pub ended : {d r : List ℕ} → So 255 d r → set r 255 10 ≡ d ++ (10 ∷ [])
+ended {d} s = rw (s .is) (set-at d 32 [] 10 255 (s .long))
+
+-- ---- all fields
+pub blank : So 0 [] (replicate 256 32)
+blank = record { is = refl; long = refl }
+
+module _ (m : List ℕ) (t : State) where
+  pub whole : {r0 r1 r2 r3 r4 r5 r6 r7 r8 r9 r10 : List ℕ}
+      → r0 ≡ laid 0 (take 35 (fieldAt m t 0)) (replicate 256 32)
+      → r1 ≡ laid 35 (take 35 (fieldAt m t 1)) r0
+      → r2 ≡ laid 70 (take 35 (fieldAt m t 2)) r1
+      → r3 ≡ laid 105 (take 34 (fieldAt m t 3)) r2
+      → r4 ≡ laid 139 (take 34 (fieldAt m t 4)) r3
+      → r5 ≡ laid 173 (take 11 (fieldAt m t 5)) r4
+      → r6 ≡ laid 184 (digits 11 (t .notes .cents)) r5
+      → r7 ≡ laid 195 (take 10 (fieldAt m t 6)) r6
+      → r8 ≡ laid 205 (take 4 (fieldAt m t 7)) r7
+      → r9 ≡ laid 209 (take 35 (fieldAt m t 8)) r8
+      → r10 ≡ laid 244 (take 11 (fieldAt m t 9)) r9
+      → set r10 255 10 ≡ recordOf m t
+  unfolding recordOf
+  whole e0 e1 e2 e3 e4 e5 e6 e7 e8 e9 e10 =
+      let s0 = next-padded blank 35 (fieldAt m t 0) (omega arith) e0 in
+      let s1 = next-padded s0 35 (fieldAt m t 1) (omega arith) e1 in
+      let s2 = next-padded s1 35 (fieldAt m t 2) (omega arith) e2 in
+      let s3 = next-padded s2 34 (fieldAt m t 3) (omega arith) e3 in
+      let s4 = next-padded s3 34 (fieldAt m t 4) (omega arith) e4 in
+      let s5 = next-padded s4 11 (fieldAt m t 5) (omega arith) e5 in
+      let s6 = next-whole s5 11 (digits 11 (t .notes .cents)) (length-digits 11 (t .notes .cents)) e6 in
+      let s7 = next-padded s6 10 (fieldAt m t 6) (omega arith) e7 in
+      let s8 = next-padded s7 4 (fieldAt m t 7) (omega arith) e8 in
+      let s9 = next-padded s8 35 (fieldAt m t 8) (omega arith) e9 in
+      ended (next-padded s9 11 (fieldAt m t 9) (omega arith) e10)

@@ -1,0 +1,5 @@
+pub mod Fields
+pub mod Digits
+pub mod Areas
+pub mod Order
+pub mod Once

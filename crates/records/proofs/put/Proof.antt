@@ -1,0 +1,75 @@
+-- `records::put` meets its contract: a value that ends within the field, one that fills it, and none. Assumes nothing.
+use native.Mathlib.Omega.{arith}
+use mathlib.Core.Path.{ap, sym, _∙_}
+use Prim.Native.Nat.{ℕ}
+use mathlib.Core.List.{List}
+use lib.ListN.{length-take}
+use lib.Seq.{length-take-le}
+use Rattle.records.specs.Record.{laid}
+use Rattle.records.proofs.Fields.{laid-none, field-none, held, field-short, field-long}
+use borrow.Author.Needs.{needs}
+use Rattle.records.proofs.put.Statement.{statement}
+use Rattle.records.proofs.put.Tie as tie
+
+returns : tie.Need-returns
+returns c =
+    let a = c .before .before .args in
+    laid-none (a .at) (a .rec) ∙ ap (λ (l : List ℕ). laid (a .at) l (a .rec)) (sym (field-none (a .m .now) (a .start) (a .width) (c .if1 .taken)))
+
+sub-s : tie.Need-sub-s
+sub-s c = search needs
+
+part-s-start : tie.Need-part-s-start
+part-s-start c = search needs
+
+part-s-end : tie.Need-part-s-end
+part-s-end c = search needs
+
+upto-requires : tie.Need-upto-requires
+upto-requires c κs = search needs
+
+slice-aggregate-lay : tie.Need-slice-aggregate-lay
+slice-aggregate-lay c =
+    let a = c .before .before .before .before .before .before .args in
+    let u = c .before .before .upto in
+    sym (length-take-le _ _ (held (a .m .now) (a .start) (a .width) (u .result) (u .ensures)))
+
+lay-requires : tie.Need-lay-requires
+lay-requires c κs = simp length-take (omega arith)
+
+returns-2 : tie.Need-returns-2
+returns-2 c =
+    let a = c .before .before .before .before .before .before .before .args in
+    let u = c .before .before .before .upto in
+    c .lay .ensures ∙ ap (λ (l : List ℕ). laid (a .at) l (a .rec)) (field-short (a .m .now) (a .start) (a .width) (u .result) (u .ensures) (c .before .before .if2 .taken))
+
+slice-aggregate-lay-2 : tie.Need-slice-aggregate-lay-2
+slice-aggregate-lay-2 c =
+    let a = c .before .before .before .before .before .before .args in
+    let u = c .before .before .upto in
+    sym (length-take-le _ _ (omega (arith, held (a .m .now) (a .start) (a .width) (u .result) (u .ensures))))
+
+lay-requires-2 : tie.Need-lay-requires-2
+lay-requires-2 c κs = simp length-take (omega arith)
+
+returns-3 : tie.Need-returns-3
+returns-3 c =
+    let a = c .before .before .before .before .before .before .before .args in
+    let u = c .before .before .before .upto in
+    c .lay2 .ensures ∙ ap (λ (l : List ℕ). laid (a .at) l (a .rec)) (field-long (a .m .now) (a .start) (a .width) (u .result) (u .ensures) (c .before .before .if2 .left))
+
+pub put-spec : {M : Type 1} → statement M
+put-spec =
+    tie.close
+    (tie.spec
+    returns
+    sub-s
+    part-s-start
+    part-s-end
+    upto-requires
+    slice-aggregate-lay
+    lay-requires
+    returns-2
+    slice-aggregate-lay-2
+    lay-requires-2
+    returns-3)

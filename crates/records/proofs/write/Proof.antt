@@ -1,0 +1,60 @@
+-- `records::write` meets its contract. The loop's invariant: the first i bytes are the record's. The measure is what is left of 256. Assumes nothing.
+use borrow.Author.Needs.{needs}
+use native.Mathlib.Omega.{arith}
+use mathlib.Core.Path.{_≡_, refl}
+use Prim.Native.Nat.{_≤_, _-_}
+use lib.ListN.{length, take}
+use Rattle.records.proofs.Areas.{write-more, write-end}
+use Rattle.records.proofs.write.Statement.{statement}
+use Rattle.records.proofs.write.Tie as tie
+
+abbrev Inv-loop : tie.InvT-loop
+Inv-loop part₀ rec i₀ part i = (take i part ≡ take i rec) × (i ≤ 256) × (length part ≡ 256)
+
+abbrev μ-loop : tie.MeasureT-loop
+μ-loop part₀ rec i₀ part i = 256 - i
+
+loop-holds : tie.Need-loop-holds Inv-loop μ-loop
+loop-holds c = (refl, search needs, c .pre)
+
+array-read-part : tie.Need-array-read-part Inv-loop μ-loop
+array-read-part c = search needs
+
+slice-write-part : tie.Need-slice-write-part Inv-loop μ-loop
+slice-write-part c = search needs
+
+add-i : tie.Need-add-i Inv-loop μ-loop
+add-i c = search needs
+
+loop-less : tie.Need-loop-less Inv-loop μ-loop
+loop-less c = search needs
+
+loop-again : tie.Need-loop-again Inv-loop μ-loop
+loop-again c =
+    let s = c .before .before in
+    let l = c .before .loop in
+    (write-more (l .part) (s .args .t2) (l .i) (l .inv .0) (omega arith) (omega (arith, s .good .1 .0 .1 .0 .1)), search needs, search needs)
+
+same-length : tie.Need-same-length Inv-loop μ-loop
+same-length c = search needs
+
+returns : tie.Need-returns Inv-loop μ-loop
+returns c =
+    let s = c .before .before in
+    let l = c .before .loop in
+    write-end (l .part) (s .args .t2) (l .i) (l .inv .0) (omega arith) (omega (arith, s .good .1 .0 .1 .0 .1))
+
+pub write-spec : {M : Type 1} → statement M
+write-spec =
+    tie.close
+    (tie.spec
+    Inv-loop
+    μ-loop
+    loop-holds
+    array-read-part
+    slice-write-part
+    add-i
+    loop-less
+    loop-again
+    same-length
+    returns)

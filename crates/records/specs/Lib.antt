@@ -1,0 +1,4 @@
+pub mod Record
+pub mod Area
+pub mod Example
+pub mod Order
