@@ -1,0 +1,9 @@
+pub mod Texts
+pub mod Noted
+pub mod Rows
+pub mod Complete
+pub mod Sound
+pub mod Ends
+pub mod Tally
+pub mod Often
+pub mod Exactly

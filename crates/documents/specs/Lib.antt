@@ -1,0 +1,4 @@
+pub mod Document
+pub mod Entries
+pub mod Sure
+pub mod Message
