@@ -1,0 +1,3 @@
+pub mod Values
+pub mod Swap
+pub mod Digits

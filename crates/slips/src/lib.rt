@@ -1,0 +1,1 @@
+// Laws only: one slip in an accepted message is always refused.
