@@ -73,13 +73,13 @@ totals-most (value Amount slot p v ∷ l) h = totals-most l (h .1)
 totals-most (value (Code e) slot p v ∷ l) h = totals-most l (h .1)
 
 -- ---- what the header says is compared
-record Compared (st : State) (n c : ℕ) : Type 0 where
+pub record Compared (st : State) (n c : ℕ) : Type 0 where
   pub count : st .notes .count ≡ n
   pub nb : st .notes .nb ≡ n
   pub sum : st .notes .sum ≡ c
   pub total : st .notes .total ≡ c
 
-compared-is : (st : State) (n c : ℕ) → compared st ≡ accepted n c → Compared st n c
+pub compared-is : (st : State) (n c : ℕ) → compared st ≡ accepted n c → Compared st n c
 unfolding compared
 compared-is st n c = go (eqb (st .notes .nb) (st .notes .count)) (eqb (st .notes .total) (st .notes .sum)) refl refl
   where
@@ -103,7 +103,7 @@ only-one [] n h e = absurd (let z : ⊥ = omega arith in z)
 only-one (x ∷ []) n h e = ap (λ (y : ℕ). y ∷ []) e
 only-one (x ∷ y ∷ l) n h e = absurd (let z : ⊥ = omega arith in z)
 
-abbrev aCount : Kind → ℕ
+abbrev pub aCount : Kind → ℕ
 aCount (Plain j) = 0
 aCount Count = 1
 aCount Total = 0
@@ -117,7 +117,7 @@ aTotal Total = 1
 aTotal Amount = 0
 aTotal (Code e) = 0
 
-count-size : (k : Kind) (v : List ℕ) → length (ofCount k v) ≡ aCount k
+pub count-size : (k : Kind) (v : List ℕ) → length (ofCount k v) ≡ aCount k
 count-size (Plain j) v = refl
 count-size Count v = refl
 count-size Total v = refl
@@ -172,10 +172,10 @@ module _ (d : Message profile) (law : Lawful profile d) where
 
 -- Her second demand. Accepted with a count and a sum of cents: exactly the messages that are the text of a document of the profile, in which every value is of its kind,
 -- the codes are listed and LclInstrm is the same in all items, with as many items and as many cents as the header says, within the limits.
-pub accepted-exactly : (m : List ℕ) (n c : ℕ) → (judged m ≡ accepted n c → Profiled m n c) × (Profiled m n c → judged m ≡ accepted n c)
+pub accepted-exactly : (m : List ℕ) (n c : ℕ) → (judged m ≡ accepted n c → Profiled profile m n c) × (Profiled profile m n c → judged m ≡ accepted n c)
 accepted-exactly m n c = (profiled, allowed)
   where
-    profiled : judged m ≡ accepted n c → Profiled m n c
+    profiled : judged m ≡ accepted n c → Profiled profile m n c
     profiled e =
         let d = accepted-document m n c e in
         let h : length (whole (d .message)) ≤ 16777216 = rw (← d .is) (d .short) in
@@ -189,7 +189,7 @@ accepted-exactly m n c = (profiled, allowed)
               (sym (judged-told (d .message) (d .lawful) h) ∙ ap judged (sym (d .is)) ∙ e);
         }
 
-    allowed : Profiled m n c → judged m ≡ accepted n c
+    allowed : Profiled profile m n c → judged m ≡ accepted n c
     allowed p =
         let h : length (whole (p .message)) ≤ 16777216 = rw (← p .is) (p .short) in
         ap judged (p .is) ∙ judged-told (p .message) (p .lawful) h ∙ holds-weighed (p .message) (p .lawful) n c (p .holds)

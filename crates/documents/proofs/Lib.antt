@@ -7,3 +7,4 @@ pub mod Ends
 pub mod Tally
 pub mod Often
 pub mod Exactly
+pub mod Bulks

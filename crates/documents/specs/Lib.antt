@@ -2,3 +2,4 @@ pub mod Document
 pub mod Entries
 pub mod Sure
 pub mod Message
+pub mod Bulk

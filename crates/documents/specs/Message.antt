@@ -15,7 +15,6 @@ use Rattle.money.specs.Amount.{amountGiven}
 use Rattle.profile.specs.declared.Kind.{Kind}
 use Rattle.profile.specs.declared.Kind.the-variants.{Plain, Count, Total, Amount, Code}
 use Rattle.profile.specs.Tree.{Shape}
-use Rattle.profile.specs.Profile.{profile}
 use Rattle.profile.specs.Tags.{declaration, root}
 use Rattle.notes.specs.Reading.{Reading, on, stop}
 use Rattle.notes.specs.Noting.{plainGiven}
@@ -145,10 +144,10 @@ pub record Holds (es : List Entry) (n c : ℕ) : Type 0 where
   pub cents : sum (gathered ofAmount es) ≡ c
   pub total : gathered ofTotal es ≡ c ∷ []
 
--- a message that is the text of a document of which the profile holds
-pub record Profiled (m : List ℕ) (n c : ℕ) : Type 0 where
-  pub message : Message profile
-  pub lawful : Lawful profile message
+-- a message that is the text of a document, of a tree, of which the profile holds
+pub record Profiled (sh : Shape) (m : List ℕ) (n c : ℕ) : Type 0 where
+  pub message : Message sh
+  pub lawful : Lawful sh message
   pub is : m ≡ whole message
   pub short : length m ≤ 16777216
   pub holds : Holds (told message) n c
