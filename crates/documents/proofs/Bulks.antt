@@ -30,7 +30,7 @@ use Rattle.documents.proofs.Tally.{lastly, says-tallied}
 use Rattle.documents.proofs.Often.{gathered-append, weight, weight-append, weight-items, weight-gathered, times, fixed, along-weight, as-often}
 use Rattle.documents.proofs.Exactly.{aCount, count-size, Compared, compared-is, accepted-exactly}
 
-profile-tree : profile ≡ tree many
+pub profile-tree : profile ≡ tree many
 unfolding profile inHeader inItem
 profile-tree = refl
 
@@ -150,11 +150,11 @@ Again many = Unit {0}
 Again more = Unit {0}
 
 -- no item stands within the header or within another item, and no count within an item
-header-itemless : fixed (λ k. 0) 1 inHeader ≡ true
+pub header-itemless : fixed (λ k. 0) 1 inHeader ≡ true
 unfolding inHeader
 header-itemless = refl
 
-header-none : times (λ k. 0) 1 inHeader ≡ 0
+pub header-none : times (λ k. 0) 1 inHeader ≡ 0
 unfolding inHeader
 header-none = refl
 
@@ -189,18 +189,24 @@ module _ (o : Occ) (a : Again o) (b : Bulk) (law : Lawful (tree o) (message o b)
   abbrev listed : List Entry
   listed = along itemText (itemEntries o) (itemsAt b) (b .items)
 
-  items-proper : Each (LedBy (Proper inItem)) (b .items)
+  pub items-proper : Each (LedBy (Proper inItem)) (b .items)
   items-proper = law .inside .1 .0 .1 .2 .1
 
-  header-proper : Proper inHeader (b .header .held)
+  pub header-proper : Proper inHeader (b .header .held)
   header-proper = law .inside .1 .0 .1 .1 .0 .1
+
+  pub header-itemfree : itemsIn (headerEntries b) ≡ 0
+  header-itemfree =
+      sym (weight-items (headerEntries b))
+      ∙ as-often (λ k. 0) 1 inHeader header-itemless (b .header .held) header-proper (headerAt b + length (b .header .blank) + length (plainTag "GrpHdr"))
+      ∙ header-none
 
   pub items-said : itemsIn (told (message o b)) ≡ length (b .items)
   items-said =
       sym (weight-items (told (message o b)))
       ∙ ap (weight (λ k. 0) 1) (told-parts o b)
       ∙ weight-append (λ k. 0) 1 (headerEntries b) listed
-      ∙ (rw (as-often (λ k. 0) 1 inHeader header-itemless (b .header .held) header-proper (headerAt b + length (b .header .blank) + length (plainTag "GrpHdr")) ∙ header-none,
+      ∙ (rw (weight-items (headerEntries b) ∙ header-itemfree,
       along-weight (λ k. 0) 1 itemText (itemEntries o) (LedBy (Proper inItem)) 1 (item-weight (λ k. 0) 1 item-itemless item-none o a) (itemsAt b) (b .items) items-proper) (omega arith))
 
   -- what its header says of the count is no matter of the items

@@ -112,7 +112,7 @@ module _ (m : List ℕ) where
           ∙ ap (λ (w : ℕ). andThen (noted k slot v (moved t q)) (λ u. on (moved u w))) (omega (arith, length-append (opening k n) (v ++ endTag n)))
 
   -- ---- a group
-  group-told : (o : Occ) (n : String) (inner : State → Reading) (t : List ℕ) (es : ℕ → List Entry) → Tells m inner t es
+  pub group-told : (o : Occ) (n : String) (inner : State → Reading) (t : List ℕ) (es : ℕ → List Entry) → Tells m inner t es
       → Tells m (groupBody o n inner m) (plainTag n ++ t) (λ p. begins o p ++ es (p + length (plainTag n)))
   group-told o n inner t es k st s e =
       then-then (counted o st) (λ u. on (moved u (st .at + length (exactly (plainTag n))))) inner

@@ -158,7 +158,7 @@ module _ (sh : Shape) (clear : sure sh ≡ true) (d : Message sh) (law : Lawful 
   abbrev ends : ℕ
   ends = length (head d) + length (text sh (d .inside))
 
-  read-whole : read sh (whole d) (moved fresh (length (head d))) ≡ noting (told d) ends fresh
+  pub read-whole : read sh (whole d) (moved fresh (length (head d))) ≡ noting (told d) ends fresh
   read-whole =
       read-tells (whole d) sh clear (d .inside) (law .inside) (moved fresh (length (head d))) (d .behind) (drop-append-seam (head d) (text sh (d .inside) ++ d .behind))
       ∙ noting-moved (told d) ends fresh (length (head d))
@@ -178,7 +178,7 @@ module _ (sh : Shape) (clear : sure sh ≡ true) (d : Message sh) (law : Lawful 
   concluded-whole = ap (concluded (whole d)) read-whole ∙ concluded-weighed (says (told d) fresh)
 
 -- one tag tells what comes, at each place of the profile
-profile-sure : sure profile ≡ true
+pub profile-sure : sure profile ≡ true
 unfolding profile
 profile-sure = refl
 
@@ -190,7 +190,7 @@ judged-told d law h =
     (ap (λ (o : Opened). concluded (whole d) (readFrom (whole d) o)) (opens profile d law (text profile (d .inside) ++ d .behind)) ∙ concluded-whole profile profile-sure d law)
 
 -- what is accepted goes on to its end, however long it is
-read-on : (m : List ℕ) (n c p : ℕ) → opened m ≡ From p → judged m ≡ accepted n c → (length m ≤ 16777216) × (concluded m (read profile m (moved fresh p)) ≡ accepted n c)
+pub read-on : (m : List ℕ) (n c p : ℕ) → opened m ≡ From p → judged m ≡ accepted n c → (length m ≤ 16777216) × (concluded m (read profile m (moved fresh p)) ≡ accepted n c)
 unfolding judged
 read-on m n c p o = go (ltb 16777216 (length m)) refl
   where

@@ -8,3 +8,4 @@ pub mod Tally
 pub mod Often
 pub mod Exactly
 pub mod Bulks
+pub mod Items

@@ -68,6 +68,7 @@ lastServed-append n (i ∷ a) b = lastServed-append (suc i) a b
 record Told (s : State) (k : Kind) (v : List ℕ) (u : State) : Type 0 where
   pub kind : OfKind k v
   pub counted : u .notes .count ≡ s .notes .count
+  pub first : u .notes .first ≡ s .notes .first
   pub summed : u .notes .sum ≡ s .notes .sum + sum (ofAmount k v)
   pub count : u .notes .nb ≡ lastly (s .notes .nb) (ofCount k v)
   pub total : u .notes .total ≡ lastly (s .notes .total) (ofTotal k v)
@@ -91,6 +92,7 @@ module _ (s : State) where
       record {
         kind = h;
         counted = rw (← e);
+        first = rw (← e);
         summed = rw (a, ← e) (omega arith);
         count = rw (b, ← e);
         total = rw (c, ← e);
@@ -115,6 +117,7 @@ module _ (s : State) where
           record {
             kind = rw q tt;
             counted = rw (← y);
+            first = rw (← y);
             summed = rw (← y) (omega arith);
             count = rw (← y);
             total = rw (← y);
@@ -139,6 +142,7 @@ module _ (s : State) where
           record {
             kind = g .passes;
             counted = rw (← y);
+            first = rw (← y);
             summed = rw (← y) (omega arith);
             count = rw (← y);
             total = rw (← y);
@@ -154,11 +158,11 @@ module _ (s : State) where
   judged-told Count v u e =
       let g = given-on (countGiven v) (s .at) (λ n. on (withCount n s)) u e in
       let y : withCount (valueOf (countGiven v)) s ≡ u = same-on (withCount (valueOf (countGiven v)) s) u (g .then) in
-      record { kind = g .passes; counted = rw (← y); summed = rw (← y) (omega arith); count = rw (← y); total = rw (← y); serves = tt; service = rw (← y) }
+      record { kind = g .passes; counted = rw (← y); first = rw (← y); summed = rw (← y) (omega arith); count = rw (← y); total = rw (← y); serves = tt; service = rw (← y) }
   judged-told Total v u e =
       let g = given-on (amountGiven theTotal v) (s .at) (λ n. on (withTotal n s)) u e in
       let y : withTotal (valueOf (amountGiven theTotal v)) s ≡ u = same-on (withTotal (valueOf (amountGiven theTotal v)) s) u (g .then) in
-      record { kind = g .passes; counted = rw (← y); summed = rw (← y) (omega arith); count = rw (← y); total = rw (← y); serves = tt; service = rw (← y) }
+      record { kind = g .passes; counted = rw (← y); first = rw (← y); summed = rw (← y) (omega arith); count = rw (← y); total = rw (← y); serves = tt; service = rw (← y) }
   judged-told Amount v u e = amount-told v u e
   judged-told (Code e) v u h = code-told e v u (codeGiven e v) refl h
 
@@ -171,6 +175,7 @@ module _ (s : State) where
       record {
         kind = t .kind;
         counted = rw (← y) (t .counted);
+        first = rw (← y) (t .first);
         summed = rw (← y) (t .summed);
         count = rw (← y) (t .count);
         total = rw (← y) (t .total);
@@ -179,10 +184,17 @@ module _ (s : State) where
       }
 
 -- ---- all entries
+-- where the first item begins, so many items having come before
+abbrev pub firstIn : ℕ → ℕ → List Entry → ℕ
+firstIn c f [] = f
+firstIn c f (item p ∷ l) = firstIn (c + 1) (pick (eqb c 0) p f) l
+firstIn c f (value k slot p v ∷ l) = firstIn c f l
+
 pub record Tallied (s : State) (es : List Entry) (t : State) : Type 0 where
   pub kinds : Each Kept es
   pub counted : t .notes .count ≡ s .notes .count + itemsIn es
   pub few : s .notes .count ≤ 10000 → t .notes .count ≤ 10000
+  pub first : t .notes .first ≡ firstIn (s .notes .count) (s .notes .first) es
   pub summed : t .notes .sum ≡ s .notes .sum + sum (gathered ofAmount es)
   pub count : t .notes .nb ≡ lastly (s .notes .nb) (gathered ofCount es)
   pub total : t .notes .total ≡ lastly (s .notes .total) (gathered ofTotal es)
@@ -206,6 +218,7 @@ says-tallied [] s t e =
       kinds = tt;
       counted = rw (← y) (omega arith);
       few = λ h. rw (← y) h;
+      first = rw (← y);
       summed = rw (← y) (omega arith);
       count = rw (← y);
       total = rw (← y);
@@ -221,6 +234,7 @@ says-tallied (item p ∷ l) s t e =
       kinds = (tt, r .kinds);
       counted = omega (arith, r .counted, c);
       few = λ g. r .few (b .1);
+      first = r .first ∙ rw z;
       summed = r .summed ∙ rw z;
       count = r .count ∙ rw z;
       total = r .total ∙ rw z;
@@ -234,6 +248,7 @@ says-tallied (value k slot p v ∷ l) s t e =
       kinds = (b .kind, r .kinds);
       counted = r .counted ∙ rw (b .counted);
       few = λ g. r .few (rw (b .counted) g);
+      first = r .first ∙ rw (b .counted, b .first);
       summed = omega (arith, r .summed, b .summed, sum-append (ofAmount k v) (gathered ofAmount l));
       count = r .count ∙ rw (b .count) (sym (lastly-append (s .notes .nb) (ofCount k v) (gathered ofCount l)));
       total = r .total ∙ rw (b .total) (sym (lastly-append (s .notes .total) (ofTotal k v) (gathered ofTotal l)));
