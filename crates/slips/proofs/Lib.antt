@@ -1,3 +1,4 @@
 pub mod Values
 pub mod Swap
 pub mod Digits
+pub mod Items
