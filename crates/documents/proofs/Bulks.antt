@@ -150,19 +150,19 @@ Again many = Unit {0}
 Again more = Unit {0}
 
 -- no item stands within the header or within another item, and no count within an item
-pub header-itemless : fixed (λ k. 0) 1 inHeader ≡ true
+pub header-itemless : fixed (λ k slot. 0) 1 inHeader ≡ true
 unfolding inHeader
 header-itemless = refl
 
-pub header-none : times (λ k. 0) 1 inHeader ≡ 0
+pub header-none : times (λ k slot. 0) 1 inHeader ≡ 0
 unfolding inHeader
 header-none = refl
 
-item-itemless : fixed (λ k. 0) 1 inItem ≡ true
+item-itemless : fixed (λ k slot. 0) 1 inItem ≡ true
 unfolding inItem
 item-itemless = refl
 
-item-none : times (λ k. 0) 1 inItem ≡ 0
+item-none : times (λ k slot. 0) 1 inItem ≡ 0
 unfolding inItem
 item-none = refl
 
@@ -175,7 +175,7 @@ unfolding inItem
 item-no-count = refl
 
 -- an item weighs what its beginning does
-item-weight : (g : Kind → ℕ) (z : ℕ) → fixed g z inItem ≡ true → times g z inItem ≡ 0 → (o : Occ) → Again o
+item-weight : (g : Kind → ℕ → ℕ) (z : ℕ) → fixed g z inItem ≡ true → times g z inItem ≡ 0 → (o : Occ) → Again o
     → (p : ℕ) (e : Led (Doc inItem)) → LedBy (Proper inItem) e → weight g z (itemEntries o p e) ≡ z
 item-weight g z f h o a p e pr = go o a (as-often g z inItem f (e .held) (pr .1) (p + length (e .blank) + length (plainTag "DrctDbtTxInf")) ∙ h)
   where
@@ -198,16 +198,18 @@ module _ (o : Occ) (a : Again o) (b : Bulk) (law : Lawful (tree o) (message o b)
   pub header-itemfree : itemsIn (headerEntries b) ≡ 0
   header-itemfree =
       sym (weight-items (headerEntries b))
-      ∙ as-often (λ k. 0) 1 inHeader header-itemless (b .header .held) header-proper (headerAt b + length (b .header .blank) + length (plainTag "GrpHdr"))
+      ∙ as-often (λ k slot. 0) 1 inHeader header-itemless (b .header .held) header-proper (headerAt b + length (b .header .blank) + length (plainTag "GrpHdr"))
       ∙ header-none
 
   pub items-said : itemsIn (told (message o b)) ≡ length (b .items)
   items-said =
       sym (weight-items (told (message o b)))
-      ∙ ap (weight (λ k. 0) 1) (told-parts o b)
-      ∙ weight-append (λ k. 0) 1 (headerEntries b) listed
-      ∙ (rw (weight-items (headerEntries b) ∙ header-itemfree,
-      along-weight (λ k. 0) 1 itemText (itemEntries o) (LedBy (Proper inItem)) 1 (item-weight (λ k. 0) 1 item-itemless item-none o a) (itemsAt b) (b .items) items-proper) (omega arith))
+      ∙ ap (weight (λ k slot. 0) 1) (told-parts o b)
+      ∙ weight-append (λ k slot. 0) 1 (headerEntries b) listed
+      ∙ (rw (
+        weight-items (headerEntries b) ∙ header-itemfree,
+        along-weight (λ k slot. 0) 1 itemText (itemEntries o) (LedBy (Proper inItem)) 1 (item-weight (λ k slot. 0) 1 item-itemless item-none o a) (itemsAt b) (b .items) items-proper,
+      ) (omega arith))
 
   -- what its header says of the count is no matter of the items
   pub count-said : gathered ofCount (told (message o b)) ≡ gathered ofCount (headerEntries b)

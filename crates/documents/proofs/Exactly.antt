@@ -103,33 +103,33 @@ only-one [] n h e = absurd (let z : ⊥ = omega arith in z)
 only-one (x ∷ []) n h e = ap (λ (y : ℕ). y ∷ []) e
 only-one (x ∷ y ∷ l) n h e = absurd (let z : ⊥ = omega arith in z)
 
-abbrev pub aCount : Kind → ℕ
-aCount (Plain j) = 0
-aCount Count = 1
-aCount Total = 0
-aCount Amount = 0
-aCount (Code e) = 0
+abbrev pub aCount : Kind → ℕ → ℕ
+aCount (Plain j) slot = 0
+aCount Count slot = 1
+aCount Total slot = 0
+aCount Amount slot = 0
+aCount (Code e) slot = 0
 
-abbrev aTotal : Kind → ℕ
-aTotal (Plain j) = 0
-aTotal Count = 0
-aTotal Total = 1
-aTotal Amount = 0
-aTotal (Code e) = 0
+abbrev aTotal : Kind → ℕ → ℕ
+aTotal (Plain j) slot = 0
+aTotal Count slot = 0
+aTotal Total slot = 1
+aTotal Amount slot = 0
+aTotal (Code e) slot = 0
 
-pub count-size : (k : Kind) (v : List ℕ) → length (ofCount k v) ≡ aCount k
-count-size (Plain j) v = refl
-count-size Count v = refl
-count-size Total v = refl
-count-size Amount v = refl
-count-size (Code e) v = refl
+pub count-size : (k : Kind) (slot : ℕ) (v : List ℕ) → length (ofCount k v) ≡ aCount k slot
+count-size (Plain j) slot v = refl
+count-size Count slot v = refl
+count-size Total slot v = refl
+count-size Amount slot v = refl
+count-size (Code e) slot v = refl
 
-total-size : (k : Kind) (v : List ℕ) → length (ofTotal k v) ≡ aTotal k
-total-size (Plain j) v = refl
-total-size Count v = refl
-total-size Total v = refl
-total-size Amount v = refl
-total-size (Code e) v = refl
+total-size : (k : Kind) (slot : ℕ) (v : List ℕ) → length (ofTotal k v) ≡ aTotal k slot
+total-size (Plain j) slot v = refl
+total-size Count slot v = refl
+total-size Total slot v = refl
+total-size Amount slot v = refl
+total-size (Code e) slot v = refl
 
 module _ (d : Message profile) (law : Lawful profile d) where
   -- the header has one count and one total

@@ -54,7 +54,7 @@ unfolding itemShape inItem
 item-shape m st = refl
 
 -- where noting leaves off
-noting-at : (es : List Entry) (q : ℕ) (st t : State) → noting es q st ≡ on t → t .at ≡ q
+pub noting-at : (es : List Entry) (q : ℕ) (st t : State) → noting es q st ≡ on t → t .at ≡ q
 noting-at es q st t e =
     let h = through (says es st) (λ u. on (moved u q)) t e in
     ap (λ (u : State). u .at) (sym (same-on (moved (h .mid) q) t (h .then)))
@@ -89,7 +89,7 @@ module _ (m : List ℕ) (small : length m ≤ 16777216) where
     item-blank = let z : p + lead white (drop p m) ≡ p + length (x .blank) = ap (λ (u : State). u .at) at-tag in omega arith
 
   -- white space before an item is passed over, wherever it is asked for from
-  item-skips : (p : ℕ) → p ≤ length m → itemAt m (p + lead white (drop p m)) ≡ itemAt m p
+  pub item-skips : (p : ℕ) → p ≤ length m → itemAt m (p + lead white (drop p m)) ≡ itemAt m p
   unfolding itemAt
   item-skips p h =
       let g : p + lead white (drop p m) ≤ length m = omega (arith, lead-le white (drop p m), length-drop p m) in
@@ -159,24 +159,28 @@ whole-parts o b =
 
 pub front-long : (b : Bulk) → length (front b) ≡ itemsAt b
 front-long b =
-    omega (arith, length-append (head (message many b)) (b .blank ++ (plainTag "FIToFICstmrDrctDbt" ++ headerText (b .header))),
-    length-append (b .blank) (plainTag "FIToFICstmrDrctDbt" ++ headerText (b .header)), length-append (plainTag "FIToFICstmrDrctDbt") (headerText (b .header)))
+    omega (
+      arith,
+      length-append (head (message many b)) (b .blank ++ (plainTag "FIToFICstmrDrctDbt" ++ headerText (b .header))),
+      length-append (b .blank) (plainTag "FIToFICstmrDrctDbt" ++ headerText (b .header)),
+      length-append (plainTag "FIToFICstmrDrctDbt") (headerText (b .header)),
+    )
 
 -- ---- an accepted bulk
 module _ (b : Bulk) (law : Lawful (tree many) (message many b)) (n c : ℕ) (e : judged (whole (message many b)) ≡ accepted n c) (h : Holds (told (message many b)) n c) where
   abbrev m : List ℕ
   m = whole (message many b)
 
-  there : drop (itemsAt b) m ≡ texts itemText (b .items) ++ (b .close ++ back b)
+  pub there : drop (itemsAt b) m ≡ texts itemText (b .items) ++ (b .close ++ back b)
   there =
       ap (λ (q : ℕ). drop q m) (sym (front-long b))
       ∙ ap (drop (length (front b))) (whole-parts many b)
       ∙ drop-append-seam (front b) (texts itemText (b .items) ++ (b .close ++ back b))
 
-  inside : itemsAt b ≤ length m
+  pub inside : itemsAt b ≤ length m
   inside = omega (arith, front-long b, ap length (whole-parts many b), length-append (front b) (texts itemText (b .items) ++ (b .close ++ back b)))
 
-  small : length m ≤ 16777216
+  pub small : length m ≤ 16777216
   small = read-on m n c (length (head (message many b))) (opens (tree many) (message many b) law (text (tree many) (message many b .inside) ++ b .behind)) e .0
 
   -- what was noted while reading
@@ -218,7 +222,7 @@ module _ (b : Bulk) (law : Lawful (tree many) (message many b)) (n c : ℕ) (e :
       first-proper : b .items ≡ x ∷ l → LedBy (Proper inItem) x
       first-proper q = (subst (Each (LedBy (Proper inItem))) q (items-proper many tt b law)) .0
 
-  first-item : firstItem m ≡ itemsAt b + lead white (drop (itemsAt b) m)
+  pub first-item : firstItem m ≡ itemsAt b + lead white (drop (itemsAt b) m)
   unfolding firstItem
   first-item =
       rw (le-ltb 16777216 (length m) small)

@@ -22,29 +22,29 @@ gathered-append f (item p ∷ a) b = gathered-append f a b
 gathered-append f (value k slot p v ∷ a) b =
     ap (λ (l : List ℕ). f k v ++ l) (gathered-append f a b) ∙ sym (append-assoc (f k v) (gathered f a) (gathered f b))
 
--- entries weighed: a value by its kind, an item by z
-abbrev pub weight : (Kind → ℕ) → ℕ → List Entry → ℕ
+-- entries weighed: a value by its kind and its place among those noted, an item by z
+abbrev pub weight : (Kind → ℕ → ℕ) → ℕ → List Entry → ℕ
 weight g z [] = 0
 weight g z (item p ∷ l) = z + weight g z l
-weight g z (value k slot p v ∷ l) = g k + weight g z l
+weight g z (value k slot p v ∷ l) = g k slot + weight g z l
 
-pub weight-append : (g : Kind → ℕ) (z : ℕ) (a b : List Entry) → weight g z (a ++ b) ≡ weight g z a + weight g z b
+pub weight-append : (g : Kind → ℕ → ℕ) (z : ℕ) (a b : List Entry) → weight g z (a ++ b) ≡ weight g z a + weight g z b
 weight-append g z [] b = omega arith
 weight-append g z (item p ∷ a) b = omega (arith, weight-append g z a b)
 weight-append g z (value k slot p v ∷ a) b = omega (arith, weight-append g z a b)
 
 -- the items of a list; and how much of a kind was gathered
-pub weight-items : (l : List Entry) → weight (λ k. 0) 1 l ≡ itemsIn l
+pub weight-items : (l : List Entry) → weight (λ k slot. 0) 1 l ≡ itemsIn l
 weight-items [] = refl
 weight-items (item p ∷ l) = omega (arith, weight-items l)
 weight-items (value k slot p v ∷ l) = omega (arith, weight-items l)
 
-pub weight-gathered : (f : Kind → List ℕ → List ℕ) (g : Kind → ℕ) → ((k : Kind) (v : List ℕ) → length (f k v) ≡ g k) → (l : List Entry) → weight g 0 l ≡ length (gathered f l)
+pub weight-gathered : (f : Kind → List ℕ → List ℕ) (g : Kind → ℕ → ℕ) → ((k : Kind) (slot : ℕ) (v : List ℕ) → length (f k v) ≡ g k slot) → (l : List Entry) → weight g 0 l ≡ length (gathered f l)
 weight-gathered f g size [] = refl
 weight-gathered f g size (item p ∷ l) = omega (arith, weight-gathered f g size l)
-weight-gathered f g size (value k slot p v ∷ l) = omega (arith, size k v, weight-gathered f g size l, length-append (f k v) (gathered f l))
+weight-gathered f g size (value k slot p v ∷ l) = omega (arith, size k slot v, weight-gathered f g size l, length-append (f k v) (gathered f l))
 
-module _ (g : Kind → ℕ) (z : ℕ) where
+module _ (g : Kind → ℕ → ℕ) (z : ℕ) where
   abbrev isOnce : Occ → Bool
   isOnce once = true
   isOnce optional = false
@@ -60,12 +60,12 @@ module _ (g : Kind → ℕ) (z : ℕ) where
   -- a tree's weight, and that this is no matter of what may be left out or repeated
   abbrev pub times : Shape → ℕ
   times (end n) = 0
-  times (leaf o n k slot rest) = beginning o + g k + times rest
+  times (leaf o n k slot rest) = beginning o + g k slot + times rest
   times (group o n inner rest) = beginning o + times inner + times rest
 
   abbrev pub fixed : Shape → Bool
   fixed (end n) = true
-  fixed (leaf o n k slot rest) = both (either (isOnce o) (eqb (beginning o + g k) 0)) (fixed rest)
+  fixed (leaf o n k slot rest) = both (either (isOnce o) (eqb (beginning o + g k slot) 0)) (fixed rest)
   fixed (group o n inner rest) = both (either (isOnce o) (eqb (beginning o + times inner) 0)) (both (fixed inner) (fixed rest))
 
   weight-begins : (o : Occ) (p : ℕ) (l : List Entry) → weight g z (begins o p ++ l) ≡ beginning o + weight g z l
@@ -100,8 +100,8 @@ module _ (g : Kind → ℕ) (z : ℕ) where
   pub as-often : (sh : Shape) → fixed sh ≡ true → (d : Doc sh) → Proper sh d → (p : ℕ) → weight g z (entries sh p d) ≡ times sh
   as-often (end n) e d pr p = refl
   as-often (leaf o n k slot rest) e d pr p =
-      let b = both-true (either (isOnce o) (eqb (beginning o + g k) 0)) (fixed rest) e in
-      row-weight o (ledText (opening k n) (λ v. v ++ endTag n)) (ledEntries o (opening k n) (λ q v. value k slot q v ∷ [])) (LedBy Tagless) (beginning o + g k) (times rest) (d .all) p
+      let b = both-true (either (isOnce o) (eqb (beginning o + g k slot) 0)) (fixed rest) e in
+      row-weight o (ledText (opening k n) (λ v. v ++ endTag n)) (ledEntries o (opening k n) (λ q v. value k slot q v ∷ [])) (LedBy Tagless) (beginning o + g k slot) (times rest) (d .all) p
       (entries rest (p + length (texts (ledText (opening k n) (λ v. v ++ endTag n)) (d .all))) (d .others))
       (λ q x h. weight-begins o (q + length (x .blank)) (value k slot (q + length (x .blank) + length (opening k n)) (x .held) ∷ []) ∙ (omega arith))
       (b .0) (pr .0) (pr .1) (as-often rest (b .1) (d .others) (pr .2) (p + length (texts (ledText (opening k n) (λ v. v ++ endTag n)) (d .all))))

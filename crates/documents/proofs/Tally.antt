@@ -40,7 +40,7 @@ abbrev pub lastServed : ℕ → List ℕ → ℕ
 lastServed n [] = n
 lastServed n (i ∷ l) = lastServed (suc i) l
 
-lastly-append : (n : ℕ) (a b : List ℕ) → lastly n (a ++ b) ≡ lastly (lastly n a) b
+pub lastly-append : (n : ℕ) (a b : List ℕ) → lastly n (a ++ b) ≡ lastly (lastly n a) b
 lastly-append n [] b = refl
 lastly-append n (x ∷ a) b = lastly-append x a b
 
@@ -76,11 +76,11 @@ record Told (s : State) (k : Kind) (v : List ℕ) (u : State) : Type 0 where
   pub service : u .notes .service ≡ lastServed (s .notes .service) (ofService k v)
 
 -- what a value says is no refusal
-record Given-on (g : Given) (f : ℕ → Reading) (u : State) : Type 0 where
+pub record Given-on (g : Given) (f : ℕ → Reading) (u : State) : Type 0 where
   pub passes : Passes g
   pub then : f (valueOf g) ≡ on u
 
-given-on : (g : Given) (p : ℕ) (f : ℕ → Reading) (u : State) → onGiven g p f ≡ on u → Given-on g f u
+pub given-on : (g : Given) (p : ℕ) (f : ℕ → Reading) (u : State) → onGiven g p f ≡ on u → Given-on g f u
 given-on yes p f u e = record { passes = tt; then = e }
 given-on (worth n) p f u e = record { passes = tt; then = e }
 given-on (refused n) p f u e = never (cc)
@@ -201,7 +201,7 @@ pub record Tallied (s : State) (es : List Entry) (t : State) : Type 0 where
   pub serves : Served (s .notes .service) (gathered ofService es)
 
 -- an item that begins
-begun-item : (s u : State) → begun s ≡ on u → (u ≡ withItem s) × (u .notes .count ≤ 10000)
+pub begun-item : (s u : State) → begun s ≡ on u → (u ≡ withItem s) × (u .notes .count ≤ 10000)
 unfolding begun
 begun-item s u = go (ltb (s .notes .count) 10000) refl
   where

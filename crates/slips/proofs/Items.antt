@@ -199,9 +199,15 @@ module _ (m : List ℕ) (n c : ℕ) (e : judged m ≡ accepted n c) (i from to :
         begins =
             omega (arith, z .begins, front-long b, length-append (front b) (texts itemText (z .before) ++ z .it .blank), length-append (texts itemText (z .before)) (z .it .blank));
         ends =
-            omega (arith, z .ends, front-long b, length-append (front b ++ (texts itemText (z .before) ++ z .it .blank)) (plainTag "DrctDbtTxInf" ++ text inItem (z .it .held)),
-            length-append (front b) (texts itemText (z .before) ++ z .it .blank), length-append (texts itemText (z .before)) (z .it .blank),
-            length-append (z .it .blank) (plainTag "DrctDbtTxInf" ++ text inItem (z .it .held)));
+            omega (
+              arith,
+              z .ends,
+              front-long b,
+              length-append (front b ++ (texts itemText (z .before) ++ z .it .blank)) (plainTag "DrctDbtTxInf" ++ text inItem (z .it .held)),
+              length-append (front b) (texts itemText (z .before) ++ z .it .blank),
+              length-append (texts itemText (z .before)) (z .it .blank),
+              length-append (z .it .blank) (plainTag "DrctDbtTxInf" ++ text inItem (z .it .held)),
+            );
         without = left-out b (k .lawful) n c (k .holds) (z .before) (z .it) (z .after) (z .is);
         with-two = doubled b (k .lawful) n c (k .holds) (z .before) (z .it) (z .after) (z .is);
       }

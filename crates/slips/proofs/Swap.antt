@@ -50,8 +50,16 @@ module _ (k : Kind) (slot q : ℕ) (v w : List ℕ) (long : length w ≡ length 
 
   swap-length : (p : ℕ) (t u : List ℕ) (es fs : List Entry) → Swapped p t u es fs → length u ≡ length t
   swap-length p t u es fs s =
-      omega (arith, ap length (s .is), ap length (s .becomes), length-append (s .front) (v ++ s .back), length-append (s .front) (w ++ s .back),
-      length-append v (s .back), length-append w (s .back), long)
+      omega (
+        arith,
+        ap length (s .is),
+        ap length (s .becomes),
+        length-append (s .front) (v ++ s .back),
+        length-append (s .front) (w ++ s .back),
+        length-append v (s .back),
+        length-append w (s .back),
+        long,
+      )
 
   swap-before : (p : ℕ) (t u : List ℕ) (es fs : List Entry) (s : List ℕ) (gs : List Entry) → Swapped p t u es fs → Swapped p (t ++ s) (u ++ s) (es ++ gs) (fs ++ gs)
   swap-before p t u es fs s gs h =

@@ -149,8 +149,17 @@ module _ (xs ys : List Entry) (k : Kind) (slot p : ℕ) (v w : List ℕ) (n c i 
   -- the header's total and the items' sum change together
   same-totals : sum (ofTotal k v) + sum (ofAmount k w) ≡ sum (ofTotal k w) + sum (ofAmount k v)
   same-totals =
-      omega (arith, ap sum (a .total), ap sum (b .total), a .cents, b .cents, gathered-sum ofTotal xs ys k slot p v, gathered-sum ofTotal xs ys k slot p w,
-      gathered-sum ofAmount xs ys k slot p v, gathered-sum ofAmount xs ys k slot p w)
+      omega (
+        arith,
+        ap sum (a .total),
+        ap sum (b .total),
+        a .cents,
+        b .cents,
+        gathered-sum ofTotal xs ys k slot p v,
+        gathered-sum ofTotal xs ys k slot p w,
+        gathered-sum ofAmount xs ys k slot p v,
+        gathered-sum ofAmount xs ys k slot p w,
+      )
 
 -- one slip: not both of them are as the profile has them
 pub slip-never : (k : Kind) (xs ys : List Entry) (slot p : ℕ) (v w : List ℕ) (n c i j : ℕ) → Slip k v w
