@@ -1,34 +1,34 @@
 -- An accepted message is a bulk's, and a bulk has as many items as its header says. Assumes nothing.
 use mathlib.Core.Path.{_≡_, refl, sym, ap, subst, _∙_}
-use mathlib.Core.Bool.{Bool, true, false}
-use mathlib.Core.List.{List, [], _∷_, _++_, append-nil, append-assoc}
-use Prim.Native.Nat.{ℕ, zero, suc, _+_, _*_}
+use mathlib.Core.Bool.{Bool, true}
+use mathlib.Core.List.{List, [], _∷_, _++_, append-nil}
+use Prim.Native.Nat.{ℕ, _+_}
 use Prim.Native.String.{String}
 use native.Mathlib.Omega.{arith}
 use lib.ListN.{length, drop}
 use Rattle.profile.specs.declared.Kind.{Kind}
 use Rattle.profile.specs.declared.Look.{Look}
 use Rattle.profile.specs.declared.Look.the-variants.{Whole, Cut, Other}
-use Rattle.profile.specs.Tree.{Occ, once, optional, many, more, Shape, end, leaf, group}
+use Rattle.profile.specs.Tree.{Occ, once, optional, many, more, Shape, end, group}
 use Rattle.profile.specs.Profile.{profile}
 use Rattle.profile.specs.Tags.{look, exactly, plainTag}
 use Rattle.notes.specs.declared.State.{State}
 use Rattle.notes.specs.Reading.{Reading, on, stop, andThen, moved}
 use Rattle.reader.specs.declared.Choice.the-variants.{Enter, Pass, Stop}
-use Rattle.reader.specs.Reader.{onLook, skipped, tagged, chosen, turn, again, groupBody, read}
+use Rattle.reader.specs.Reader.{onLook, skipped, tagged, chosen, again, groupBody, read}
 use Rattle.notes.specs.Noting.{fresh}
 use Rattle.judge.specs.Verdict.{accepted}
 use Rattle.judge.specs.Message.{judged}
-use Rattle.documents.specs.Document.{Led, Row, Doc, ledText, texts, text, Each, LedBy, Proper}
-use Rattle.documents.specs.Entries.{Entry, item, value, begins, ledEntries, along, entries, says}
+use Rattle.documents.specs.Document.{Led, Doc, ledText, text, Each, LedBy, Proper}
+use Rattle.documents.specs.Entries.{Entry, ledEntries, along, entries, says}
 use Rattle.documents.specs.Sure.{sure}
 use Rattle.documents.specs.Message.{Message, head, whole, Lawful, told, weighed, itemsIn, gathered, ofCount, Holds, Profiled}
 use Rattle.documents.specs.Bulk.{inHeader, inItem, tree, Bulk, message, withItems}
-use Rattle.documents.proofs.Sound.{never, Through, through}
+use Rattle.documents.proofs.Sound.{never, through}
 use Rattle.documents.proofs.Ends.{accepted-told}
 use Rattle.documents.proofs.Tally.{lastly, says-tallied}
 use Rattle.documents.proofs.Often.{gathered-append, weight, weight-append, weight-items, weight-gathered, times, fixed, along-weight, as-often}
-use Rattle.documents.proofs.Exactly.{aCount, count-size, Compared, compared-is, accepted-exactly}
+use Rattle.documents.proofs.Exactly.{aCount, count-size, compared-is, accepted-exactly}
 
 pub profile-tree : profile ≡ tree many
 unfolding profile inHeader inItem

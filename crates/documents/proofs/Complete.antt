@@ -2,29 +2,26 @@
 use mathlib.Core.Path.{_≡_, refl, sym, ap, _∙_}
 use mathlib.Core.Bool.{Bool, true, false}
 use mathlib.Core.List.{List, [], _∷_, _++_, append-assoc}
-use Prim.Native.Nat.{ℕ, zero, suc, _+_, _-_, _≤_, _<_}
+use Prim.Native.Nat.{ℕ, suc, _+_, _-_, _<_}
 use Prim.Native.String.{String}
-use native.Mathlib.Nat.{add-assoc}
 use native.Mathlib.Omega.{arith}
 use borrow.Author.Tests.{lt-ltb}
-use lib.Dec.{ltb}
 use lib.ListN.{length, take, drop, length-append, length-drop}
 use lib.Seq.{take-append-seam}
-use Rattle.text.specs.Truth.{both, pick, lead, part}
+use Rattle.text.specs.Truth.{both, pick, lead}
 use Rattle.text.specs.Quoted.{bytes, is}
 use Rattle.text.proofs.Truths.{both-true}
 use Rattle.profile.specs.declared.Kind.{Kind}
-use Rattle.profile.specs.declared.Look.{Look}
-use Rattle.profile.specs.declared.Look.the-variants.{Whole, Cut, Other}
+use Rattle.profile.specs.declared.Look.the-variants.{Other}
 use Rattle.profile.specs.Tree.{Occ, once, optional, many, more, Shape, end, leaf, group}
-use Rattle.profile.specs.Tags.{white, inValue, look, exactly, endTag, plainTag, amountTag, isAmount, startTag}
+use Rattle.profile.specs.Tags.{inValue, look, exactly, endTag, plainTag, amountTag, isAmount, startTag}
 use Rattle.profile.proofs.Looks.{exactly-length}
 use Rattle.notes.specs.declared.State.{State}
-use Rattle.notes.specs.Reading.{Reading, on, stop, andThen, moved}
+use Rattle.notes.specs.Reading.{Reading, on, andThen, moved}
 use Rattle.notes.specs.Noting.{noted}
-use Rattle.reader.specs.Reader.{onLook, skipped, closed, inEuro, priced, counted, entered, valueAt, behindValue, valued, follow, leafBody, groupBody, read}
-use Rattle.documents.specs.Document.{Led, Row, Doc, opening, ledText, texts, text, Often, Each, White, Tagless, LedBy, Proper}
-use Rattle.documents.specs.Entries.{Entry, item, value, begins, ledEntries, along, entries, says, noting}
+use Rattle.reader.specs.Reader.{skipped, closed, inEuro, priced, counted, valued, follow, leafBody, groupBody, read}
+use Rattle.documents.specs.Document.{Led, Doc, opening, ledText, texts, text, Often, Each, White, Tagless, LedBy, Proper}
+use Rattle.documents.specs.Entries.{Entry, value, begins, entries, says, noting}
 use Rattle.documents.specs.Sure.{differs, unlessOnce, unlessDue, apart, sure}
 use Rattle.documents.proofs.Texts.{lead-before, past, look-text, look-differs, look-opening, opening-length, Starts, opening-starts}
 use Rattle.documents.proofs.Noted.{then-same, then-then, says-append, noting-moved, counted-begins}
@@ -161,7 +158,7 @@ module _ (m : List ℕ) where
       not-there tag (x .blank) tb (f (x .held) ++ (texts (ledText tb f) l ++ (rt ++ s))) (pr .0 .0) (b (f (x .held) ++ (texts (ledText tb f) l ++ (rt ++ s))))
       (both-true (differs tag tb) (unlessDue o c) d .0) st (e ∙ simp append-assoc)
 
-  apart-other : (tag : List (ℕ → Bool)) (sh : Shape) → apart tag sh ≡ true → (d : Doc sh) → Proper sh d → (st : State) (s : List ℕ) → drop (st .at) m ≡ text sh d ++ s
+  pub apart-other : (tag : List (ℕ → Bool)) (sh : Shape) → apart tag sh ≡ true → (d : Doc sh) → Proper sh d → (st : State) (s : List ℕ) → drop (st .at) m ≡ text sh d ++ s
       → look tag (drop (skipped m st .at) m) ≡ Other
   apart-other tag (end n) a w pr st s e = not-there tag w (endTag n) s pr (end-starts n s) a st (e ∙ append-assoc w (endTag n) s)
   apart-other tag (leaf o n k slot rest) a d pr st s e =
@@ -171,7 +168,7 @@ module _ (m : List ℕ) where
       first-differs tag o (plainTag n) (text inner) (Proper inner) (apart tag rest) (d .all) (text rest (d .others)) (plain-starts n) a (pr .0) (pr .1)
       (λ z. apart-other tag rest z (d .others) (pr .2)) st s e
 
-  asked-for : (o : Occ) (b : Bool) → unlessOnce o b ≡ true → Passing m o → b ≡ true
+  pub asked-for : (o : Occ) (b : Bool) → unlessOnce o b ≡ true → Passing m o → b ≡ true
   asked-for once b h a = absurd a
   asked-for optional b h a = h
   asked-for many b h a = h

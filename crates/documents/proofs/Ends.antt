@@ -1,16 +1,16 @@
 -- A message's beginning and end. Assumes nothing.
 use mathlib.Core.Path.{_≡_, refl, sym, ap, _∙_}
 use mathlib.Core.Bool.{Bool, true, false}
-use mathlib.Core.List.{List, [], _∷_, _++_, append-assoc, append-nil}
-use Prim.Native.Nat.{ℕ, zero, suc, _+_, _≤_}
-use native.Mathlib.Nat.{add-zero, zero-add}
+use mathlib.Core.List.{List, [], _∷_, _++_, append-assoc}
+use Prim.Native.Nat.{ℕ, _+_, _≤_}
+use native.Mathlib.Nat.{zero-add}
 use native.Mathlib.Omega.{arith}
 use borrow.Author.Tests.{le-ltb, ltb-false, eqb-true, eq-eqb}
 use lib.Dec.{eqb, ltb}
-use lib.ListN.{length, take, drop, length-append, length-drop, take-append-drop}
+use lib.ListN.{length, take, drop, length-append, length-drop}
 use lib.Seq.{drop-drop, drop-append-seam}
-use Rattle.text.specs.Truth.{both, either, pick, lead, every, some}
-use Rattle.text.specs.Quoted.{bytes, is}
+use Rattle.text.specs.Truth.{pick, lead, every, some}
+use Rattle.text.specs.Quoted.{is}
 use Rattle.text.proofs.Truths.{both-true}
 use Rattle.text.proofs.Scan.{every-lead, lead-le}
 use Rattle.profile.specs.declared.Look.{Look}
@@ -24,7 +24,7 @@ use Rattle.notes.specs.Noting.{fresh}
 use Rattle.reader.specs.Reader.{onLook, skipped, read}
 use Rattle.judge.specs.declared.Opened.{Opened}
 use Rattle.judge.specs.declared.Opened.the-variants.{From, Faulty}
-use Rattle.judge.specs.Verdict.{Judged, accepted, refused}
+use Rattle.judge.specs.Verdict.{accepted, refused}
 use Rattle.judge.specs.Message.{further, declared, rooted, opened, compared, finished, concluded, readFrom, readThrough, judged}
 use Rattle.documents.specs.Document.{White, text}
 use Rattle.documents.specs.Message.{Message, head, whole, Lawful, told, weighed}

@@ -1,15 +1,15 @@
 -- A message is accepted exactly when the profile holds of it. Assumes nothing.
 use mathlib.Core.Path.{_≡_, refl, sym, ap, _∙_}
 use mathlib.Core.Bool.{Bool, true, false}
-use mathlib.Core.List.{List, [], _∷_, _++_}
-use Prim.Native.Nat.{ℕ, zero, suc, _+_, _≤_}
+use mathlib.Core.List.{List, [], _∷_}
+use Prim.Native.Nat.{ℕ, suc, _≤_}
 use native.Mathlib.Omega.{arith}
 use borrow.Author.Tests.{eqb-true, eq-eqb, ne-eqb}
 use lib.Dec.{eqb}
 use lib.ListN.{length}
 use Rattle.text.specs.Truth.{either, pick, between}
 use Rattle.text.proofs.Truths.{between-true}
-use Rattle.answers.specs.Given.{Given, yes, worth, refused as unfit, valueOf, inOrder, _else_}
+use Rattle.answers.specs.Given.{worth, valueOf, inOrder, _else_}
 use Rattle.money.specs.declared.Range.the-variants.{Total as theTotal}
 use Rattle.money.specs.Amount.{amountForm, cents, amountGiven}
 use Rattle.profile.specs.declared.Kind.{Kind}
@@ -18,14 +18,14 @@ use Rattle.profile.specs.Profile.{profile}
 use Rattle.notes.specs.declared.State.{State}
 use Rattle.notes.specs.Reading.{Reading, on, stop}
 use Rattle.notes.specs.Noting.{fresh}
-use Rattle.judge.specs.Verdict.{Judged, accepted, refused}
+use Rattle.judge.specs.Verdict.{accepted, refused}
 use Rattle.judge.specs.Message.{compared, judged}
 use Rattle.documents.specs.Document.{Each}
 use Rattle.documents.specs.Entries.{Entry, item, value, says}
-use Rattle.documents.specs.Message.{Message, head, whole, Lawful, told, weighed, Passes, Kept, itemsIn, gathered, ofCount, ofTotal, ofAmount, ofService, sum, Alike, Holds, Profiled}
+use Rattle.documents.specs.Message.{Message, head, whole, Lawful, told, weighed, Passes, Kept, gathered, ofCount, ofTotal, ofService, sum, Alike, Holds, Profiled}
 use Rattle.documents.proofs.Sound.{never}
 use Rattle.documents.proofs.Ends.{judged-told, accepted-document}
-use Rattle.documents.proofs.Tally.{lastly, Served, Tallied, says-tallied, Goes, says-goes}
+use Rattle.documents.proofs.Tally.{lastly, Served, says-tallied, says-goes}
 use Rattle.documents.proofs.Often.{weight-gathered, as-often}
 
 -- ---- all services alike, and one served after another from none

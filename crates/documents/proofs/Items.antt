@@ -5,38 +5,37 @@ use mathlib.Core.List.{List, [], _∷_, _++_, append-nil, append-assoc}
 use Prim.Native.Nat.{ℕ, zero, suc, _+_, _≤_, _<_}
 use native.Mathlib.Omega.{arith}
 use borrow.Author.Tests.{le-leb, le-ltb, ltb-true, ne-eqb}
-use lib.Dec.{eqb, leb, ltb}
-use lib.ListN.{length, take, drop, length-append, length-drop}
+use lib.Dec.{leb, ltb}
+use lib.ListN.{length, drop, length-append, length-drop}
 use lib.Seq.{drop-append-seam}
 use Rattle.text.specs.Truth.{both, pick, lead}
 use Rattle.text.proofs.Scan.{lead-le}
-use Rattle.profile.specs.Tree.{Occ, once, optional, many, more, Shape, end, leaf, group}
-use Rattle.profile.specs.Profile.{profile, itemShape}
-use Rattle.profile.specs.Tags.{white, look, exactly, endTag, plainTag}
+use Rattle.profile.specs.Tree.{Occ, many, Shape}
+use Rattle.profile.specs.Profile.{itemShape}
+use Rattle.profile.specs.Tags.{white, endTag, plainTag}
 use Rattle.notes.specs.declared.State.{State}
 use Rattle.notes.specs.Reading.{Reading, on, stop, andThen, moved}
 use Rattle.notes.specs.Noting.{fresh}
-use Rattle.reader.specs.declared.Choice.the-variants.{Enter, Pass, Stop}
-use Rattle.reader.specs.Reader.{skipped, tagged, chosen, groupBody, read, element, fits, itemHere, itemAt}
-use Rattle.judge.specs.Verdict.{Judged, accepted, refused, Located, lies, fault}
+use Rattle.reader.specs.Reader.{skipped, tagged, groupBody, read, element, itemHere, itemAt}
+use Rattle.judge.specs.Verdict.{accepted, lies, fault}
 use Rattle.judge.specs.Message.{readFrom, readThrough, judged}
 use Rattle.judge.specs.Items.{extent, behind, itemFrom, noted, firstItem, asked, item as asksItem}
 use Rattle.items.specs.Chain.{Chain, none, more as next}
 use Rattle.items.proofs.Walk.{skip-twice}
 use Rattle.items.proofs.Accepted.{accepted-chain}
-use Rattle.documents.specs.Document.{Led, Row, Doc, ledText, texts, text, Each, LedBy, Proper}
-use Rattle.documents.specs.Entries.{Entry, item, value, begins, ledEntries, along, entries, says, noting}
+use Rattle.documents.specs.Document.{Led, Doc, texts, text, Each, LedBy, Proper}
+use Rattle.documents.specs.Entries.{Entry, item, value, begins, along, entries, says, noting}
 use Rattle.documents.specs.Sure.{sure}
 use Rattle.documents.specs.Message.{Message, head, whole, Lawful, told, weighed, itemsIn, Holds}
 use Rattle.documents.specs.Bulk.{inHeader, inItem, tree, Bulk, message}
-use Rattle.documents.proofs.Texts.{past, look-text, Starts}
+use Rattle.documents.proofs.Texts.{past, Starts}
 use Rattle.documents.proofs.Noted.{noting-moved}
 use Rattle.documents.proofs.Rows.{skip-to, skipped-twice}
 use Rattle.documents.proofs.Complete.{group-told, read-tells}
-use Rattle.documents.proofs.Sound.{never, same-on, Through, through}
+use Rattle.documents.proofs.Sound.{never, same-on, through}
 use Rattle.documents.proofs.Ends.{opens, read-whole, read-on, accepted-told}
 use Rattle.documents.proofs.Tally.{firstIn, says-tallied}
-use Rattle.documents.proofs.Bulks.{itemText, headerText, headerAt, itemsAt, itemEntries, headerEntries, told-parts, profile-tree, items-proper, header-itemfree, items-said}
+use Rattle.documents.proofs.Bulks.{itemText, headerText, itemsAt, itemEntries, headerEntries, told-parts, profile-tree, items-proper, header-itemfree, items-said}
 
 many-sure : sure (tree many) ≡ true
 unfolding inHeader inItem

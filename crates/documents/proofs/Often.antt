@@ -2,17 +2,17 @@
 use mathlib.Core.Path.{_≡_, refl, sym, ap, _∙_}
 use mathlib.Core.Bool.{Bool, true, false}
 use mathlib.Core.List.{List, [], _∷_, _++_, append-assoc}
-use Prim.Native.Nat.{ℕ, zero, suc, _+_, _*_}
+use Prim.Native.Nat.{ℕ, suc, _+_, _*_}
 use native.Mathlib.Omega.{arith}
 use borrow.Author.Tests.{eqb-true}
 use lib.Dec.{eqb}
 use lib.ListN.{length, length-append}
 use Rattle.text.specs.Truth.{both, either}
-use Rattle.text.proofs.Truths.{both-true, either-true}
+use Rattle.text.proofs.Truths.{both-true}
 use Rattle.profile.specs.declared.Kind.{Kind}
 use Rattle.profile.specs.Tree.{Occ, once, optional, many, more, Shape, end, leaf, group}
 use Rattle.profile.specs.Tags.{endTag, plainTag}
-use Rattle.documents.specs.Document.{Led, Row, Doc, opening, ledText, texts, text, Often, Each, Tagless, LedBy, Proper}
+use Rattle.documents.specs.Document.{Led, Doc, opening, ledText, texts, text, Often, Each, Tagless, LedBy, Proper}
 use Rattle.documents.specs.Entries.{Entry, item, value, begins, ledEntries, along, entries}
 use Rattle.documents.specs.Message.{itemsIn, gathered}
 

@@ -1,20 +1,18 @@
 -- A child of a group, as often as it stands there, and what comes after it: the text reads as the entries. Assumes nothing.
 use mathlib.Core.Path.{_≡_, refl, sym, ap, _∙_}
-use mathlib.Core.Bool.{Bool, true, false}
-use mathlib.Core.List.{List, [], _∷_, _++_, append-assoc, append-nil}
+use mathlib.Core.Bool.{Bool}
+use mathlib.Core.List.{List, [], _∷_, _++_, append-assoc}
 use Prim.Native.Nat.{ℕ, zero, suc, _+_, _≤_}
 use native.Mathlib.Nat.{add-zero}
 use native.Mathlib.Omega.{arith}
 use lib.ListN.{length, drop, length-append, length-drop}
-use Rattle.text.specs.Truth.{lead, every}
-use Rattle.profile.specs.declared.Look.{Look}
-use Rattle.profile.specs.declared.Look.the-variants.{Whole, Cut, Other}
+use Rattle.text.specs.Truth.{lead}
+use Rattle.profile.specs.declared.Look.the-variants.{Whole, Other}
 use Rattle.profile.specs.Tree.{Occ, once, optional, many, more}
 use Rattle.profile.specs.Tags.{white, look}
 use Rattle.notes.specs.declared.State.{State}
-use Rattle.notes.specs.Reading.{Reading, on, stop, andThen, moved}
-use Rattle.reader.specs.declared.Choice.{Choice}
-use Rattle.reader.specs.declared.Choice.the-variants.{Enter, Pass, Stop}
+use Rattle.notes.specs.Reading.{Reading, andThen, moved}
+use Rattle.reader.specs.declared.Choice.the-variants.{Enter}
 use Rattle.reader.specs.Reader.{skipped, tagged, chosen, turn, again, follow}
 use Rattle.items.proofs.Walk.{skip-twice}
 use Rattle.documents.specs.Document.{Led, White, ledText, texts, Often, Each, LedBy}

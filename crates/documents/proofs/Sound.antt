@@ -2,14 +2,14 @@
 use mathlib.Core.Path.{_≡_, refl, sym, ap, _∙_}
 use mathlib.Core.Bool.{Bool, true, false}
 use mathlib.Core.List.{List, [], _∷_, _++_, append-assoc}
-use Prim.Native.Nat.{ℕ, zero, suc, _+_, _-_, _≤_}
+use Prim.Native.Nat.{ℕ, zero, suc, _+_, _-_}
 use Prim.Native.String.{String}
 use native.Mathlib.Omega.{arith}
 use borrow.Author.Tests.{eqb-true}
 use lib.Dec.{eqb, ltb}
 use lib.ListN.{length, take, drop, length-append, take-append-drop}
 use lib.Seq.{drop-drop}
-use Rattle.text.specs.Truth.{both, pick, lead, part, paired}
+use Rattle.text.specs.Truth.{pick, lead, part, paired}
 use Rattle.text.specs.Quoted.{bytes, equal, is}
 use Rattle.text.specs.Classes.{capital}
 use Rattle.text.proofs.Truths.{both-true}
@@ -26,7 +26,8 @@ use Rattle.notes.specs.Noting.{noted}
 use Rattle.reader.specs.declared.Choice.{Choice}
 use Rattle.reader.specs.declared.Choice.the-variants.{Enter, Pass, Stop}
 use Rattle.reader.specs.Reader.{onLook, missing, skipped, closed, tagged, inEuro, priced, counted, entered, valueAt, behindValue, valued, chosen, turn, again, follow, leafBody, groupBody, read}
-use Rattle.documents.specs.Document.{Led, Row, Doc, opening, ledText, texts, text, Often, Each, White, Tagless, LedBy, Proper}
+use Rattle.items.proofs.Along.{enter-whole}
+use Rattle.documents.specs.Document.{Led, Doc, opening, ledText, texts, text, Often, Each, White, Tagless, LedBy, Proper}
 use Rattle.documents.proofs.Texts.{whole-text}
 use Rattle.documents.proofs.Complete.{read-skips}
 
@@ -179,18 +180,6 @@ module _ (m : List ℕ) where
           ∙ ap (λ (x : ℕ). plainTag n ++ drop x m) (ap (λ (x : ℕ). p + x) (sym (exactly-length (plainTag n))) ∙ ap (λ (u : State). u .at) (same-on _ t e))
 
   -- ---- what a start tag said
-  enter-whole : (o : Occ) (tag : List (ℕ → Bool)) (p : ℕ) → tagged o tag m p ≡ Enter → look tag (drop p m) ≡ Whole
-  unfolding tagged
-  enter-whole o tag p e = go o (look tag (drop p m)) refl e
-    where
-      go : (o : Occ) (l : Look) → look tag (drop p m) ≡ l → onLook l Enter (Stop 3 (length m)) (missing o p) ≡ Enter → look tag (drop p m) ≡ Whole
-      go o Whole q e = q
-      go o Cut q e = never (cc)
-      go once Other q e = never (cc)
-      go optional Other q e = never (cc)
-      go many Other q e = never (cc)
-      go more Other q e = never (cc)
-
   pass-often : (o : Occ) (tag : List (ℕ → Bool)) (p : ℕ) → tagged o tag m p ≡ Pass → Often o 0
   unfolding tagged
   pass-often o tag p e = go o (look tag (drop p m)) e
@@ -247,7 +236,7 @@ module _ (m : List ℕ) where
           go : (c : Choice) → tagged o tag m (skipped m s .at) ≡ c → chosen c (andThen (body (skipped m s)) next) (rest (skipped m s)) ≡ on t → Elements N (s .at) (t .at)
           go Enter q e =
               let h = through (body (skipped m s)) next t e in
-              one-found N (s .at) (h .mid .at) (t .at) (body-found (skipped m s) (h .mid) (enter-whole o tag (skipped m s .at) q) (h .first)) (k (h .mid) t (h .then))
+              one-found N (s .at) (h .mid .at) (t .at) (body-found (skipped m s) (h .mid) (enter-whole o tag m (skipped m s .at) q) (h .first)) (k (h .mid) t (h .then))
           go Pass q e = none-found N (z (pass-often o tag (skipped m s .at) q)) (s .at) (t .at) (rest-found s t (sym (rest-skips s) ∙ e))
           go (Stop n p) q e = never (cc)
 

@@ -2,12 +2,10 @@
 use mathlib.Core.Path.{_≡_, refl, sym, ap, _∙_}
 use mathlib.Core.Bool.{Bool, true, false}
 use mathlib.Core.List.{List, [], _∷_, _++_}
-use Prim.Native.Nat.{ℕ, zero, suc, _+_, _≤_}
-use native.Mathlib.Nat.{add-zero, add-assoc}
+use Prim.Native.Nat.{ℕ, suc, _+_, _≤_}
 use native.Mathlib.Omega.{arith}
-use borrow.Author.Tests.{ltb-true, lt-ltb, leb-true, le-leb, eqb-true, eq-eqb}
+use borrow.Author.Tests.{ltb-true, lt-ltb, le-leb}
 use lib.Dec.{eqb, leb, ltb}
-use lib.ListN.{length}
 use Rattle.text.specs.Truth.{either, pick}
 use Rattle.answers.specs.Given.{Given, yes, worth, refused, valueOf}
 use Rattle.codes.specs.declared.Element.{Element}
@@ -23,8 +21,8 @@ use Rattle.notes.specs.Reading.{Reading, on, stop, andThen, moved}
 use Rattle.notes.specs.Noting.{plainGiven, onGiven, onCode, withCount, withTotal, withCents, withService, withItem, withStart, begun, summedUp, served, coded, judgedBy, noted}
 use Rattle.documents.specs.Document.{Each}
 use Rattle.documents.specs.Entries.{Entry, item, value, says}
-use Rattle.documents.specs.Message.{Passes, Listed, OfKind, Kept, itemsIn, gathered, ofCount, ofTotal, ofAmount, placeOf, ofService, sum}
-use Rattle.documents.proofs.Sound.{never, same-on, Through, through}
+use Rattle.documents.specs.Message.{Passes, Listed, OfKind, Kept, itemsIn, gathered, ofCount, ofTotal, ofAmount, ofService, sum}
+use Rattle.documents.proofs.Sound.{never, same-on, through}
 
 -- the last of a list, or what was there before
 abbrev pub lastly : ℕ → List ℕ → ℕ

@@ -1,23 +1,22 @@
 -- Texts that begin with white space, a tag or a value. Assumes nothing.
 use mathlib.Core.Path.{_≡_, refl, sym, ap, _∙_}
 use mathlib.Core.Bool.{Bool, true, false}
-use mathlib.Core.List.{List, [], _∷_, _++_, append-assoc}
-use Prim.Native.Nat.{ℕ, zero, suc, _+_, _≤_}
+use mathlib.Core.List.{List, [], _∷_, _++_}
+use Prim.Native.Nat.{ℕ, suc, _+_}
 use Prim.Native.String.{String}
 use native.Mathlib.Omega.{arith}
 use borrow.Author.Tests.{eq-eqb, eqb-true}
 use lib.Dec.{eqb}
-use lib.ListN.{length, drop, take, length-append}
-use lib.Seq.{drop-drop, drop-append-seam, take-append-seam}
-use Rattle.text.specs.Truth.{both, pick, lead, every}
+use lib.ListN.{length, drop, length-append}
+use lib.Seq.{drop-drop, drop-append-seam}
+use Rattle.text.specs.Truth.{pick, lead, every}
 use Rattle.text.specs.Quoted.{bytes, among}
 use Rattle.text.specs.Classes.{capital}
 use Rattle.text.proofs.Truths.{both-true}
 use Rattle.profile.specs.declared.Kind.{Kind}
-use Rattle.profile.specs.declared.Look.{Look}
-use Rattle.profile.specs.declared.Look.the-variants.{Whole, Cut, Other}
+use Rattle.profile.specs.declared.Look.the-variants.{Whole, Other}
 use Rattle.profile.specs.Tags.{look, exactly, currency, plainTag, amountTag, isAmount, startTag}
-use Rattle.profile.proofs.Looks.{exactly-length, look-append}
+use Rattle.profile.proofs.Looks.{exactly-length}
 use Rattle.documents.specs.Document.{opening}
 use Rattle.documents.specs.Sure.{differs}
 

@@ -2,9 +2,9 @@
 use Prim.Native.Nat.{ℕ}
 use mathlib.Core.Bool.{Bool}
 use mathlib.Core.List.{List, [], _∷_}
-use Rattle.profile.specs.Tree.{Occ, once, many, Shape, end, leaf, group}
+use Rattle.profile.specs.Tree.{Occ, once, Shape, end, leaf, group}
 use Rattle.profile.specs.Profile.{header, items}
-use Rattle.documents.specs.Document.{Led, Row, Doc}
+use Rattle.documents.specs.Document.{Led, Doc}
 use Rattle.documents.specs.Message.{Message}
 
 abbrev contents : Shape → Shape

@@ -2,15 +2,14 @@
 use Prim.Native.Nat.{ℕ, _≤_}
 use Prim.Native.String.{String}
 use mathlib.Core.Path.{_≡_}
-use mathlib.Core.Bool.{Bool, true, false}
+use mathlib.Core.Bool.{true}
 use mathlib.Core.List.{List, [], _∷_, _++_}
 use lib.ListN.{length}
 use Rattle.text.specs.Truth.{every, pick}
 use Rattle.text.specs.Quoted.{bytes}
 use Rattle.profile.specs.declared.Kind.{Kind}
 use Rattle.profile.specs.Tree.{Occ, once, optional, many, more, Shape, end, leaf, group}
-use Rattle.profile.specs.Profile.{profile}
-use Rattle.profile.specs.Tags.{white, inValue, endTag, plainTag, amountTag, isAmount, declaration, root}
+use Rattle.profile.specs.Tags.{white, inValue, endTag, plainTag, amountTag, isAmount}
 
 -- an element as it stands: the white space before its start tag, and what it holds
 pub record Led (A : Type 0) : Type 0 where

@@ -6,9 +6,9 @@ use Rattle.profile.specs.declared.Kind.{Kind}
 use Rattle.profile.specs.Tree.{Occ, once, optional, many, more, Shape, end, leaf, group}
 use Rattle.profile.specs.Tags.{endTag, plainTag}
 use Rattle.notes.specs.declared.State.{State}
-use Rattle.notes.specs.Reading.{Reading, on, stop, andThen, moved}
+use Rattle.notes.specs.Reading.{Reading, on, andThen, moved}
 use Rattle.notes.specs.Noting.{begun, noted}
-use Rattle.documents.specs.Document.{Led, Row, Doc, opening, ledText, texts, text}
+use Rattle.documents.specs.Document.{Led, Doc, opening, ledText, texts, text}
 
 -- an item begins at a place; or a value stands there: its kind, its place among those noted for the record, where it begins, its bytes
 pub data Entry : Type 0 where

@@ -6,7 +6,6 @@ use mathlib.Core.List.{List, [], _∷_, _++_}
 use lib.ListN.{length}
 use Rattle.text.specs.Truth.{pick}
 use Rattle.answers.specs.Given.{Given, yes, worth, refused as unfit, valueOf}
-use Rattle.codes.specs.declared.Element.{Element}
 use Rattle.codes.specs.declared.Element.the-variants.{SttlmMtd, SvcLvl, LclInstrm, SeqTp, ChrgBr, Prtry}
 use Rattle.codes.specs.Listed.{Given as CodeGiven, which, refused as unlisted, codeGiven}
 use Rattle.money.specs.declared.Range.the-variants.{Item as anItem, Total as theTotal}

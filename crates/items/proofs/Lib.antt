@@ -1,3 +1,4 @@
+pub mod Along
 pub mod Steady
 pub mod Like
 pub mod Walk

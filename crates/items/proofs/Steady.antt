@@ -1,8 +1,8 @@
 -- Two readings of the same bytes, side by side: what reading by the profile keeps of a relation between their states. Assumes nothing.
-use mathlib.Core.Path.{_≡_, refl, sym, ap}
+use mathlib.Core.Path.{_≡_, refl, ap}
 use mathlib.Core.Bool.{Bool, true, false}
 use mathlib.Core.List.{List}
-use Prim.Native.Nat.{ℕ, zero, suc, _+_, _-_, _≤_}
+use Prim.Native.Nat.{ℕ, _+_, _-_, _≤_}
 use Prim.Native.String.{String}
 use native.Mathlib.Omega.{arith}
 use borrow.Author.Tests.{ltb-true}
@@ -14,16 +14,14 @@ use Rattle.text.proofs.Scan.{lead-le}
 use Rattle.profile.specs.declared.Kind.{Kind}
 use Rattle.profile.specs.declared.Look.{Look}
 use Rattle.profile.specs.declared.Look.the-variants.{Whole, Cut, Other}
-use Rattle.profile.specs.Tree.{Occ, once, optional, many, more, Shape, end, leaf, group}
+use Rattle.profile.specs.Tree.{Occ, Shape, end, leaf, group}
 use Rattle.profile.specs.Tags.{white, look, exactly, endTag, plainTag, isAmount, startTag}
 use Rattle.profile.proofs.Looks.{look-fits}
 use Rattle.notes.specs.declared.State.{State}
 use Rattle.notes.specs.Reading.{Reading, on, stop, andThen, moved}
 use Rattle.notes.specs.Noting.{noted}
-use Rattle.reader.specs.declared.Choice.{Choice}
-use Rattle.reader.specs.declared.Choice.the-variants.{Enter, Pass, Stop}
-use Rattle.reader.specs.Reader.{onLook, skipped, closed, tagged, counted, inEuro, priced, entered, valueAt, behindValue, valued, chosen, turn, again, follow, leafBody, groupBody, read}
-use Rattle.reader.proofs.Steps.{enter-fits}
+use Rattle.reader.specs.Reader.{onLook, skipped, closed, counted, inEuro, priced, entered, valueAt, behindValue, valued, leafBody, groupBody, read}
+use Rattle.items.proofs.Along.{Each, Entering, Steps, read-along}
 
 -- where the one goes on, the other does, and they keep the relation
 pub data Follows (R : State → State → Type 0) : Reading → Reading → Type 0 where
@@ -39,10 +37,13 @@ pub record Keeps (m : List ℕ) (A : Occ → Type 0) (R : State → State → Ty
   pub counting : (s t : State) → R s t → (o : Occ) → A o → Follows R (counted o s) (counted o t)
 
 -- every element of a shape may come as often as A says
+abbrev Comes : (Occ → Type 0) → Shape → Type 0
+Comes A (end n) = Unit {0}
+Comes A (leaf o n k slot rest) = A o
+Comes A (group o n inner rest) = A o
+
 abbrev pub Every : (Occ → Type 0) → Shape → Type 0
-Every A (end n) = Unit {0}
-Every A (leaf o n k slot rest) = A o × Every A rest
-Every A (group o n inner rest) = A o × Every A inner × Every A rest
+Every A = Each (Comes A)
 
 module _ (m : List ℕ) (A : Occ → Type 0) (R : State → State → Type 0) (K : Keeps m A R) where
   abbrev Steady : (State → Reading) → Type 0
@@ -106,34 +107,6 @@ module _ (m : List ℕ) (A : Occ → Type 0) (R : State → State → Type 0) (K
   abbrev Body : List (ℕ → Bool) → (State → Reading) → Type 0
   Body tag f = (s t : State) → R s t → s .at + length tag ≤ length m → Follows R (f s) (f t)
 
-  turn-steady : (o : Occ) (tag : List (ℕ → Bool)) (body next rest : State → Reading) → Body tag body → Steady next → Steady rest → Steady (turn o tag m body next rest)
-  turn-steady o tag body next rest b n z s t r =
-      rw (ap (tagged o tag m) (sym (K .same (skipped m s) (skipped m t) q))) (go (tagged o tag m (skipped m s .at)) refl)
-    where
-      q : R (skipped m s) (skipped m t)
-      q = skip-steady s t r
-
-      go : (c : Choice) → tagged o tag m (skipped m s .at) ≡ c
-          → Follows R (chosen c (andThen (body (skipped m s)) next) (rest (skipped m s))) (chosen c (andThen (body (skipped m t)) next) (rest (skipped m t)))
-      go Enter e =
-          follow-then next next n (body (skipped m s)) (body (skipped m t))
-          (b (skipped m s) (skipped m t) q (enter-fits o tag m (skipped m s .at) (K .within (skipped m s) (skipped m t) q) (sym e)))
-      go Pass e = z (skipped m s) (skipped m t) q
-      go (Stop i p) e = over
-
-  again-steady : (f : ℕ) (tag : List (ℕ → Bool)) (body rest : State → Reading) → Body tag body → Steady rest → Steady (again f tag m body rest)
-  again-steady zero tag body rest b z = z
-  again-steady (suc f) tag body rest b z = turn-steady more tag body (again f tag m body rest) rest b (again-steady f tag body rest b z) z
-
-  follow-steady : (f : ℕ) (o : Occ) (tag : List (ℕ → Bool)) (body rest : State → Reading) → Body tag body → Steady rest → Steady (follow f o tag m body rest)
-  follow-steady f once tag body rest b z = z
-  follow-steady f optional tag body rest b z = z
-  follow-steady f many tag body rest b z = again-steady f tag body rest b z
-  follow-steady f more tag body rest b z = again-steady f tag body rest b z
-
-  child-steady : (o : Occ) (tag : List (ℕ → Bool)) (body rest : State → Reading) → Body tag body → Steady rest → Steady (turn o tag m body (follow (length m) o tag m body rest) rest)
-  child-steady o tag body rest b z = turn-steady o tag body (follow (length m) o tag m body rest) rest b (follow-steady (length m) o tag body rest b z) z
-
   leaf-steady : (o : Occ) → A o → (n : String) (k : Kind) (slot : ℕ) → Body (startTag k n) (leafBody o n k slot m)
   leaf-steady o a n k slot s t r h =
       follow-then (valued (exactly (endTag n)) k slot m) (valued (exactly (endTag n)) k slot m) (valued-steady (exactly (endTag n)) k slot)
@@ -146,10 +119,25 @@ module _ (m : List ℕ) (A : Occ → Type 0) (R : State → State → Type 0) (K
       (entered o false (length (exactly (plainTag n))) m s) (entered o false (length (exactly (plainTag n))) m t)
       (entered-steady o a false (length (exactly (plainTag n))) s t r h)
 
+  -- at an element's start tag: both read the same bytes, and what lies there whole lies within the message
+  entering : (tag : List (ℕ → Bool)) (f : State → Reading) → Body tag f → Entering m m R (Follows R) tag f f
+  entering tag f b s t r = (
+    ap (λ (p : ℕ). look tag (drop p m)) (K .same s t r),
+    λ e. b s t r (omega (arith, K .within s t r, look-fits tag (drop (s .at) m) e, length-drop (s .at) m)),
+  )
+
+  steps : Steps m m R (Follows R) (Comes A)
+  steps =
+      record {
+        size = refl;
+        same = K .same;
+        stopping = λ n p. over;
+        chaining = follow-then;
+        skipping = skip-steady;
+        closing = λ n e. closed-steady (exactly (endTag n));
+        valuing = λ o n k slot rest a. entering (startTag k n) (leafBody o n k slot m) (leaf-steady o a n k slot);
+        entering = λ o n inner rest a. entering (exactly (plainTag n)) (entered o false (length (exactly (plainTag n))) m) (entered-steady o a false (length (exactly (plainTag n))));
+      }
+
   pub read-steady : (sh : Shape) → Every A sh → Steady (read sh m)
-  read-steady (end n) e = λ s t r. closed-steady (exactly (endTag n)) (skipped m s) (skipped m t) (skip-steady s t r)
-  read-steady (leaf o n k slot rest) e =
-      child-steady o (startTag k n) (leafBody o n k slot m) (read rest m) (leaf-steady o (e .0) n k slot) (read-steady rest (e .1))
-  read-steady (group o n inner rest) e =
-      child-steady o (exactly (plainTag n)) (groupBody o n (read inner m) m) (read rest m)
-      (group-steady o (e .0) n (read inner m) (read-steady inner (e .1))) (read-steady rest (e .2))
+  read-steady = read-along m m R (Follows R) (Comes A) steps

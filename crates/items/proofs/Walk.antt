@@ -16,7 +16,7 @@ use Rattle.profile.specs.declared.Look.{Look}
 use Rattle.profile.specs.declared.Look.the-variants.{Whole, Cut, Other}
 use Rattle.profile.specs.Tree.{Occ, once, optional, many, more, Shape, end, leaf, group}
 use Rattle.profile.specs.Tags.{white, look, exactly, plainTag}
-use Rattle.profile.specs.Profile.{profile, header, item, items, itemShape}
+use Rattle.profile.specs.Profile.{profile, header, items, itemShape}
 use Rattle.profile.proofs.Looks.{look-fits}
 use Rattle.notes.specs.declared.State.{State}
 use Rattle.notes.specs.Reading.{Reading, on, stop, andThen, moved}

@@ -2,7 +2,7 @@
 use mathlib.Core.Path.{_≡_, refl, sym, ap, subst, _∙_}
 use mathlib.Core.Bool.{Bool, true, false}
 use mathlib.Core.List.{List, [], _∷_, _++_, append-assoc}
-use Prim.Native.Nat.{ℕ, zero, suc, _+_, _*_, _≤_, _<_}
+use Prim.Native.Nat.{ℕ, suc, _+_, _*_, _≤_, _<_}
 use native.Mathlib.Omega.{arith}
 use borrow.Author.Tests.{eqb-true}
 use lib.Dec.{T, eqb}
@@ -15,25 +15,24 @@ use Rattle.profile.specs.declared.Kind.the-variants.{Plain, Count, Total, Amoun
 use Rattle.profile.specs.Tree.{many}
 use Rattle.profile.specs.Tags.{white, plainTag}
 use Rattle.notes.specs.declared.State.{State}
-use Rattle.notes.specs.Reading.{Reading, on, stop, moved}
+use Rattle.notes.specs.Reading.{on, moved}
 use Rattle.notes.specs.Noting.{fresh}
 use Rattle.reader.specs.Reader.{valueAt, itemAt}
 use Rattle.judge.specs.Verdict.{accepted}
 use Rattle.judge.specs.Message.{judged}
-use Rattle.judge.specs.Items.{firstItem}
 use Rattle.records.specs.Record.{fieldAt, recordWith, recordOf}
-use Rattle.records.specs.Area.{Outcome, recorded}
-use Rattle.records.specs.Order.{InOrder, nothing, next, Written}
+use Rattle.records.specs.Area.{recorded}
+use Rattle.records.specs.Order.{InOrder, nothing, next}
 use Rattle.records.proofs.Order.{accepted-written}
-use Rattle.documents.specs.Document.{Led, Doc, ledText, texts, text, Each, LedBy, Proper}
-use Rattle.documents.specs.Entries.{Entry, item, value, entries, says, noting}
+use Rattle.documents.specs.Document.{Led, Doc, texts, text, Each, LedBy, Proper}
+use Rattle.documents.specs.Entries.{Entry, item, value, entries, says}
 use Rattle.documents.specs.Message.{whole, Lawful, told, gathered, ofAmount, sum, Holds}
 use Rattle.documents.specs.Bulk.{inItem, tree, Bulk, message}
 use Rattle.documents.proofs.Texts.{past}
 use Rattle.documents.proofs.Sound.{same-on, Through, through}
 use Rattle.documents.proofs.Tally.{lastly}
 use Rattle.documents.proofs.Often.{weight, weight-gathered, times, fixed, as-often}
-use Rattle.documents.proofs.Bulks.{itemText, itemsAt, itemEntries, items-proper, items-said, Bulked, accepted-bulk}
+use Rattle.documents.proofs.Bulks.{itemText, itemsAt, itemEntries, items-proper, items-said, accepted-bulk}
 use Rattle.documents.proofs.Items.{item-read, item-skips, noting-at, back, there, inside, small, first-item}
 use Rattle.postings.specs.Posting.{valueFor, said, recordFor}
 use Rattle.postings.proofs.Starts.{placeFor, Left, says-left}
@@ -95,8 +94,19 @@ one-sum (x ∷ y ∷ l) h = absurd (let z : ⊥ = omega arith in z)
 -- ---- one record
 record-same : (f g : ℕ → List ℕ) (c d : ℕ) → ((i : ℕ) → i < 10 → f i ≡ g i) → c ≡ d → recordWith f c ≡ recordWith g d
 record-same f g c d h e =
-    rw (h 0 (omega arith), h 1 (omega arith), h 2 (omega arith), h 3 (omega arith), h 4 (omega arith), h 5 (omega arith), h 6 (omega arith), h 7 (omega arith),
-    h 8 (omega arith), h 9 (omega arith), e)
+    rw (
+      h 0 (omega arith),
+      h 1 (omega arith),
+      h 2 (omega arith),
+      h 3 (omega arith),
+      h 4 (omega arith),
+      h 5 (omega arith),
+      h 6 (omega arith),
+      h 7 (omega arith),
+      h 8 (omega arith),
+      h 9 (omega arith),
+      e,
+    )
 
 module _ (m : List ℕ) (short : length m ≤ 16777216) where
   item-record : (p : ℕ) → p ≤ length m → (x : Led (Doc inItem)) → LedBy (Proper inItem) x → (s : List ℕ) → drop p m ≡ itemText x ++ s → (t : State) → itemAt m p ≡ on t

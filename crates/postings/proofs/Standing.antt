@@ -2,10 +2,9 @@
 use mathlib.Core.Path.{_≡_, refl, sym, ap, _∙_}
 use mathlib.Core.Bool.{Bool, true, false}
 use mathlib.Core.List.{List, [], _∷_, _++_, append-assoc}
-use Prim.Native.Nat.{ℕ, zero, suc, _+_}
+use Prim.Native.Nat.{ℕ, _+_}
 use Prim.Native.String.{String}
-use native.Mathlib.Omega.{arith}
-use lib.ListN.{length, take, drop, length-append}
+use lib.ListN.{length, take, drop}
 use lib.Seq.{take-append-seam}
 use Rattle.text.specs.Truth.{lead, pick}
 use Rattle.text.specs.Quoted.{bytes}
@@ -14,7 +13,7 @@ use Rattle.profile.specs.declared.Kind.{Kind}
 use Rattle.profile.specs.Tree.{Occ, once, optional, many, more, Shape, end, leaf, group}
 use Rattle.profile.specs.Tags.{inValue, endTag, plainTag}
 use Rattle.reader.specs.Reader.{valueAt}
-use Rattle.documents.specs.Document.{Led, Row, Doc, opening, ledText, texts, text, Each, Tagless, LedBy, Proper}
+use Rattle.documents.specs.Document.{Doc, opening, ledText, texts, text, Each, Tagless, LedBy, Proper}
 use Rattle.documents.specs.Entries.{Entry, item, value, begins, ledEntries, along, entries}
 use Rattle.documents.specs.Message.{gathered}
 use Rattle.documents.proofs.Texts.{lead-before, past}

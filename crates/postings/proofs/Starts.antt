@@ -1,15 +1,15 @@
 -- What noting entries leaves for the record: where each value begins, and the cents. Assumes nothing.
 use mathlib.Core.Path.{_≡_, refl, sym, ap, _∙_}
 use mathlib.Core.Bool.{Bool, true, false}
-use mathlib.Core.List.{List, [], _∷_, _++_}
-use Prim.Native.Nat.{ℕ, zero, suc, _+_, _≤_, _<_}
+use mathlib.Core.List.{List, [], _∷_}
+use Prim.Native.Nat.{ℕ, suc, _+_, _<_}
 use native.Mathlib.Omega.{arith}
-use borrow.Author.Tests.{eqb-true, eqb-false, ltb-false, lt-ltb}
+use borrow.Author.Tests.{eqb-true, eqb-false, ltb-false}
 use lib.Dec.{eqb, leb, ltb}
 use lib.ListN.{length, getD, set, length-set}
 use lib.Seq.{getD-set-same, getD-set-other}
 use Rattle.text.specs.Truth.{either, pick}
-use Rattle.answers.specs.Given.{Given, yes, worth, refused, valueOf}
+use Rattle.answers.specs.Given.{valueOf}
 use Rattle.codes.specs.declared.Element.{Element}
 use Rattle.codes.specs.declared.Element.the-variants.{SttlmMtd, SvcLvl, LclInstrm, SeqTp, ChrgBr, Prtry}
 use Rattle.codes.specs.Listed.{Given as CodeGiven, which, refused as unlisted, codeGiven}
@@ -19,12 +19,12 @@ use Rattle.money.specs.Amount.{amountGiven}
 use Rattle.profile.specs.declared.Kind.{Kind}
 use Rattle.profile.specs.declared.Kind.the-variants.{Plain, Count, Total, Amount, Code}
 use Rattle.notes.specs.declared.State.{State}
-use Rattle.notes.specs.Reading.{Reading, on, stop, andThen, moved}
-use Rattle.notes.specs.Noting.{plainGiven, onGiven, onCode, withCount, withTotal, withCents, withService, withItem, withStart, started, begun, summedUp, served, coded, judgedBy, noted}
+use Rattle.notes.specs.Reading.{on, stop, moved}
+use Rattle.notes.specs.Noting.{plainGiven, onCode, withCount, withTotal, withCents, withService, withItem, withStart, started, begun, summedUp, served, coded, judgedBy, noted}
 use Rattle.documents.specs.Entries.{Entry, item, value, says}
 use Rattle.documents.specs.Message.{gathered, ofAmount}
 use Rattle.documents.proofs.Sound.{never, same-on, Through, through}
-use Rattle.documents.proofs.Tally.{lastly, lastly-append, Given-on, given-on, begun-item}
+use Rattle.documents.proofs.Tally.{lastly, lastly-append, given-on, begun-item}
 
 -- what judging a value leaves as it was, and the cents
 record Kept (s : State) (k : Kind) (v : List ℕ) (u : State) : Type 0 where

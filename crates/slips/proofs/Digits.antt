@@ -1,15 +1,14 @@
 -- Her third demand, in the digits of a value. Assumes nothing.
 use mathlib.Core.Path.{_≡_, refl, sym, ap, subst, _∙_}
-use mathlib.Core.Logic.{_≢_, _⊎_, inl, inr}
-use mathlib.Core.Bool.{Bool, true, false, not}
+use mathlib.Core.Logic.{_≢_, _⊎_}
+use mathlib.Core.Bool.{true, not}
 use mathlib.Core.List.{List, [], _∷_, _++_, append-assoc}
-use Prim.Native.Nat.{ℕ, zero, suc, _+_, _≤_, _<_}
+use Prim.Native.Nat.{ℕ, suc, _+_, _<_}
 use native.Mathlib.Omega.{arith}
 use borrow.Author.Tests.{ne-eqb}
-use lib.Dec.{eqb}
 use lib.ListN.{length, take, drop, set, length-append}
 use lib.Seq.{split-at, set-at, getD-at, take-at, drop-at, length-take-le, drop-cons}
-use Rattle.text.specs.Truth.{both, every, at}
+use Rattle.text.specs.Truth.{every, at}
 use Rattle.text.specs.Classes.{digit}
 use Rattle.text.specs.Slips.{exchangedAt}
 use Rattle.text.proofs.Truths.{both-true}
@@ -19,13 +18,13 @@ use Rattle.profile.specs.Tags.{inValue}
 use Rattle.profile.specs.Profile.{profile}
 use Rattle.judge.specs.Verdict.{Judged, accepted, refused}
 use Rattle.judge.specs.Message.{judged}
-use Rattle.documents.specs.Document.{Tagless, text, Proper}
-use Rattle.documents.specs.Entries.{Entry, value, entries}
+use Rattle.documents.specs.Document.{Tagless, text}
+use Rattle.documents.specs.Entries.{Entry, value}
 use Rattle.documents.specs.Message.{Message, head, whole, Lawful, told, Holds}
 use Rattle.documents.proofs.Exactly.{document-accepted}
-use Rattle.slips.specs.Slip.{Watched, Slip, replaced, exchanged, Refusal, In, Stands}
+use Rattle.slips.specs.Slip.{Watched, Slip, replaced, exchanged, Refusal, Stands}
 use Rattle.slips.proofs.Values.{slip-never}
-use Rattle.slips.proofs.Swap.{Swapped, Another, document-swaps}
+use Rattle.slips.proofs.Swap.{document-swaps}
 
 pub refusal : (j : Judged) → ((n c : ℕ) → j ≡ accepted n c → ⊥) → Refusal j
 refusal (accepted n c) f = absurd (f n c refl)

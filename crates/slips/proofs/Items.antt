@@ -2,21 +2,21 @@
 use mathlib.Core.Path.{_≡_, refl, sym, ap, subst, _∙_}
 use mathlib.Core.Bool.{Bool, true, false}
 use mathlib.Core.List.{List, [], _∷_, _++_, append-assoc}
-use Prim.Native.Nat.{ℕ, zero, suc, _+_, _≤_}
+use Prim.Native.Nat.{ℕ, _+_}
 use native.Mathlib.Omega.{arith}
 use lib.ListN.{length, take, drop, length-append}
 use lib.Seq.{take-at, drop-at}
 use Rattle.text.specs.Truth.{both, every}
-use Rattle.profile.specs.Tree.{Occ, once, optional, many, more}
+use Rattle.profile.specs.Tree.{many, more}
 use Rattle.profile.specs.Tags.{white, plainTag}
-use Rattle.judge.specs.Verdict.{Judged, accepted, refused, lies}
+use Rattle.judge.specs.Verdict.{accepted, lies}
 use Rattle.judge.specs.Message.{judged}
 use Rattle.judge.specs.Items.{item}
-use Rattle.documents.specs.Document.{Led, Doc, ledText, texts, text, Each, White, LedBy, Proper}
-use Rattle.documents.specs.Message.{Message, whole, Lawful, told, Holds}
+use Rattle.documents.specs.Document.{Led, Doc, texts, text, Each, White, LedBy, Proper}
+use Rattle.documents.specs.Message.{whole, Lawful, told, Holds}
 use Rattle.documents.specs.Bulk.{inItem, tree, Bulk, message, withItems}
-use Rattle.documents.proofs.Bulks.{itemText, itemsAt, Bulked, accepted-bulk, same-number}
-use Rattle.documents.proofs.Items.{front, back, whole-parts, front-long, Itself, item-itself}
+use Rattle.documents.proofs.Bulks.{itemText, accepted-bulk, same-number}
+use Rattle.documents.proofs.Items.{front, back, whole-parts, front-long, item-itself}
 use Rattle.slips.specs.Slip.{Refusal}
 use Rattle.slips.proofs.Digits.{refusal}
 

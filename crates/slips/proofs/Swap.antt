@@ -2,7 +2,7 @@
 use mathlib.Core.Path.{_≡_, refl, sym, ap, _∙_}
 use mathlib.Core.Logic.{_⊎_, inl, inr}
 use mathlib.Core.List.{List, [], _∷_, _++_, append-assoc}
-use Prim.Native.Nat.{ℕ, zero, suc, _+_}
+use Prim.Native.Nat.{ℕ, suc, _+_}
 use Prim.Native.String.{String}
 use native.Mathlib.Nat.{add-zero}
 use native.Mathlib.Omega.{arith}
@@ -10,7 +10,7 @@ use lib.ListN.{length, length-append}
 use Rattle.profile.specs.declared.Kind.{Kind}
 use Rattle.profile.specs.Tree.{Occ, once, optional, many, more, Shape, end, leaf, group}
 use Rattle.profile.specs.Tags.{endTag, plainTag}
-use Rattle.documents.specs.Document.{Led, Row, Doc, opening, ledText, texts, text, Often, Each, Tagless, LedBy, Proper}
+use Rattle.documents.specs.Document.{opening, ledText, texts, text, Often, Each, Tagless, LedBy, Proper}
 use Rattle.documents.specs.Entries.{Entry, item, value, begins, ledEntries, along, entries}
 use Rattle.slips.specs.Slip.{In}
 

@@ -3,7 +3,7 @@
 use Prim.Native.Nat.{ℕ, suc, _≤_, _<_}
 use mathlib.Core.Path.{_≡_}
 use mathlib.Core.Logic.{_≢_, _⊎_}
-use mathlib.Core.Bool.{Bool, true}
+use mathlib.Core.Bool.{true}
 use mathlib.Core.List.{List, [], _∷_, _++_}
 use lib.ListN.{length}
 use Rattle.text.specs.Classes.{digit}
@@ -13,7 +13,7 @@ use Rattle.profile.specs.declared.Judged.{Judged as PlainKind}
 use Rattle.profile.specs.declared.Judged.the-variants.{Reference, Nm, Ustrd, Date, Time, Bic, Iban, Identifier}
 use Rattle.profile.specs.Profile.{profile}
 use Rattle.judge.specs.Verdict.{Judged, refused}
-use Rattle.documents.specs.Entries.{Entry, value}
+use Rattle.documents.specs.Entries.{value}
 use Rattle.documents.specs.Message.{Message, whole, Lawful, told}
 
 -- the places of a value, counted from 0, at which a slip is always found: all of a count, a total, an amount and an IBAN; of an identifier those outside positions 5 to 7

@@ -1,0 +1,15 @@
+-- A message in which a name (Nm) or a remittance text (Ustrd) stands at any place.
+use Prim.Native.Nat.{ℕ}
+use Prim.Native.String.{String}
+use mathlib.Core.List.{List, _++_}
+use Rattle.words.specs.declared.Field.{Field}
+use Rattle.words.specs.declared.Field.the-variants.{Nm, Ustrd}
+use Rattle.profile.specs.Tags.{plainTag, endTag}
+
+abbrev pub nameOf : Field → String
+nameOf Nm = "Nm"
+nameOf Ustrd = "Ustrd"
+
+-- any bytes x, the start tag, the value v, the end tag, any bytes y
+abbrev pub named : Field → List ℕ → List ℕ → List ℕ → List ℕ
+named f x v y = x ++ (plainTag (nameOf f) ++ (v ++ (endTag (nameOf f) ++ y)))

@@ -1,0 +1,1 @@
+// A name or a remittance text replaced by another legal one of equal length: laws only.
