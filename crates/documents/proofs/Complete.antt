@@ -34,6 +34,13 @@ plain-starts n s = record { rest = (bytes n ++ bytes ">") ++ s; is = refl }
 end-starts : (n : String) (s : List ℕ) → Starts (endTag n ++ s)
 end-starts n s = record { rest = 47 ∷ (bytes n ++ bytes ">") ++ s; is = refl }
 
+-- where an element may be passed over, its tag is known from what may come instead
+pub asked-for : (o : Occ) (b : Bool) → unlessOnce o b ≡ true → Passing o → b ≡ true
+asked-for once b h a = absurd a
+asked-for optional b h a = h
+asked-for many b h a = h
+asked-for more b h a = h
+
 module _ (m : List ℕ) where
   -- ---- an end tag that is there
   closes : (n : String) (st : State) (s : List ℕ) → drop (st .at) m ≡ endTag n ++ s → closed (exactly (endTag n)) m st ≡ on (moved st (st .at + length (endTag n)))
@@ -167,12 +174,6 @@ module _ (m : List ℕ) where
   apart-other tag (group o n inner rest) a d pr st s e =
       first-differs tag o (plainTag n) (text inner) (Proper inner) (apart tag rest) (d .all) (text rest (d .others)) (plain-starts n) a (pr .0) (pr .1)
       (λ z. apart-other tag rest z (d .others) (pr .2)) st s e
-
-  pub asked-for : (o : Occ) (b : Bool) → unlessOnce o b ≡ true → Passing m o → b ≡ true
-  asked-for once b h a = absurd a
-  asked-for optional b h a = h
-  asked-for many b h a = h
-  asked-for more b h a = h
 
   pub read-skips : (sh : Shape) (st : State) → read sh m (skipped m st) ≡ read sh m st
   read-skips (end n) st = ap (closed (exactly (endTag n)) m) (skipped-twice m st)

@@ -28,7 +28,7 @@ use Rattle.documents.specs.Entries.{Entry, item, value, begins, along, e
 use Rattle.documents.specs.Sure.{sure}
 use Rattle.documents.specs.Message.{Message, head, whole, Lawful, told, weighed, itemsIn, Holds}
 use Rattle.documents.specs.Bulk.{inHeader, inItem, tree, Bulk, message}
-use Rattle.documents.proofs.Texts.{past, Starts}
+use Rattle.documents.proofs.Texts.{past}
 use Rattle.documents.proofs.Noted.{noting-moved}
 use Rattle.documents.proofs.Rows.{skip-to, skipped-twice}
 use Rattle.documents.proofs.Complete.{group-told, read-tells}
@@ -44,9 +44,6 @@ many-sure = refl
 item-sure : sure inItem ≡ true
 unfolding inItem
 item-sure = refl
-
-item-tag : (s : List ℕ) → Starts (plainTag "DrctDbtTxInf" ++ s)
-item-tag s = record { rest = drop 1 (plainTag "DrctDbtTxInf") ++ s; is = refl }
 
 item-shape : (m : List ℕ) (st : State) → element itemShape m st ≡ groupBody many "DrctDbtTxInf" (read inItem m) m st
 unfolding itemShape inItem

@@ -1,3 +1,4 @@
+pub mod Each
 pub mod Texts
 pub mod Noted
 pub mod Rows

@@ -20,6 +20,13 @@ use Rattle.documents.specs.Entries.{Entry, begins, ledEntries, along, no
 use Rattle.documents.proofs.Texts.{lead-before, past, Starts}
 use Rattle.documents.proofs.Noted.{noting-moved, noting-then, noting-on}
 
+-- an element that need not come where it is looked for, or not again
+abbrev pub Passing : Occ → Type 0
+Passing once = ⊥
+Passing optional = Unit {0}
+Passing many = Unit {0}
+Passing more = Unit {0}
+
 module _ (m : List ℕ) where
   -- ---- white space
   pub skip-to : (st : State) (w s : List ℕ) → White w → Starts s → drop (st .at) m ≡ w ++ s → skipped m st ≡ moved st (st .at + length w)
@@ -41,13 +48,6 @@ module _ (m : List ℕ) where
   -- a reader that takes a text, whatever follows, and notes entries that depend on its place
   abbrev pub Tells : (State → Reading) → List ℕ → (ℕ → List Entry) → Type 0
   Tells f t es = (st : State) (s : List ℕ) → drop (st .at) m ≡ t ++ s → f st ≡ noting (es (st .at)) (st .at + length t) st
-
-  -- an element that is not entered is passed over, where it may be
-  abbrev pub Passing : Occ → Type 0
-  Passing once = ⊥
-  Passing optional = Unit {0}
-  Passing many = Unit {0}
-  Passing more = Unit {0}
 
   module _ {A : Type 0} (o : Occ) (tag : List (ℕ → Bool)) (tb : List ℕ) (f : A → List ℕ) (g : ℕ → A → List Entry) (P : A → Type 0) (body : State → Reading)
       (starts : (s : List ℕ) → Starts (tb ++ s)) (whole : (s : List ℕ) → look tag (tb ++ s) ≡ Whole)

@@ -17,7 +17,7 @@ use Rattle.money.specs.Amount.{amountGiven}
 use Rattle.profile.specs.declared.Kind.{Kind}
 use Rattle.profile.specs.declared.Kind.the-variants.{Plain, Count, Total, Amount, Code}
 use Rattle.notes.specs.declared.State.{State}
-use Rattle.notes.specs.Reading.{Reading, on, stop, andThen, moved}
+use Rattle.notes.specs.Reading.{Reading, on, stop, moved}
 use Rattle.notes.specs.Noting.{plainGiven, onGiven, onCode, withCount, withTotal, withCents, withService, withItem, withStart, begun, summedUp, served, coded, judgedBy, noted}
 use Rattle.documents.specs.Document.{Each}
 use Rattle.documents.specs.Entries.{Entry, item, value, says}
@@ -57,10 +57,6 @@ served-first n (i ∷ a) b s = (s .0, served-first (suc i) a b (s .1))
 served-then : (n : ℕ) (a b : List ℕ) → Served n (a ++ b) → Served (lastServed n a) b
 served-then n [] b s = s
 served-then n (i ∷ a) b s = served-then (suc i) a b (s .1)
-
-lastServed-append : (n : ℕ) (a b : List ℕ) → lastServed n (a ++ b) ≡ lastServed (lastServed n a) b
-lastServed-append n [] b = refl
-lastServed-append n (i ∷ a) b = lastServed-append (suc i) a b
 
 -- ---- one value
 record Told (s : State) (k : Kind) (v : List ℕ) (u : State) : Type 0 where
@@ -304,10 +300,10 @@ pub says-goes : (es : List Entry) (s : State) → Each Kept es → s .notes .cou
 says-goes [] s h c a r = record { to = s; is = refl }
 says-goes (item p ∷ l) s h c a r =
     let g = says-goes l (withItem (moved s p)) (h .1) (omega arith) a r in
-    record { to = g .to; is = ap (λ (x : Reading). andThen x (says l)) (begins-on (moved s p) (omega arith)) ∙ g .is }
+    record { to = g .to; is = rw (begins-on (moved s p) (omega arith)) (g .is) }
 says-goes (value k slot p v ∷ l) s h c a r =
     let b = noted-goes (moved s p) k slot v (h .0) (omega (arith, sum-append (ofAmount k v) (gathered ofAmount l))) (served-first (s .notes .service) (ofService k v) (gathered ofService l) r) in
     let t = noted-told (moved s p) k slot v (b .to) (b .is) in
     let g = says-goes l (b .to) (h .1) (rw (t .counted) c) (omega (arith, t .summed, sum-append (ofAmount k v) (gathered ofAmount l)))
     (rw (t .service) (served-then (s .notes .service) (ofService k v) (gathered ofService l) r)) in
-    record { to = g .to; is = ap (λ (x : Reading). andThen x (says l)) (b .is) ∙ g .is }
+    record { to = g .to; is = rw (b .is) (g .is) }

@@ -23,6 +23,7 @@ use Rattle.notes.specs.Reading.{Reading, on, stop, andThen, moved}
 use Rattle.notes.specs.Noting.{noted}
 use Rattle.reader.specs.declared.Choice.the-variants.{Enter, Stop}
 use Rattle.reader.specs.Reader.{onLook, skipped, closed, missing, tagged, inEuro, priced, entered, valueAt, behindValue, valued, chosen, turn, again, follow}
+use Rattle.documents.proofs.Rows.{Passing}
 use Rattle.faults.proofs.Parts.{Part, itself, Sights, whole, cut, other, shorter, lies-in, seen, runs, run-within, run-past, none-left}
 use Rattle.faults.proofs.Told.{Met, order, inside, In, Told, stays, tells, noted-told, counted-told}
 
@@ -184,13 +185,6 @@ module _ (tag : List (ℕ → Bool)) (k : Kind) (slot : ℕ) where
 abbrev pub Apart : List (ℕ → Bool) → Reads → Type 0
 Apart tag G = (c : List ℕ) (s t : State) → look tag (drop (s .at) c) ≡ Cut → G c s ≡ on t → ⊥
 
--- an element that need not come where it is looked for, or not again
-abbrev pub Loose : Occ → Type 0
-Loose once = ⊥
-Loose optional = Unit {0}
-Loose many = Unit {0}
-Loose more = Unit {0}
-
 -- an element's body, at a start tag that lies whole
 abbrev pub Bodies : List (ℕ → Bool) → Reads → Type 0
 Bodies tag F = (m c : List ℕ) → Part m c → (s : State) → In c s → s .at + length tag ≤ length c → Cropped m c (s .at + length tag) (F m s) (F c s)
@@ -200,7 +194,7 @@ module _ (tag : List (ℕ → Bool)) (some : 0 < length tag) (F G : Reads) (b : 
   abbrev child : Occ → List ℕ → (State → Reading) → State → Reading
   child o m next s = chosen (tagged o tag m (s .at)) (andThen (F m s) next) (G m s)
 
-  module _ (o : Occ) (apart : Loose o → Apart tag G) where
+  module _ (o : Occ) (apart : Passing o → Apart tag G) where
     child-crop : (a : ℕ) {m c : List ℕ} → Part m c → (f g : State → Reading) → ((t : State) → a < t .at → In c t → Cropped m c (t .at) (f t) (g t))
         → ((t : State) → a < t .at → In m t → Cropped m m (t .at) (f t) (f t)) → (s : State) → a ≤ s .at → In c s
         → Cropped m c (s .at) (child o m f s) (child o c g s)
@@ -216,7 +210,7 @@ module _ (tag : List (ℕ → Bool)) (some : 0 < length tag) (F G : Reads) (b : 
         passed more j = r m c w s i
 
         -- other bytes stand there, and the front ends before they differ
-        cropped : (q : Occ) → (Loose q → Apart tag G) → look tag (drop (s .at) c) ≡ Cut → Cropped m c (s .at) (chosen (missing q (s .at)) (andThen (F m s) f) (G m s)) (stop 3 (length c))
+        cropped : (q : Occ) → (Passing q → Apart tag G) → look tag (drop (s .at) c) ≡ Cut → Cropped m c (s .at) (chosen (missing q (s .at)) (andThen (F m s) f) (G m s)) (stop 3 (length c))
         cropped once p e = ended
         cropped optional p e = cut-off (r m c w s i) (λ t. p tt c s t e)
         cropped many p e = ended
@@ -240,7 +234,7 @@ module _ (tag : List (ℕ → Bool)) (some : 0 < length tag) (F G : Reads) (b : 
   unfolding tagged
   child-ends o c g t e = rw (none-left tag some c (t .at) e)
 
-  pub turn-crop : (o : Occ) → (Loose o → Apart tag G) → {m c : List ℕ} → Part m c → (f g : State → Reading) (s : State) → In c s
+  pub turn-crop : (o : Occ) → (Passing o → Apart tag G) → {m c : List ℕ} → Part m c → (f g : State → Reading) (s : State) → In c s
       → ((t : State) → s .at < t .at → In c t → Cropped m c (t .at) (f t) (g t))
       → ((t : State) → s .at < t .at → In m t → Cropped m m (t .at) (f t) (f t))
       → Cropped m c (s .at) (turn o tag m (F m) f (G m) s) (turn o tag c (F c) g (G c) s)
@@ -257,14 +251,14 @@ module _ (tag : List (ℕ → Bool)) (some : 0 < length tag) (F G : Reads) (b : 
       turn-crop more (λ e. p) w (again f tag m (F m) (G m)) (again g tag c (F c) (G c)) s i
       (λ t l n. again-crop p f g w t n (omega arith) (omega arith)) (λ t l n. again-crop p f f (itself m) t n (omega arith) (omega arith))
 
-  follow-crop : (o : Occ) → (Loose o → Apart tag G) → {m c : List ℕ} → Part m c → (s : State) → In c s → 0 < s .at
+  follow-crop : (o : Occ) → (Passing o → Apart tag G) → {m c : List ℕ} → Part m c → (s : State) → In c s → 0 < s .at
       → Cropped m c (s .at) (follow (length m) o tag m (F m) (G m) s) (follow (length c) o tag c (F c) (G c) s)
   follow-crop once p w s i h = r _ _ w s i
   follow-crop optional p w s i h = r _ _ w s i
   follow-crop many p {m} {c} w s i h = again-crop (p tt) (length m) (length c) w s i (omega arith) (omega arith)
   follow-crop more p {m} {c} w s i h = again-crop (p tt) (length m) (length c) w s i (omega arith) (omega arith)
 
-  pub child-crops : (o : Occ) → (Loose o → Apart tag G) → Crops (λ m. turn o tag m (F m) (follow (length m) o tag m (F m) (G m)) (G m))
+  pub child-crops : (o : Occ) → (Passing o → Apart tag G) → Crops (λ m. turn o tag m (F m) (follow (length m) o tag m (F m) (G m)) (G m))
   child-crops o p m c w s i =
       turn-crop o p w (follow (length m) o tag m (F m) (G m)) (follow (length c) o tag c (F c) (G c)) s i
       (λ t h j. follow-crop o p w t j (omega arith)) (λ t h j. follow-crop o p (itself m) t j (omega arith))

@@ -13,7 +13,7 @@ use Rattle.text.proofs.Truths.{both-true}
 use Rattle.profile.specs.declared.Kind.{Kind}
 use Rattle.profile.specs.declared.Look.{Look}
 use Rattle.profile.specs.declared.Look.the-variants.{Whole, Cut, Other}
-use Rattle.profile.specs.Tree.{Occ, once, optional, many, more, Shape, end, leaf, group}
+use Rattle.profile.specs.Tree.{Occ, Shape, end, leaf, group}
 use Rattle.profile.specs.Tags.{white, look, exactly, endTag, plainTag, amountTag, currency, isAmount, startTag, startsQuestion, declaration, root}
 use Rattle.profile.specs.Profile.{profile}
 use Rattle.notes.specs.Reading.{Reading, on, stop, andThen, moved}
@@ -24,8 +24,9 @@ use Rattle.judge.specs.declared.Opened.the-variants.{From, Faulty}
 use Rattle.judge.specs.Message.{further, declared, rooted, opened, readFrom, readThrough}
 use Rattle.faults.proofs.Parts.{Part, itself}
 use Rattle.faults.proofs.Told.{opening, order, In}
-use Rattle.faults.proofs.Crops.{Cropped, weaken, Reads, Crops, Bodies, fixed, then-crop, fixed-crop, fixed-crops, entered-crop, valued-crops, child-crops, Apart, Loose}
+use Rattle.faults.proofs.Crops.{Cropped, weaken, Reads, Crops, Bodies, fixed, then-crop, fixed-crop, fixed-crops, entered-crop, valued-crops, child-crops, Apart}
 use Rattle.documents.specs.Sure.{unlessOnce, apart, sure}
+use Rattle.documents.proofs.Complete.{asked-for}
 use Rattle.documents.proofs.Ends.{profile-sure}
 use Rattle.faults.proofs.Apart.{tag-apart}
 
@@ -62,26 +63,19 @@ start-apart k n rest = go (isAmount k)
     go true e = tag-apart (exactly (drop 1 (amountTag n)) ++ currency) rest e
     go false e = tag-apart (exactly (drop 1 (plainTag n))) rest e
 
--- an element that may be passed over
-passing : (o : Occ) (tag : List (ℕ → Bool)) (rest : Shape) → unlessOnce o (apart tag rest) ≡ true → (apart tag rest ≡ true → Apart tag (read rest)) → Loose o → Apart tag (read rest)
-passing once tag rest e f l = absurd l
-passing optional tag rest e f l = f e
-passing many tag rest e f l = f e
-passing more tag rest e f l = f e
-
 read-crops : (sh : Shape) → sure sh ≡ true → Crops (read sh)
 unfolding closed
 read-crops (end n) e = fixed-crops 4 order (exactly (endTag n)) (omega arith)
 read-crops (leaf o n k slot rest) e =
     let h = both-true (unlessOnce o (apart (startTag k n) rest)) (sure rest) e in
     child-crops (startTag k n) (start-wide k n .0) (leafBody o n k slot) (read rest) (leaf-bodies o n k slot) (read-crops rest (h .1)) o
-    (passing o (startTag k n) rest (h .0) (start-apart k n rest))
+    (λ z. start-apart k n rest (asked-for o (apart (startTag k n) rest) (h .0) z))
 read-crops (group o n inner rest) e =
     let h = both-true (unlessOnce o (apart (exactly (plainTag n)) rest)) (both (sure inner) (sure rest)) e in
     let g = both-true (sure inner) (sure rest) (h .1) in
     child-crops (exactly (plainTag n)) (omega arith) (λ m. groupBody o n (read inner m) m) (read rest)
     (group-bodies o n (read inner) (read-crops inner (g .0))) (read-crops rest (g .1)) o
-    (passing o (exactly (plainTag n)) rest (h .0) (tag-apart (exactly (drop 1 (plainTag n))) rest))
+    (λ z. tag-apart (exactly (drop 1 (plainTag n))) rest (asked-for o (apart (exactly (plainTag n)) rest) (h .0) z))
 
 profile-crops : Crops (read profile)
 profile-crops = read-crops profile profile-sure

@@ -16,13 +16,10 @@ use Rattle.reader.specs.Reader.{valueAt}
 use Rattle.documents.specs.Document.{Doc, opening, ledText, texts, text, Each, Tagless, LedBy, Proper}
 use Rattle.documents.specs.Entries.{Entry, item, value, begins, ledEntries, along, entries}
 use Rattle.documents.specs.Message.{gathered}
+use Rattle.documents.proofs.Each.{each-both}
 use Rattle.documents.proofs.Texts.{lead-before, past}
 use Rattle.postings.specs.Posting.{valueFor}
 use Rattle.postings.proofs.Starts.{placeFor}
-
-each-both : (P : Entry → Type 0) (a b : List Entry) → Each P a → Each P b → Each P (a ++ b)
-each-both P [] b h g = g
-each-both P (x ∷ a) b h g = (h .0, each-both P a b (h .1) g)
 
 module _ (m : List ℕ) where
   abbrev pub Standing : Entry → Type 0

@@ -15,6 +15,7 @@ use Rattle.judge.specs.Items.{item}
 use Rattle.documents.specs.Document.{Led, Doc, texts, text, Each, White, LedBy, Proper}
 use Rattle.documents.specs.Message.{whole, Lawful, told, Holds}
 use Rattle.documents.specs.Bulk.{inItem, tree, Bulk, message, withItems}
+use Rattle.documents.proofs.Each.{each-both, each-first, each-rest}
 use Rattle.documents.proofs.Bulks.{itemText, accepted-bulk, same-number}
 use Rattle.documents.proofs.Items.{front, back, whole-parts, front-long, item-itself}
 use Rattle.slips.specs.Slip.{Refusal}
@@ -65,18 +66,6 @@ white-both (c ∷ w) x h g = go (white c) h (λ k. white-both w x k g)
     go : (b : Bool) → both b (every white w) ≡ true → (every white w ≡ true → every white (w ++ x) ≡ true) → both b (every white (w ++ x)) ≡ true
     go true e k = k e
     go false e k = absurd (let z : _≡_ {A = ℕ} 0 1 = cc in omega arith)
-
-each-both : (P : Item → Type 0) (a b : List Item) → Each P a → Each P b → Each P (a ++ b)
-each-both P [] b h g = g
-each-both P (x ∷ a) b h g = (h .0, each-both P a b (h .1) g)
-
-each-first : (P : Item → Type 0) (a b : List Item) → Each P (a ++ b) → Each P a
-each-first P [] b h = tt
-each-first P (x ∷ a) b h = (h .0, each-first P a b (h .1))
-
-each-rest : (P : Item → Type 0) (a b : List Item) → Each P (a ++ b) → Each P b
-each-rest P [] b h = h
-each-rest P (x ∷ a) b h = each-rest P a b (h .1)
 
 after-proper : (w : List ℕ) (l : List Item) → White w → Each (LedBy (Proper inItem)) l → Each (LedBy (Proper inItem)) (itemsAfter w l)
 after-proper w [] h g = tt

@@ -22,9 +22,9 @@ use Rattle.profile.specs.declared.Kind.{Kind}
 use Rattle.profile.specs.declared.Kind.the-variants.{Plain, Count, Total, Amount, Code}
 use Rattle.profile.specs.declared.Judged.the-variants.{Reference, Nm, Ustrd, Date, Time, Bic, Iban, Identifier}
 use Rattle.notes.specs.Noting.{plainGiven}
-use Rattle.documents.specs.Document.{Each}
 use Rattle.documents.specs.Entries.{Entry, item, value}
 use Rattle.documents.specs.Message.{Passes, OfKind, Kept, itemsIn, gathered, ofCount, ofTotal, ofAmount, sum, Holds}
+use Rattle.documents.proofs.Each.{each-rest}
 use Rattle.documents.proofs.Tally.{sum-append}
 use Rattle.documents.proofs.Often.{gathered-append}
 use Rattle.slips.specs.Slip.{Watched, Slip, replaced, exchanged}
@@ -105,10 +105,6 @@ unwatched k v w f (exchanged p q a b (inl at) da db ne x y) = f (length p) at
 unwatched k v w f (exchanged p q a b (inr at) da db ne x y) = f (suc (length p)) at
 
 -- ---- the entries before and behind the value
-each-middle : (P : Entry → Type 0) (xs ys : List Entry) (e : Entry) → Each P (xs ++ (e ∷ ys)) → P e
-each-middle P [] ys e h = h .0
-each-middle P (x ∷ xs) ys e h = each-middle P xs ys e (h .1)
-
 items-middle : (xs ys : List Entry) (k : Kind) (slot p q : ℕ) (v w : List ℕ) → itemsIn (xs ++ (value k slot p v ∷ ys)) ≡ itemsIn (xs ++ (value k slot q w ∷ ys))
 items-middle [] ys k slot p q v w = refl
 items-middle (item r ∷ xs) ys k slot p q v w = ap suc (items-middle xs ys k slot p q v w)
@@ -130,10 +126,10 @@ module _ (xs ys : List Entry) (k : Kind) (slot p : ℕ) (v w : List ℕ) (n c i 
   other = xs ++ (value k slot p w ∷ ys)
 
   fits : OfKind k v
-  fits = each-middle Kept xs ys (value k slot p v) (a .kinds)
+  fits = each-rest Kept xs (value k slot p v ∷ ys) (a .kinds) .0
 
   fits-too : OfKind k w
-  fits-too = each-middle Kept xs ys (value k slot p w) (b .kinds)
+  fits-too = each-rest Kept xs (value k slot p w ∷ ys) (b .kinds) .0
 
   -- both have as many items
   same-items : n ≡ i
