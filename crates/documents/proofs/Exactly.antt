@@ -22,7 +22,8 @@ use Rattle.judge.specs.Verdict.{accepted, refused}
 use Rattle.judge.specs.Message.{compared, judged}
 use Rattle.documents.specs.Document.{Each}
 use Rattle.documents.specs.Entries.{Entry, item, value, says}
-use Rattle.documents.specs.Message.{Message, head, whole, Lawful, told, weighed, Passes, Kept, gathered, ofCount, ofTotal, ofService, sum, Alike, Holds, Profiled}
+use Rattle.documents.specs.Message.{Message, head, whole, Lawful, told, weighed}
+use Rattle.documents.specs.Holds.{Passes, Kept, gathered, ofCount, ofTotal, ofService, sum, Alike, Holds, Profiled}
 use Rattle.documents.proofs.Sound.{never}
 use Rattle.documents.proofs.Ends.{judged-told, accepted-document}
 use Rattle.documents.proofs.Tally.{lastly, Served, says-tallied, says-goes}

@@ -14,7 +14,7 @@ use Rattle.profile.specs.Tree.{Occ, once, optional, many, more, Shape, end, lea
 use Rattle.profile.specs.Tags.{endTag, plainTag}
 use Rattle.documents.specs.Document.{Led, Doc, opening, ledText, texts, text, Often, Each, Tagless, LedBy, Proper}
 use Rattle.documents.specs.Entries.{Entry, item, value, begins, ledEntries, along, entries}
-use Rattle.documents.specs.Message.{itemsIn, gathered}
+use Rattle.documents.specs.Holds.{itemsIn, gathered}
 
 pub gathered-append : (f : Kind → List ℕ → List ℕ) (a b : List Entry) → gathered f (a ++ b) ≡ gathered f a ++ gathered f b
 gathered-append f [] b = refl

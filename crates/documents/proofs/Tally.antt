@@ -21,7 +21,7 @@ use Rattle.notes.specs.Reading.{Reading, on, stop, moved}
 use Rattle.notes.specs.Noting.{plainGiven, onGiven, onCode, withCount, withTotal, withCents, withService, withItem, withStart, begun, summedUp, served, coded, judgedBy, noted}
 use Rattle.documents.specs.Document.{Each}
 use Rattle.documents.specs.Entries.{Entry, item, value, says}
-use Rattle.documents.specs.Message.{Passes, Listed, OfKind, Kept, itemsIn, gathered, ofCount, ofTotal, ofAmount, ofService, sum}
+use Rattle.documents.specs.Holds.{Passes, Listed, OfKind, Kept, itemsIn, gathered, ofCount, ofTotal, ofAmount, ofService, sum}
 use Rattle.documents.proofs.Sound.{never, same-on, through}
 
 -- the last of a list, or what was there before

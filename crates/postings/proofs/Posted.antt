@@ -26,7 +26,8 @@ use Rattle.records.specs.Order.{InOrder, nothing, next}
 use Rattle.records.proofs.Order.{accepted-written}
 use Rattle.documents.specs.Document.{Led, Doc, texts, text, Each, LedBy, Proper}
 use Rattle.documents.specs.Entries.{Entry, item, value, entries, says}
-use Rattle.documents.specs.Message.{whole, Lawful, told, gathered, ofAmount, sum, Holds}
+use Rattle.documents.specs.Message.{whole, Lawful, told}
+use Rattle.documents.specs.Holds.{gathered, ofAmount, sum, Holds}
 use Rattle.documents.specs.Bulk.{inItem, tree, Bulk, message}
 use Rattle.documents.proofs.Texts.{past}
 use Rattle.documents.proofs.Sound.{same-on, Through, through}

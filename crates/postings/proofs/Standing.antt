@@ -15,7 +15,7 @@ use Rattle.profile.specs.Tags.{inValue, endTag, plainTag}
 use Rattle.reader.specs.Reader.{valueAt}
 use Rattle.documents.specs.Document.{Doc, opening, ledText, texts, text, Each, Tagless, LedBy, Proper}
 use Rattle.documents.specs.Entries.{Entry, item, value, begins, ledEntries, along, entries}
-use Rattle.documents.specs.Message.{gathered}
+use Rattle.documents.specs.Holds.{gathered}
 use Rattle.documents.proofs.Each.{each-both}
 use Rattle.documents.proofs.Texts.{lead-before, past}
 use Rattle.postings.specs.Posting.{valueFor}

@@ -22,7 +22,7 @@ use Rattle.notes.specs.declared.State.{State}
 use Rattle.notes.specs.Reading.{on, stop, moved}
 use Rattle.notes.specs.Noting.{plainGiven, onCode, withCount, withTotal, withCents, withService, withItem, withStart, started, begun, summedUp, served, coded, judgedBy, noted}
 use Rattle.documents.specs.Entries.{Entry, item, value, says}
-use Rattle.documents.specs.Message.{gathered, ofAmount}
+use Rattle.documents.specs.Holds.{gathered, ofAmount}
 use Rattle.documents.proofs.Sound.{never, same-on, Through, through}
 use Rattle.documents.proofs.Tally.{lastly, lastly-append, given-on, begun-item}
 

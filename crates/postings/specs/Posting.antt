@@ -6,7 +6,7 @@ use Rattle.text.specs.Truth.{pick}
 use Rattle.records.specs.Record.{recordWith}
 use Rattle.documents.specs.Document.{Led, Doc}
 use Rattle.documents.specs.Entries.{Entry, item, value, entries}
-use Rattle.documents.specs.Message.{gathered, ofAmount, sum}
+use Rattle.documents.specs.Holds.{gathered, ofAmount, sum}
 use Rattle.documents.specs.Bulk.{inItem}
 
 -- the value that the profile notes for the record at place i of those copied (the last one, or else v)

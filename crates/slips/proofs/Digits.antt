@@ -20,7 +20,8 @@ use Rattle.judge.specs.Verdict.{Judged, accepted, refused}
 use Rattle.judge.specs.Message.{judged}
 use Rattle.documents.specs.Document.{Tagless, text}
 use Rattle.documents.specs.Entries.{Entry, value}
-use Rattle.documents.specs.Message.{Message, head, whole, Lawful, told, Holds}
+use Rattle.documents.specs.Message.{Message, head, whole, Lawful, told}
+use Rattle.documents.specs.Holds.{Holds}
 use Rattle.documents.proofs.Exactly.{document-accepted}
 use Rattle.slips.specs.Slip.{Watched, Slip, replaced, exchanged, Refusal, Stands}
 use Rattle.slips.proofs.Values.{slip-never}

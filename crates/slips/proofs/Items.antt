@@ -13,7 +13,8 @@ use Rattle.judge.specs.Verdict.{accepted, lies}
 use Rattle.judge.specs.Message.{judged}
 use Rattle.judge.specs.Items.{item}
 use Rattle.documents.specs.Document.{Led, Doc, texts, text, Each, White, LedBy, Proper}
-use Rattle.documents.specs.Message.{whole, Lawful, told, Holds}
+use Rattle.documents.specs.Message.{whole, Lawful, told}
+use Rattle.documents.specs.Holds.{Holds}
 use Rattle.documents.specs.Bulk.{inItem, tree, Bulk, message, withItems}
 use Rattle.documents.proofs.Each.{each-both, each-first, each-rest}
 use Rattle.documents.proofs.Bulks.{itemText, accepted-bulk, same-number}

@@ -23,7 +23,7 @@ use Rattle.profile.specs.declared.Kind.the-variants.{Plain, Count, Total, Amoun
 use Rattle.profile.specs.declared.Judged.the-variants.{Reference, Nm, Ustrd, Date, Time, Bic, Iban, Identifier}
 use Rattle.notes.specs.Noting.{plainGiven}
 use Rattle.documents.specs.Entries.{Entry, item, value}
-use Rattle.documents.specs.Message.{Passes, OfKind, Kept, itemsIn, gathered, ofCount, ofTotal, ofAmount, sum, Holds}
+use Rattle.documents.specs.Holds.{Passes, OfKind, Kept, itemsIn, gathered, ofCount, ofTotal, ofAmount, sum, Holds}
 use Rattle.documents.proofs.Each.{each-rest}
 use Rattle.documents.proofs.Tally.{sum-append}
 use Rattle.documents.proofs.Often.{gathered-append}
