@@ -21,7 +21,7 @@ use Rattle.judge.specs.Verdict.{accepted}
 use Rattle.judge.specs.Message.{judged}
 use Rattle.documents.specs.Document.{Led, Doc, ledText, text, Each, LedBy, Proper}
 use Rattle.documents.specs.Entries.{Entry, ledEntries, along, entries, says}
-use Rattle.documents.specs.Sure.{sure}
+use Rattle.documents.proofs.Sure.{sure}
 use Rattle.documents.specs.Message.{Message, head, whole, Lawful, told, weighed}
 use Rattle.documents.specs.Holds.{itemsIn, gathered, ofCount, Holds, Profiled}
 use Rattle.documents.specs.Bulk.{inHeader, inItem, tree, Bulk, message, withItems}

@@ -15,15 +15,16 @@ use Rattle.profile.specs.declared.Kind.{Kind}
 use Rattle.profile.specs.declared.Look.the-variants.{Other}
 use Rattle.profile.specs.Tree.{Occ, once, optional, many, more, Shape, end, leaf, group}
 use Rattle.profile.specs.Tags.{inValue, look, exactly, endTag, plainTag, amountTag, isAmount, startTag}
-use Rattle.profile.proofs.Looks.{exactly-length}
+use Rattle.profile.proofs.Looks.{exactly-length, look-text, isOther, other-before}
 use Rattle.notes.specs.declared.State.{State}
 use Rattle.notes.specs.Reading.{Reading, on, andThen, moved}
 use Rattle.notes.specs.Noting.{noted}
 use Rattle.reader.specs.Reader.{skipped, closed, inEuro, priced, counted, valued, follow, leafBody, groupBody, read}
 use Rattle.documents.specs.Document.{Led, Doc, opening, ledText, texts, text, Often, Each, White, Tagless, LedBy, Proper}
 use Rattle.documents.specs.Entries.{Entry, value, begins, entries, says, noting}
-use Rattle.documents.specs.Sure.{differs, unlessOnce, unlessDue, apart, sure}
-use Rattle.documents.proofs.Texts.{lead-before, past, look-text, look-differs, look-opening, opening-length, Starts, opening-starts}
+use Rattle.documents.proofs.Sure.{unlessOnce, unlessDue, apart, sure}
+use Rattle.documents.proofs.Texts.{past, look-opening, opening-length, Starts, opening-starts}
+use Rattle.text.proofs.Scan.{lead-before}
 use Rattle.documents.proofs.Noted.{then-same, then-then, says-append, noting-moved, counted-begins}
 use Rattle.documents.proofs.Rows.{skip-to, skipped-twice, turn-skipped, Tells, Passing, row-tells}
 
@@ -142,19 +143,19 @@ module _ (m : List ℕ) where
           ∙ ap (λ (w : ℕ). noting (es q) w u) (omega (arith, length-append (plainTag n) t))
 
   -- ---- a tag that is none of those that may come first is not there
-  not-there : (tag : List (ℕ → Bool)) (w u s : List ℕ) → White w → Starts (u ++ s) → differs tag u ≡ true → (st : State) → drop (st .at) m ≡ w ++ (u ++ s)
+  not-there : (tag : List (ℕ → Bool)) (w u s : List ℕ) → White w → Starts (u ++ s) → isOther (look tag u) ≡ true → (st : State) → drop (st .at) m ≡ w ++ (u ++ s)
       → look tag (drop (skipped m st .at) m) ≡ Other
   not-there tag w u s h b d st e =
       ap (λ (x : State). look tag (drop (x .at) m)) (skip-to m st w (u ++ s) h b e)
       ∙ ap (look tag) (past m w (u ++ s) (st .at) e)
-      ∙ look-differs tag u s d
+      ∙ other-before tag u s d
 
   -- the first element of a row, or what comes after an empty one
   first-differs : {A : Type 0} (tag : List (ℕ → Bool)) (o : Occ) (tb : List ℕ) (f : A → List ℕ) (P : A → Type 0) (c : Bool) (l : List (Led A)) (rt : List ℕ)
-      → ((s : List ℕ) → Starts (tb ++ s)) → both (differs tag tb) (unlessDue o c) ≡ true → Often o (length l) → Each (LedBy P) l
+      → ((s : List ℕ) → Starts (tb ++ s)) → both (isOther (look tag tb)) (unlessDue o c) ≡ true → Often o (length l) → Each (LedBy P) l
       → (c ≡ true → (st : State) (s : List ℕ) → drop (st .at) m ≡ rt ++ s → look tag (drop (skipped m st .at) m) ≡ Other)
       → (st : State) (s : List ℕ) → drop (st .at) m ≡ (texts (ledText tb f) l ++ rt) ++ s → look tag (drop (skipped m st .at) m) ≡ Other
-  first-differs tag o tb f P c [] rt b d h pr k st s e = k (due o h (both-true (differs tag tb) (unlessDue o c) d .1)) st s e
+  first-differs tag o tb f P c [] rt b d h pr k st s e = k (due o h (both-true (isOther (look tag tb)) (unlessDue o c) d .1)) st s e
     where
       due : (o : Occ) → Often o 0 → unlessDue o c ≡ true → c ≡ true
       due once h z = absurd (let y : ⊥ = omega arith in y)
@@ -163,7 +164,7 @@ module _ (m : List ℕ) where
       due more h z = z
   first-differs tag o tb f P c (x ∷ l) rt b d h pr k st s e =
       not-there tag (x .blank) tb (f (x .held) ++ (texts (ledText tb f) l ++ (rt ++ s))) (pr .0 .0) (b (f (x .held) ++ (texts (ledText tb f) l ++ (rt ++ s))))
-      (both-true (differs tag tb) (unlessDue o c) d .0) st (e ∙ simp append-assoc)
+      (both-true (isOther (look tag tb)) (unlessDue o c) d .0) st (e ∙ simp append-assoc)
 
   pub apart-other : (tag : List (ℕ → Bool)) (sh : Shape) → apart tag sh ≡ true → (d : Doc sh) → Proper sh d → (st : State) (s : List ℕ) → drop (st .at) m ≡ text sh d ++ s
       → look tag (drop (skipped m st .at) m) ≡ Other

@@ -29,8 +29,10 @@ use Rattle.judge.specs.Message.{further, declared, rooted, opened, compared, fi
 use Rattle.documents.specs.Document.{White, text}
 use Rattle.documents.specs.Message.{Message, head, whole, Lawful, told, weighed}
 use Rattle.documents.specs.Entries.{says, noting}
-use Rattle.documents.specs.Sure.{sure}
-use Rattle.documents.proofs.Texts.{lead-before, past, whole-text}
+use Rattle.documents.proofs.Sure.{sure}
+use Rattle.documents.proofs.Texts.{past}
+use Rattle.text.proofs.Scan.{lead-before}
+use Rattle.profile.proofs.Looks.{whole-text}
 use Rattle.documents.proofs.Noted.{noting-moved}
 use Rattle.documents.proofs.Complete.{read-tells}
 use Rattle.documents.proofs.Sound.{never, space, space-text, space-white, read-found}

@@ -25,7 +25,7 @@ use Rattle.items.proofs.Walk.{skip-twice}
 use Rattle.items.proofs.Accepted.{accepted-chain}
 use Rattle.documents.specs.Document.{Led, Doc, texts, text, Each, LedBy, Proper}
 use Rattle.documents.specs.Entries.{Entry, item, value, begins, along, entries, says, noting}
-use Rattle.documents.specs.Sure.{sure}
+use Rattle.documents.proofs.Sure.{sure}
 use Rattle.documents.specs.Message.{Message, head, whole, Lawful, told, weighed}
 use Rattle.documents.specs.Holds.{itemsIn, Holds}
 use Rattle.documents.specs.Bulk.{inHeader, inItem, tree, Bulk, message}

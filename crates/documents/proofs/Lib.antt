@@ -1,4 +1,5 @@
 pub mod Each
+pub mod Sure
 pub mod Texts
 pub mod Noted
 pub mod Rows

@@ -17,7 +17,8 @@ use Rattle.reader.specs.Reader.{skipped, tagged, chosen, turn, again, follow}
 use Rattle.items.proofs.Walk.{skip-twice}
 use Rattle.documents.specs.Document.{Led, White, ledText, texts, Often, Each, LedBy}
 use Rattle.documents.specs.Entries.{Entry, begins, ledEntries, along, noting}
-use Rattle.documents.proofs.Texts.{lead-before, past, Starts}
+use Rattle.documents.proofs.Texts.{past, Starts}
+use Rattle.text.proofs.Scan.{lead-before}
 use Rattle.documents.proofs.Noted.{noting-moved, noting-then, noting-on}
 
 -- an element that need not come where it is looked for, or not again

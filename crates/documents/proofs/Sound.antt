@@ -19,7 +19,7 @@ use Rattle.profile.specs.declared.Look.{Look}
 use Rattle.profile.specs.declared.Look.the-variants.{Whole, Cut, Other}
 use Rattle.profile.specs.Tree.{Occ, once, optional, many, more, Shape, end, leaf, group}
 use Rattle.profile.specs.Tags.{white, inValue, look, exactly, currency, endTag, plainTag, amountTag, isAmount, startTag}
-use Rattle.profile.proofs.Looks.{exactly-length, look-append, andThen as lookThen}
+use Rattle.profile.proofs.Looks.{exactly-length, whole-text, look-append, andThen as lookThen}
 use Rattle.notes.specs.declared.State.{State}
 use Rattle.notes.specs.Reading.{Reading, on, stop, andThen, moved}
 use Rattle.notes.specs.Noting.{noted}
@@ -28,7 +28,6 @@ use Rattle.reader.specs.declared.Choice.the-variants.{Enter, Pass, Stop}
 use Rattle.reader.specs.Reader.{onLook, missing, skipped, closed, tagged, inEuro, priced, counted, entered, valueAt, behindValue, valued, chosen, turn, again, follow, leafBody, groupBody, read}
 use Rattle.items.proofs.Along.{enter-whole}
 use Rattle.documents.specs.Document.{Led, Doc, opening, ledText, texts, text, Often, Each, White, Tagless, LedBy, Proper}
-use Rattle.documents.proofs.Texts.{whole-text}
 use Rattle.documents.proofs.Complete.{read-skips}
 
 pub never : {A : Type 0} → _≡_ {A = ℕ} 0 1 → A

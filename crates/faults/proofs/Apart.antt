@@ -14,7 +14,7 @@ use Rattle.profile.specs.declared.Look.the-variants.{Cut, Other}
 use Rattle.profile.specs.Tree.{Shape}
 use Rattle.profile.specs.Tags.{white, look}
 use Rattle.reader.specs.Reader.{read}
-use Rattle.documents.specs.Sure.{apart}
+use Rattle.documents.proofs.Sure.{apart}
 use Rattle.documents.proofs.Complete.{apart-other}
 use Rattle.documents.proofs.Sound.{never, read-found}
 use Rattle.faults.proofs.Crops.{Apart}

@@ -25,7 +25,7 @@ use Rattle.judge.specs.Message.{further, declared, rooted, opened, readFrom, re
 use Rattle.faults.proofs.Parts.{Part, itself}
 use Rattle.faults.proofs.Told.{opening, order, In}
 use Rattle.faults.proofs.Crops.{Cropped, weaken, Reads, Crops, Bodies, fixed, then-crop, fixed-crop, fixed-crops, entered-crop, valued-crops, child-crops, Apart}
-use Rattle.documents.specs.Sure.{unlessOnce, apart, sure}
+use Rattle.documents.proofs.Sure.{unlessOnce, apart, sure}
 use Rattle.documents.proofs.Complete.{asked-for}
 use Rattle.documents.proofs.Ends.{profile-sure}
 use Rattle.faults.proofs.Apart.{tag-apart}

@@ -2,11 +2,9 @@
 use mathlib.Core.Path.{_≡_, refl}
 use mathlib.Core.Bool.{Bool, true, false}
 use mathlib.Core.Logic.{_⊎_, inl, inr}
-use mathlib.Core.List.{List, [], _∷_, _++_}
+use mathlib.Core.List.{List, _++_}
 use Prim.Native.Nat.{ℕ}
 use Prim.Native.String.{String}
-use native.Mathlib.Omega.{arith}
-use borrow.Author.Tests.{eq-eqb}
 use lib.ListN.{drop}
 use Rattle.text.specs.Truth.{both, pick}
 use Rattle.text.specs.Quoted.{among}
@@ -18,44 +16,24 @@ use Rattle.profile.specs.declared.Kind.{Kind}
 use Rattle.profile.specs.declared.Kind.the-variants.{Plain}
 use Rattle.profile.specs.declared.Judged.{Judged}
 use Rattle.profile.specs.declared.Judged.the-variants.{Nm as aNm, Ustrd as anUstrd}
-use Rattle.profile.specs.declared.Look.{Look}
-use Rattle.profile.specs.declared.Look.the-variants.{Whole, Cut, Other}
+use Rattle.profile.specs.declared.Look.the-variants.{Other}
 use Rattle.profile.specs.Tree.{Occ, once, Shape, end, leaf, group}
 use Rattle.profile.specs.Profile.{profile}
+use Rattle.profile.proofs.Looks.{isOther, other-before}
 use Rattle.profile.specs.Tags.{look, exactly, endTag, plainTag, startTag}
 use Rattle.items.proofs.Along.{Each}
 use Rattle.names.specs.Named.{nameOf}
 use Rattle.names.proofs.Alike.{shut}
 
--- other bytes stand there
-abbrev other : Look → Bool
-other Whole = false
-other Cut = false
-other Other = true
-
 -- `<` passes no test of the tag but the first, and the tag differs from the field's start tag within both
 unfoldable pub clear : Field → List (ℕ → Bool) → Bool
-clear f tag = both (shut (drop 1 tag)) (other (look tag (plainTag (nameOf f))))
-
--- such a difference is seen whatever follows; and so is a text that lies there whole
-other-here : (t : List (ℕ → Bool)) (s z : List ℕ) → other (look t s) ≡ true → look t (s ++ z) ≡ Other
-other-here [] s z e = absurd (let n : _≡_ {A = ℕ} 0 1 = cc in omega arith)
-other-here (f ∷ t) [] z e = absurd (let n : _≡_ {A = ℕ} 0 1 = cc in omega arith)
-other-here (f ∷ t) (c ∷ s) z e = go (f c) e (other-here t s z)
-  where
-    go : (b : Bool) → other (pick b (look t s) Other) ≡ true → (other (look t s) ≡ true → look t (s ++ z) ≡ Other) → pick b (look t (s ++ z)) Other ≡ Other
-    go true h k = k h
-    go false h k = refl
-
-pub whole-here : (t z : List ℕ) → look (exactly t) (t ++ z) ≡ Whole
-whole-here [] z = refl
-whole-here (d ∷ t) z = rw (eq-eqb d d refl) (whole-here t z)
+clear f tag = both (shut (drop 1 tag)) (isOther (look tag (plainTag (nameOf f))))
 
 pub clear-tells : (f : Field) (tag : List (ℕ → Bool)) → clear f tag ≡ true → (shut (drop 1 tag) ≡ true) × ((z : List ℕ) → look tag (plainTag (nameOf f) ++ z) ≡ Other)
 unfolding clear
 clear-tells f tag e =
-    let h = both-true (shut (drop 1 tag)) (other (look tag (plainTag (nameOf f)))) e in
-    (h .0, λ z. other-here tag (plainTag (nameOf f)) z (h .1))
+    let h = both-true (shut (drop 1 tag)) (isOther (look tag (plainTag (nameOf f)))) e in
+    (h .0, λ z. other-before tag (plainTag (nameOf f)) z (h .1))
 
 abbrev pub judgedOf : Field → Judged
 judgedOf Nm = aNm

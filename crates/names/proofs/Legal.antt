@@ -12,6 +12,7 @@ use Rattle.text.specs.Truth.{allOf, every, lead, between, first}
 use Rattle.text.specs.Quoted.{byte, among}
 use Rattle.text.specs.Classes.{referenceSet, textSet}
 use Rattle.text.proofs.Truths.{both-true, passes}
+use Rattle.text.proofs.Scan.{lead-before}
 use Rattle.answers.specs.Given.{yes, inOrder, _else_}
 use Rattle.words.specs.declared.Field.{Field}
 use Rattle.words.specs.declared.Field.the-variants.{Nm, Ustrd}
@@ -51,11 +52,11 @@ in-value c h = go (eqb c 60) refl
         absurd (let y : _≡_ {A = ℕ} 0 1 = cc (no-bracket) in omega arith)
     go false e = refl
 
-upto-bracket : (v z : List ℕ) → every textSet v ≡ true → lead inValue (v ++ (60 ∷ z)) ≡ length v
-upto-bracket [] z e = refl
-upto-bracket (c ∷ v) z e =
+in-values : (v : List ℕ) → every textSet v ≡ true → every inValue v ≡ true
+in-values [] e = refl
+in-values (c ∷ v) e =
     let h = both-true (textSet c) (every textSet v) e in
-    rw (in-value c (h .0)) (ap suc (upto-bracket v z (h .1)))
+    rw (in-value c (h .0)) (in-values v (h .1))
 
 plain-given : (f : Field) (v : List ℕ) → plainGiven (judgedOf f) v ≡ textGiven f v
 unfolding plainGiven
@@ -77,7 +78,7 @@ module _ (f : Field) (v z m : List ℕ) (legal : textGiven f v ≡ yes) (s : Sta
   rest-here = sym (drop-drop (length v) start m) ∙ ap (drop (length v)) value-here ∙ drop-at v (60 ∷ z) (length v) refl
 
   value-is : lead inValue (drop start m) ≡ length v
-  value-is = ap (lead inValue) value-here ∙ upto-bracket v z (legal-set f v legal)
+  value-is = ap (lead inValue) value-here ∙ lead-before inValue v 60 z (in-values v (legal-set f v legal)) refl
 
   given-is : valueAt m start ≡ v
   given-is = rw (value-is, value-here) (take-append-seam v (60 ∷ z))

@@ -27,9 +27,10 @@ use Rattle.notes.specs.Noting.{noted}
 use Rattle.reader.specs.Reader.{onLook, skipped, closed, counted, inEuro, priced, entered, valueAt, behindValue, valued, leafBody, groupBody, read, itemHere}
 use Rattle.items.proofs.Along.{Each, Steps, turn-along, group-along, read-along}
 use Rattle.items.proofs.Walk.{Ends}
+use Rattle.profile.proofs.Looks.{look-text}
 use Rattle.names.specs.Named.{nameOf}
 use Rattle.names.proofs.Alike.{Alike, level, Onward, cut-same, lead-alike, tag-alike}
-use Rattle.names.proofs.Apart.{clear, clear-tells, whole-here, own-shut, judgedOf, Own, Apart, profile-apart}
+use Rattle.names.proofs.Apart.{clear, clear-tells, own-shut, judgedOf, Own, Apart, profile-apart}
 use Rattle.names.proofs.Places.{Held, pick-held, counted-held, noted-held}
 use Rattle.names.proofs.Legal.{rest-here, legal-leaf}
 
@@ -225,7 +226,7 @@ module _ (m m′ : List ℕ) (S : Swapped m m′) where
       seen : (look tag (drop (s .at) m) ≡ look tag (drop (s .at) m′))
           × (look tag (drop (s .at) m) ≡ Whole → On (s .at) (length tag) ⊎ ((drop (s .at) m ≡ 60 ∷ a) × (drop (s .at) m′ ≡ 60 ∷ b)))
       seen =
-          tag-alike a b tag (own-shut f) (whole-here (plainTag (nameOf f)) (v ++ (60 ∷ z)) ∙ sym (whole-here (plainTag (nameOf f)) (v′ ++ (60 ∷ z)))) (h .0)
+          tag-alike a b tag (own-shut f) (look-text (plainTag (nameOf f)) (v ++ (60 ∷ z)) ∙ sym (look-text (plainTag (nameOf f)) (v′ ++ (60 ∷ z)))) (h .0)
 
       go : On (s .at) (length tag) ⊎ ((drop (s .at) m ≡ 60 ∷ a) × (drop (s .at) m′ ≡ 60 ∷ b))
           → Same (leafBody once (nameOf f) (Plain (judgedOf f)) 10 m s) (leafBody once (nameOf f) (Plain (judgedOf f)) 10 m′ s)

@@ -17,7 +17,8 @@ use Rattle.documents.specs.Document.{Doc, opening, ledText, texts, text, Each, 
 use Rattle.documents.specs.Entries.{Entry, item, value, begins, ledEntries, along, entries}
 use Rattle.documents.specs.Holds.{gathered}
 use Rattle.documents.proofs.Each.{each-both}
-use Rattle.documents.proofs.Texts.{lead-before, past}
+use Rattle.documents.proofs.Texts.{past}
+use Rattle.text.proofs.Scan.{lead-before}
 use Rattle.postings.specs.Posting.{valueFor}
 use Rattle.postings.proofs.Starts.{placeFor}
 

@@ -5,6 +5,8 @@ use mathlib.Core.List.{List, [], _∷_, _++_}
 use Prim.Native.Nat.{ℕ, zero, suc, _+_, _≤_, _<_}
 use native.Mathlib.Numerals.{add-one}
 use native.Mathlib.Omega.{arith}
+use borrow.Author.Tests.{eq-eqb, eqb-true}
+use lib.Dec.{eqb}
 use lib.ListN.{length, drop, getD, drop-of-length-le}
 use lib.Seq.{drop-cons}
 use Rattle.text.specs.Truth.{pick, part}
@@ -53,6 +55,36 @@ look-fits (f ∷ t) (c ∷ s) e = go (f c) e (look-fits t s)
 
 pub text-fits : (t s : List ℕ) → look (exactly t) s ≡ Whole → length t ≤ length s
 text-fits t s e = omega (arith, exactly-length t, look-fits (exactly t) s e)
+
+-- ---- a text lies whole before anything, and what lies whole is the text
+pub look-text : (t s : List ℕ) → look (exactly t) (t ++ s) ≡ Whole
+look-text [] s = refl
+look-text (c ∷ t) s = rw (eq-eqb c c refl) (look-text t s)
+
+pub whole-text : (t s : List ℕ) → look (exactly t) s ≡ Whole → s ≡ t ++ drop (length t) s
+whole-text [] s e = refl
+whole-text (d ∷ t) [] e = absurd (let z : _≡_ {A = ℕ} 0 1 = cc in omega arith)
+whole-text (d ∷ t) (c ∷ s) e = go (eqb c d) refl e (whole-text t s)
+  where
+    go : (b : Bool) → eqb c d ≡ b → pick b (look (exactly t) s) Other ≡ Whole → (look (exactly t) s ≡ Whole → s ≡ t ++ drop (length t) s)
+        → c ∷ s ≡ d ∷ t ++ drop (length t) s
+    go true q e k = let z : c ≡ d = eqb-true c d q in let y : s ≡ t ++ drop (length t) s = k e in cc
+    go false q e k = absurd (let z : _≡_ {A = ℕ} 0 1 = cc in omega arith)
+
+-- ---- what differs within a text differs before anything
+abbrev pub isOther : Look → Bool
+isOther Whole = false
+isOther Cut = false
+isOther Other = true
+
+pub other-before : (t : List (ℕ → Bool)) (s z : List ℕ) → isOther (look t s) ≡ true → look t (s ++ z) ≡ Other
+other-before [] s z e = absurd (let n : _≡_ {A = ℕ} 0 1 = cc in omega arith)
+other-before (f ∷ t) [] z e = absurd (let n : _≡_ {A = ℕ} 0 1 = cc in omega arith)
+other-before (f ∷ t) (c ∷ s) z e = go (f c) e (other-before t s z)
+  where
+    go : (b : Bool) → isOther (pick b (look t s) Other) ≡ true → (isOther (look t s) ≡ true → look t (s ++ z) ≡ Other) → pick b (look t (s ++ z)) Other ≡ Other
+    go true h k = k h
+    go false h k = refl
 
 -- ---- how tests lie behind others
 abbrev pub andThen : Look → Look → Look

@@ -1,12 +1,11 @@
 -- "Indented order, 1 each unless marked. A slash means a group with that one child." (▹ is the slash.)
 use Prim.Native.Nat.{ℕ}
-use Prim.Native.String.{String}
 use mathlib.Core.List.{List, [], _∷_}
 use Rattle.codes.specs.declared.Element.the-variants.{SttlmMtd, SvcLvl, LclInstrm, SeqTp, ChrgBr, Prtry}
 use Rattle.profile.specs.declared.Kind.{Kind}
 use Rattle.profile.specs.declared.Kind.the-variants.{Plain, Count, Total, Amount, Code}
 use Rattle.profile.specs.declared.Judged.the-variants.{Reference, Nm, Ustrd, Date, Time, Bic, Iban, Identifier}
-use Rattle.profile.specs.Tree.{Shape, end, Child, Value, children, _is_, _mayBe_, _holds_, _mayHold_, _repeats_, _▹_}
+use Rattle.profile.specs.Tree.{Shape, end, Child, Value, _is_, _mayBe_, _holds_, _mayHold_, _repeats_, _▹_}
 
 -- a value of a kind; and one whose start is noted for the record, at its field's place among those that are copied
 abbrev a : Kind → Value

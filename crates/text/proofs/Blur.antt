@@ -1,10 +1,10 @@
 -- A text with every digit blurred to a zero: what a form asks goes by where digits stand, and not by which. Assumes nothing.
-use mathlib.Core.Path.{_≡_, refl, ap, sym, _∙_}
+use mathlib.Core.Path.{_≡_, refl, sym, _∙_}
 use mathlib.Core.Bool.{Bool, true, false}
 use mathlib.Core.List.{List, [], _∷_, _++_, map, map-append}
 use Prim.Native.Nat.{ℕ, zero, suc}
-use lib.ListN.{length, take, drop, getD, length-map}
-use Rattle.text.specs.Truth.{both, either, pick, every, some, lead}
+use lib.ListN.{length, take, drop, length-map}
+use Rattle.text.specs.Truth.{pick, every, some, lead}
 use Rattle.text.specs.Quoted.{byte, among}
 use Rattle.text.specs.Classes.{digit}
 

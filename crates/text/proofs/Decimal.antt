@@ -6,13 +6,12 @@ use mathlib.Core.List.{List, [], _∷_, _++_}
 use Prim.Native.Nat.{ℕ, zero, suc, _+_, _-_, _*_, _^_, _<_, _≤_}
 use native.Mathlib.Nat.{pow-suc, mul-le-mul-right}
 use native.Mathlib.Omega.{arith}
-use lib.ListN.{length, drop, getD, drop-of-length-le}
+use lib.ListN.{length}
 use Rattle.text.specs.Quoted.{onward, decimal}
 use Rattle.text.specs.Truth.{every}
 use Rattle.text.specs.Classes.{digit}
 use Rattle.text.proofs.Truths.{both-true}
 use Rattle.text.proofs.Digits.{digit-bounds}
-use Rattle.text.proofs.Scan.{next}
 
 pub onward-append : (n : ℕ) (s t : List ℕ) → onward n (s ++ t) ≡ onward (onward n s) t
 onward-append n [] t = refl
@@ -33,14 +32,6 @@ linear n (c ∷ s) =
 pub decimal-onward : (s : List ℕ) → decimal s ≡ onward 0 s
 unfolding decimal
 decimal-onward s = refl
-
--- ---- how a loop reads it
-module _ (n : ℕ) (s : List ℕ) (i : ℕ) where
-  pub onward-next : i < length s → onward n (drop i s) ≡ onward (n * 10 + (getD s i 0 - 48)) (drop (i + 1) s)
-  onward-next h = rw (next s i h)
-
-  pub onward-end : length s ≤ i → onward n (drop i s) ≡ n
-  onward-end h = rw drop-of-length-le
 
 -- ---- how large it is
 pub grows : (n : ℕ) (s : List ℕ) → n ≤ onward n s

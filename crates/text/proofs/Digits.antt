@@ -1,12 +1,12 @@
 -- What a character's class says of its number, and of its other classes. Assumes nothing.
-use mathlib.Core.Path.{_≡_, refl}
-use mathlib.Core.Bool.{Bool, true, false}
+use mathlib.Core.Path.{_≡_}
+use mathlib.Core.Bool.{true, false}
 use Prim.Native.Nat.{ℕ, _≤_}
 use native.Mathlib.Omega.{arith}
 use borrow.Author.Tests.{lt-leb}
-use Rattle.text.specs.Truth.{both, either, between}
+use Rattle.text.specs.Truth.{between}
 use Rattle.text.specs.Quoted.{among}
-use Rattle.text.specs.Classes.{digit, capital, small, capitalOrDigit, letterOrDigit, referenceSet}
+use Rattle.text.specs.Classes.{digit, capital, small}
 use Rattle.text.proofs.Truths.{either-none, between-true}
 
 -- a class of one range is that range

@@ -1,5 +1,5 @@
 -- How a loop reads a list from a place on, whatever it asks of each byte. Assumes nothing.
-use mathlib.Core.Path.{_≡_, refl, ap, sym, _∙_}
+use mathlib.Core.Path.{_≡_, refl, ap, _∙_}
 use mathlib.Core.Bool.{Bool, true, false}
 use mathlib.Core.List.{List, [], _∷_, _++_}
 use Prim.Native.Nat.{ℕ, zero, suc, _+_, _-_, _≤_, _<_}
@@ -57,6 +57,13 @@ module _ (f : ℕ → Bool) where
       go : (b : Bool) → lead f s ≤ length s → pick b (suc (lead f s)) 0 ≤ suc (length s)
       go true h = omega arith
       go false h = omega arith
+
+  -- those that pass, before one that does not
+  pub lead-before : (w : List ℕ) (c : ℕ) (s : List ℕ) → every f w ≡ true → f c ≡ false → lead f (w ++ (c ∷ s)) ≡ length w
+  lead-before [] c s h e = rw e
+  lead-before (b ∷ w) c s h e =
+      let g : (f b ≡ true) × (every f w ≡ true) = both-true (f b) (every f w) h in
+      rw (g .0) (ap suc (lead-before w c s (g .1) e))
 
   pub lead-every : (s : List ℕ) → every f (take (lead f s) s) ≡ true
   lead-every [] = refl

@@ -3,13 +3,13 @@
 use mathlib.Core.Path.{_≡_, refl, sym, _∙_}
 use mathlib.Core.Bool.{Bool, true, false, not}
 use mathlib.Core.List.{List, [], _∷_}
-use Prim.Native.Nat.{ℕ, _<_, _≤_}
+use Prim.Native.Nat.{ℕ, _≤_}
 use Prim.Native.String.{String}
 use native.Mathlib.Decide.{decLt}
 use native.Mathlib.Omega.{arith}
 use borrow.Author.Tests.{ltb-true, le-ltb, lt-leb, ne-eqb}
 use lib.Dec.{T, ltb, eqb}
-use Rattle.text.specs.Truth.{both, either, pick, between, every}
+use Rattle.text.specs.Truth.{both, between, every}
 use Rattle.text.specs.Quoted.{bytes, entry, listed, among}
 use Rattle.text.specs.Classes.{referenceSet, textSet, holds, Names}
 use Rattle.text.specs.Below.{below, below-at, same, same-eq}

@@ -1,17 +1,12 @@
--- At each place of the profile one tag tells what comes: a tag that may be passed over differs from every tag that may come instead.
-use mathlib.Core.Bool.{Bool, true, false}
-use mathlib.Core.List.{List, [], _∷_}
+-- At each place of the profile one tag tells what comes: a tag that may be passed over differs, within both, from every tag that may come instead.
+use mathlib.Core.Bool.{Bool, true}
+use mathlib.Core.List.{List}
 use Prim.Native.Nat.{ℕ}
-use Rattle.text.specs.Truth.{both, pick}
+use Rattle.text.specs.Truth.{both}
 use Rattle.profile.specs.Tree.{Occ, once, optional, many, more, Shape, end, leaf, group}
-use Rattle.profile.specs.Tags.{exactly, endTag, plainTag, startTag}
+use Rattle.profile.specs.Tags.{look, exactly, endTag, plainTag, startTag}
+use Rattle.profile.proofs.Looks.{isOther}
 use Rattle.documents.specs.Document.{opening}
-
--- a text fails one of the tests, before either ends
-abbrev pub differs : List (ℕ → Bool) → List ℕ → Bool
-differs [] u = false
-differs (f ∷ t) [] = false
-differs (f ∷ t) (c ∷ u) = pick (f c) (differs t u) true
 
 -- an element that need not come, or that may come again, asks for more
 abbrev pub unlessOnce : Occ → Bool → Bool
@@ -28,9 +23,9 @@ unlessDue more b = b
 
 -- a tag is none of those that may come first
 abbrev pub apart : List (ℕ → Bool) → Shape → Bool
-apart t (end n) = differs t (endTag n)
-apart t (leaf o n k slot rest) = both (differs t (opening k n)) (unlessDue o (apart t rest))
-apart t (group o n inner rest) = both (differs t (plainTag n)) (unlessDue o (apart t rest))
+apart t (end n) = isOther (look t (endTag n))
+apart t (leaf o n k slot rest) = both (isOther (look t (opening k n))) (unlessDue o (apart t rest))
+apart t (group o n inner rest) = both (isOther (look t (plainTag n))) (unlessDue o (apart t rest))
 
 abbrev pub sure : Shape → Bool
 sure (end n) = true
