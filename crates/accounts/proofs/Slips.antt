@@ -4,21 +4,20 @@ use mathlib.Core.Path.{_≡_, refl, ap, sym, _∙_}
 use mathlib.Core.Bool.{Bool, true, false}
 use mathlib.Core.Logic.{_≢_, _⊎_, inl, inr, ⊎-elim}
 use mathlib.Core.List.{List, [], _∷_, _++_}
-use Prim.Native.Nat.{ℕ, zero, suc, _+_, _<_, _≤_}
+use Prim.Native.Nat.{ℕ, suc, _+_, _<_, _≤_}
 use native.Mathlib.Omega.{arith}
 use borrow.Author.Tests.{ne-eqb, eqb-true}
-use lib.ListN.{length, take, drop, set, length-append, length-drop}
+use lib.ListN.{length, take, drop, set, length-append}
 use lib.Seq.{length-take-le}
-use lib.Dec.{eqb}
-use Rattle.text.specs.Truth.{both, either, between, every, some, at, part}
-use Rattle.text.specs.Quoted.{among, byte}
+use Rattle.text.specs.Truth.{both, every, some, at, part}
+use Rattle.text.specs.Quoted.{among}
 use Rattle.text.specs.Classes.{digit, capital, capitalOrDigit, letterOrDigit, referenceSet}
 use Rattle.text.specs.Slips.{exchangedAt}
 use Rattle.text.proofs.Truths.{both-true, lt-or-ge}
 use Rattle.text.proofs.Digits.{digit-range, capital-range, small-range, digit-no-capital, digit-no-small}
 use Rattle.text.proofs.Blur.{blurred, Blind, blind, digit-blind, blurred-length, blurred-take, blurred-drop, every-blurred, some-blurred, replaced-blurred, exchanged-blurred}
 use Rattle.text.proofs.Positions.{replaced-at, exchanged-at}
-use Rattle.answers.specs.Given.{Given, yes, refused, inOrder, _else_}
+use Rattle.answers.specs.Given.{yes, refused, inOrder, _else_}
 use Rattle.answers.proofs.Rules.{at-first, past-first}
 use Rattle.check97.specs.Check.{leavesOne, inRange, ibanChecked, identifierChecked}
 use Rattle.check97.proofs.Told.{remains}

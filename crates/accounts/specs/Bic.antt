@@ -1,6 +1,6 @@
 -- "BIC: six capitals; one of `A-Z 2-9`; one of `A-N P-Z 0-9`; then nothing or three of `A-Z 0-9`."
 use Prim.Native.Nat.{ℕ}
-use mathlib.Core.Bool.{Bool, true, false}
+use mathlib.Core.Bool.{Bool}
 use mathlib.Core.List.{List, [], _∷_}
 use lib.ListN.{length, drop}
 use lib.Dec.{eqb}

@@ -1,6 +1,6 @@
 -- "IBAN: two capitals, two digits, then capitals or digits; 15 to 34 in all."
 use Prim.Native.Nat.{ℕ}
-use mathlib.Core.Bool.{Bool, true, false}
+use mathlib.Core.Bool.{Bool}
 use mathlib.Core.List.{List, [], _∷_}
 use lib.ListN.{length, drop}
 use Rattle.text.specs.Truth.{allOf, every, between}

@@ -1,6 +1,5 @@
 -- Two answers of one meaning are one: so two answers that one contract allows are equal. Assumes nothing.
 use mathlib.Core.Path.{_≡_, refl, ap, sym, _∙_}
-use Prim.Native.Nat.{ℕ, zero, suc}
 use mathlib.Core.Bool.{Bool, true, false}
 use lib.Dec.{eqb}
 use Rattle.answers.specs.declared.Answer.{Answer}

@@ -1,7 +1,7 @@
 -- What rules in their order give: the first that fails decides, and where all hold the answer stands. Assumes nothing.
 use mathlib.Core.Path.{_≡_}
 use mathlib.Core.Bool.{Bool, true, false}
-use mathlib.Core.List.{List, [], _∷_}
+use mathlib.Core.List.{List, _∷_}
 use Prim.Native.Nat.{ℕ}
 use Rattle.answers.specs.Given.{Given, refused, Rule, inOrder, _else_}
 

@@ -1,6 +1,6 @@
 -- "Date: `YYYY-MM-DD`, year 0001 to 9999, a real Gregorian day."
 use Prim.Native.Nat.{ℕ, _%_}
-use mathlib.Core.Bool.{Bool, true, false, not}
+use mathlib.Core.Bool.{Bool, not}
 use mathlib.Core.List.{List, [], _∷_}
 use lib.Dec.{eqb}
 use Rattle.text.specs.Truth.{both, either, pick, between, allOf, some, part}

@@ -1,7 +1,7 @@
 -- A value written as a pattern such as "YYYY-MM-DD": each letter of it stands for a digit, and any other character for itself.
 use Prim.Native.Nat.{ℕ}
 use Prim.Native.String.{String}
-use mathlib.Core.Bool.{Bool, true, false}
+use mathlib.Core.Bool.{Bool}
 use mathlib.Core.List.{List}
 use lib.Dec.{eqb}
 use Rattle.text.specs.Truth.{pick, paired}

@@ -1,6 +1,6 @@
 -- "Time (CreDtTm): date, `T`, `hh:mm:ss` (00-23, 00-59, 00-59), then optionally `.` and three digits, then nothing, `Z`, or a sign and `hh:mm` from 00:00 to 14:00."
 use Prim.Native.Nat.{ℕ, _+_, _*_}
-use mathlib.Core.Bool.{Bool, true, false}
+use mathlib.Core.Bool.{Bool}
 use mathlib.Core.List.{List, [], _∷_}
 use lib.ListN.{take, drop}
 use lib.Dec.{eqb, leb}

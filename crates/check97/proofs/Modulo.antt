@@ -1,6 +1,6 @@
 -- Ten is cancelled by 97: what the remainder tells of what stands before, and what it keeps of what stands behind. Assumes nothing.
-use mathlib.Core.Path.{_≡_, refl, ap, sym, _∙_}
-use mathlib.Core.List.{List, [], _∷_}
+use mathlib.Core.Path.{_≡_, ap, sym, _∙_}
+use mathlib.Core.List.{List}
 use Prim.Native.Nat.{ℕ, zero, suc, _+_, _-_, _*_, _^_, _%_, _/_, _<_, _≤_}
 use native.Mathlib.Nat.{add-mul-mod-self-left, pow-suc, mul-assoc, div-add-mod'}
 use native.Mathlib.Omega.{arith}

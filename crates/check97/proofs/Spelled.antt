@@ -2,15 +2,15 @@
 use mathlib.Core.Path.{_≡_, refl, ap, sym, _∙_}
 use mathlib.Core.Bool.{Bool, true, false}
 use mathlib.Core.List.{List, [], _∷_, _++_, append-assoc}
-use Prim.Native.Nat.{ℕ, zero, suc, _+_, _-_, _*_, _^_, _/_, _%_, _<_, _≤_}
+use Prim.Native.Nat.{ℕ, _+_, _-_, _*_, _^_, _<_, _≤_}
 use native.Mathlib.Omega.{arith}
 use lib.ListN.{length, length-append}
 use Rattle.text.specs.Truth.{pick, only, either, between}
-use Rattle.text.specs.Quoted.{onward, decimal, among}
+use Rattle.text.specs.Quoted.{onward, among}
 use Rattle.text.specs.Classes.{digit, capital, small, letterOrDigit}
 use Rattle.text.proofs.Truths.{between-true}
-use Rattle.text.proofs.Digits.{digit-range, capital-range, small-range, digit-no-capital, digit-no-small}
-use Rattle.text.proofs.Decimal.{onward-append, linear, decimal-onward}
+use Rattle.text.proofs.Digits.{digit-range, capital-range, small-range}
+use Rattle.text.proofs.Decimal.{linear, decimal-onward}
 use Rattle.check97.specs.Check.{twoDigits, spell, spelled, places, worth}
 
 pub spelled-append : (s t : List ℕ) → spelled (s ++ t) ≡ spelled s ++ spelled t

@@ -1,18 +1,16 @@
 -- The first four characters go to the end, and what stands from m on comes first: m is 4 for an IBAN, and 7 for an identifier.
 -- One character replaced, or two neighbours exchanged, of which one counts at least, also across the seam: the remainder changes.
 -- Stated once over m, for digits and letters at once. Assumes nothing.
-use mathlib.Core.Path.{_≡_, refl, ap, sym, subst, _∙_}
-use mathlib.Core.Bool.{Bool, true, false}
+use mathlib.Core.Path.{_≡_, ap, sym, _∙_}
+use mathlib.Core.Bool.{true}
 use mathlib.Core.Logic.{_≢_, _⊎_, inl, inr}
 use mathlib.Core.List.{List, [], _∷_, _++_, append-assoc}
-use Prim.Native.Nat.{ℕ, zero, suc, _+_, _-_, _*_, _%_, _<_, _≤_}
+use Prim.Native.Nat.{ℕ, suc, _+_, _-_, _%_, _<_, _≤_}
 use native.Mathlib.Decide.{decLt}
 use native.Mathlib.Omega.{arith}
 use lib.ListN.{length, take, drop, length-append}
 use lib.Seq.{take-append-le, drop-append-le, take-append-add, drop-append-add}
 use lib.Dec.{eqb}
-use Rattle.text.specs.Truth.{both}
-use Rattle.text.specs.Quoted.{onward, decimal}
 use Rattle.text.specs.Classes.{digit}
 use Rattle.text.proofs.Digits.{digit-bounds}
 use Rattle.text.proofs.Decimal.{decimal-onward}

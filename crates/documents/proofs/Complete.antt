@@ -29,10 +29,10 @@ use Rattle.documents.proofs.Noted.{then-same, then-then, says-append, n
 use Rattle.documents.proofs.Rows.{skip-to, skipped-twice, turn-skipped, Tells, Passing, row-tells}
 
 -- a name's start tag and end tag begin with `<`
-plain-starts : (n : String) (s : List ℕ) → Starts (plainTag n ++ s)
+pub plain-starts : (n : String) (s : List ℕ) → Starts (plainTag n ++ s)
 plain-starts n s = record { rest = (bytes n ++ bytes ">") ++ s; is = refl }
 
-end-starts : (n : String) (s : List ℕ) → Starts (endTag n ++ s)
+pub end-starts : (n : String) (s : List ℕ) → Starts (endTag n ++ s)
 end-starts n s = record { rest = 47 ∷ (bytes n ++ bytes ">") ++ s; is = refl }
 
 -- where an element may be passed over, its tag is known from what may come instead

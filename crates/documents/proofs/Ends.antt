@@ -43,7 +43,7 @@ not-first c [] e = rw e
 not-first c (d ∷ l) e = rw e
 
 -- white space and the root tag begin no declaration
-no-question : (w s : List ℕ) → White w → startsQuestion (w ++ (root ++ s)) ≡ false
+pub no-question : (w s : List ℕ) → White w → startsQuestion (w ++ (root ++ s)) ≡ false
 unfolding startsQuestion white
 no-question [] s h = refl
 no-question (c ∷ w) s h = go (eqb c 60) refl
@@ -58,7 +58,7 @@ no-question (c ∷ w) s h = go (eqb c 60) refl
         let y : some (eqb 60) (32 ∷ 9 ∷ 13 ∷ 10 ∷ []) ≡ true = rw z at head-white in
         never (cc)
 
-question : (t : List ℕ) → startsQuestion (declaration ++ t) ≡ true
+pub question : (t : List ℕ) → startsQuestion (declaration ++ t) ≡ true
 unfolding startsQuestion
 question t = refl
 

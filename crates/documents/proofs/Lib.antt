@@ -6,6 +6,7 @@ pub mod Rows
 pub mod Complete
 pub mod Sound
 pub mod Ends
+pub mod One
 pub mod Tally
 pub mod Often
 pub mod Exactly

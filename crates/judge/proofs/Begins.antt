@@ -1,6 +1,6 @@
 -- The beginning of a message, as the code reads it. Assumes nothing.
-use mathlib.Core.Path.{_≡_, refl, sym, ap, _∙_}
-use mathlib.Core.Bool.{Bool, true, false}
+use mathlib.Core.Path.{_≡_, sym, ap, _∙_}
+use mathlib.Core.Bool.{true, false}
 use mathlib.Core.List.{List}
 use Prim.Native.Nat.{ℕ, _+_, _-_, _≤_}
 use native.Mathlib.Omega.{arith}
@@ -12,12 +12,11 @@ use Rattle.profile.specs.declared.Look.{Look}
 use Rattle.profile.specs.declared.Look.the-variants.{Whole, Cut, Other}
 use Rattle.profile.specs.Tags.{white, look, exactly, startsQuestion, declaration, root}
 use Rattle.profile.proofs.Looks.{text-fits}
-use Rattle.notes.specs.Reading.{Reading, stop, Fine, moved}
-use Rattle.notes.specs.Noting.{fresh}
-use Rattle.reader.specs.Reader.{messageAt, read}
+use Rattle.notes.specs.Reading.{Reading, stop, Fine}
+use Rattle.reader.specs.Reader.{messageAt}
 use Rattle.judge.specs.declared.Opened.{Opened}
 use Rattle.judge.specs.declared.Opened.the-variants.{From, Faulty}
-use Rattle.judge.specs.Message.{declared, rooted, opened, readFrom, readThrough, Within}
+use Rattle.judge.specs.Message.{declared, rooted, opened, readThrough, Within}
 
 -- what is shown of an opening
 abbrev pub Opens : List ℕ → Opened → Opened → Type 0

@@ -1,9 +1,8 @@
 -- The end of a message, as the code reads it. Assumes nothing.
-use mathlib.Core.Path.{_≡_, refl, sym, ap, _∙_}
-use mathlib.Core.Bool.{Bool, true, false}
+use mathlib.Core.Path.{_≡_, sym, ap, _∙_}
+use mathlib.Core.Bool.{true, false}
 use mathlib.Core.List.{List}
 use Prim.Native.Nat.{ℕ, _+_, _-_, _≤_, _<_}
-use native.Mathlib.Omega.{arith}
 use borrow.Author.Tests.{lt-ltb, le-ltb}
 use lib.Dec.{eqb}
 use lib.ListN.{length, take, drop}
@@ -11,10 +10,10 @@ use Rattle.text.specs.Truth.{lead}
 use Rattle.text.proofs.Scan.{rest-of}
 use Rattle.profile.specs.Tags.{white}
 use Rattle.notes.specs.declared.State.{State}
-use Rattle.notes.specs.Reading.{Reading, on, stop, moved}
+use Rattle.notes.specs.Reading.{on, stop, moved}
 use Rattle.reader.specs.Reader.{skipped}
-use Rattle.judge.specs.Verdict.{Judged, accepted, refused}
-use Rattle.judge.specs.Message.{compared, finished, concluded, readThrough, judged}
+use Rattle.judge.specs.Verdict.{accepted, refused}
+use Rattle.judge.specs.Message.{compared, finished, readThrough, judged}
 
 module _ (st : State) where
   pub count-wrong : eqb (st .notes .nb) (st .notes .count) ≡ false → refused 14 (st .notes .nbat) ≡ compared st

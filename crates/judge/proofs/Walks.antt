@@ -1,6 +1,5 @@
 -- Where the first item begins, and the walk from one item to the next. Assumes nothing.
-use mathlib.Core.Path.{_≡_, refl, sym, ap, _∙_}
-use mathlib.Core.Bool.{Bool, true, false}
+use mathlib.Core.Path.{_≡_, refl, ap, _∙_}
 use mathlib.Core.List.{List}
 use Prim.Native.Nat.{ℕ, zero, suc, _+_, _-_, _≤_, _<_}
 use native.Mathlib.Omega.{arith}
@@ -14,9 +13,9 @@ use Rattle.notes.specs.Reading.{Reading, on, stop}
 use Rattle.reader.specs.Reader.{itemAt}
 use Rattle.judge.specs.declared.Verdict.{Verdict}
 use Rattle.judge.specs.declared.Verdict.the-variants.{Accepted, Refused}
-use Rattle.judge.specs.Verdict.{Judged, accepted, refused, meant, Located, lies, fault}
+use Rattle.judge.specs.Verdict.{meant, lies, fault}
 use Rattle.judge.specs.Message.{readThrough, judged}
-use Rattle.judge.specs.Items.{extent, behind, itemFrom, noted, firstItem, item}
+use Rattle.judge.specs.Items.{extent, behind, itemFrom, firstItem, item}
 
 -- ---- the first item
 module _ (m : List ℕ) where

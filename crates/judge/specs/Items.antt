@@ -1,12 +1,10 @@
 -- "An item lies from the `<` of its start tag to the `>` of its end tag." Which items there are comes from the same reading as the verdict.
 use Prim.Native.Nat.{ℕ, zero, suc, _+_}
-use mathlib.Core.Bool.{Bool, true, false}
 use mathlib.Core.List.{List}
 use lib.ListN.{length, drop}
 use lib.Dec.{ltb}
 use Rattle.text.specs.Truth.{pick, lead}
 use Rattle.profile.specs.Tags.{white}
-use Rattle.notes.specs.declared.State.{State}
 use Rattle.notes.specs.Reading.{Reading, on, stop}
 use Rattle.reader.specs.Reader.{itemAt}
 use Rattle.judge.specs.Verdict.{Judged, accepted, refused, Located, lies, fault}

@@ -1,6 +1,5 @@
 -- A whole message: its beginning, what stands inside its root, its end, and what its header says.
 use Prim.Native.Nat.{ℕ, _+_, _≤_}
-use mathlib.Core.Bool.{Bool, true, false}
 use mathlib.Core.List.{List}
 use lib.ListN.{length, drop}
 use lib.Dec.{eqb, ltb}

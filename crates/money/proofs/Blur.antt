@@ -2,12 +2,12 @@
 use mathlib.Core.Path.{_≡_, refl, ap, sym, _∙_}
 use mathlib.Core.Bool.{Bool, true, false}
 use mathlib.Core.List.{List, [], _∷_}
-use Prim.Native.Nat.{ℕ, zero}
+use Prim.Native.Nat.{ℕ}
 use native.Mathlib.Omega.{arith}
 use borrow.Author.Tests.{ne-eqb}
 use lib.ListN.{length, drop}
 use lib.Dec.{eqb}
-use Rattle.text.specs.Truth.{pick, every, lead}
+use Rattle.text.specs.Truth.{pick, lead}
 use Rattle.text.specs.Quoted.{byte, is}
 use Rattle.text.specs.Classes.{digit}
 use Rattle.text.proofs.Digits.{digit-bounds}

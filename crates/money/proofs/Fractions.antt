@@ -7,7 +7,7 @@ use Prim.Native.Nat.{ℕ, _+_, _-_, _*_, _^_, _<_, _≤_}
 use native.Mathlib.Omega.{arith}
 use borrow.Author.Tests.{eqb-true, eq-eqb, ne-eqb}
 use lib.ListN.{length, take, drop, length-drop}
-use Rattle.text.specs.Truth.{either, every, allOf, first}
+use Rattle.text.specs.Truth.{either, every, first}
 use Rattle.text.specs.Quoted.{is, equal, byte, decimal}
 use Rattle.text.specs.Classes.{digit}
 use Rattle.text.proofs.Truths.{both-true, between-true, between-of, fails, passes, pass, between-under, between-over, lastly}

@@ -1,7 +1,7 @@
 -- "Amount: 1 to 15 digits, optionally `.` and one or two digits. Its worth in cents is the digits before the point times 100, plus the fraction as two digits."
 -- "Header total: 1 to 99,999,999,999,999,999 cents. Item: 1 to 99,999,999,999 cents."
 use Prim.Native.Nat.{ℕ, _+_, _*_}
-use mathlib.Core.Bool.{Bool, true, false}
+use mathlib.Core.Bool.{Bool}
 use mathlib.Core.List.{List, [], _∷_, _++_}
 use lib.ListN.{length, take, drop}
 use lib.Dec.{eqb}

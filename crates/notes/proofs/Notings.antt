@@ -1,15 +1,11 @@
 -- What an answer, a code and a value say, as the code finds it. Assumes nothing.
 use mathlib.Core.Path.{_≡_, refl, ap, sym, _∙_}
-use mathlib.Core.Bool.{Bool, true, false}
 use mathlib.Core.List.{List}
 use Prim.Native.Nat.{ℕ, suc, _+_, _-_, _<_, _≤_}
 use native.Mathlib.Omega.{arith}
 use native.Mathlib.Numerals.{add-one}
 use borrow.Author.Tests.{le-leb, lt-leb, eq-eqb, ne-eqb, lt-ltb, le-ltb}
 use lib.Dec.{eqb}
-use lib.ListN.{set}
-use lib.Seq.{set-out}
-use Rattle.text.specs.Truth.{either, pick}
 use Rattle.text.proofs.Truths.{either-same}
 use Rattle.answers.specs.declared.Answer.{Answer}
 use Rattle.answers.specs.declared.Answer.the-variants.{Yes, Worth, Form, CheckDigits, Range}
@@ -17,10 +13,9 @@ use Rattle.answers.specs.Given.{Given, given, numberOf, valueOf}
 use Rattle.codes.specs.declared.Found.{Found}
 use Rattle.codes.specs.declared.Found.the-variants.{Listed, Unlisted}
 use Rattle.codes.specs.Listed.{Given as CodeGiven, given as codeFound}
-use Rattle.money.specs.declared.Range.the-variants.{Item as anItem, Total as theTotal}
 use Rattle.profile.specs.declared.Kind.{Kind}
 use Rattle.notes.specs.declared.State.{State}
-use Rattle.notes.specs.Reading.{Reading, on, stop, andThen}
+use Rattle.notes.specs.Reading.{Reading, on, stop}
 use Rattle.notes.specs.Noting.{onGiven, onCode, withItem, withCents, withService, withStart, begun, summedUp, served, judgedBy, noted}
 
 -- ---- a checker's answer, by its number and its value

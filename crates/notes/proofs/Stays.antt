@@ -1,12 +1,11 @@
 -- What is noted keeps the state good, and a refusal within the message. Assumes nothing.
-use mathlib.Core.Path.{_≡_, refl, sym, _∙_}
+use mathlib.Core.Path.{_≡_, refl}
 use mathlib.Core.Bool.{Bool, true, false}
 use mathlib.Core.List.{List}
-use Prim.Native.Nat.{ℕ, suc, _+_, _≤_, _<_}
+use Prim.Native.Nat.{ℕ, suc, _+_, _≤_}
 use native.Mathlib.Omega.{arith}
 use borrow.Author.Tests.{leb-true, ltb-true}
 use lib.Dec.{leb, ltb, eqb}
-use lib.ListN.{length}
 use Rattle.text.specs.Truth.{either, pick}
 use Rattle.answers.specs.Given.{Given, yes, worth, refused}
 use Rattle.codes.specs.declared.Element.{Element}
@@ -18,7 +17,7 @@ use Rattle.money.specs.Amount.{amountGiven}
 use Rattle.profile.specs.declared.Kind.{Kind}
 use Rattle.profile.specs.declared.Kind.the-variants.{Plain, Count, Total, Amount, Code}
 use Rattle.notes.specs.declared.State.{State}
-use Rattle.notes.specs.Reading.{Reading, on, stop, andThen, moved, Good, Fine}
+use Rattle.notes.specs.Reading.{Reading, on, stop, andThen, Good, Fine}
 use Rattle.notes.specs.Noting.{plainGiven, onGiven, onCode, withCount, withTotal, withCents, withService, withItem, withStart, begun, summedUp, served, coded, judgedBy, noted}
 
 -- a later place is later than an earlier one

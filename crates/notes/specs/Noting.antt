@@ -1,6 +1,5 @@
 -- "Then its kind is judged (7, then 8, then 9; codes 10, then 11; then 13)": what a value says, and what is noted of it.
 use Prim.Native.Nat.{ℕ, suc, _+_}
-use mathlib.Core.Bool.{Bool, true, false}
 use mathlib.Core.List.{List}
 use lib.ListN.{set, replicate}
 use lib.Dec.{eqb, leb, ltb}
@@ -24,7 +23,6 @@ use Rattle.profile.specs.declared.Kind.{Kind}
 use Rattle.profile.specs.declared.Kind.the-variants.{Plain, Count, Total, Amount, Code}
 use Rattle.profile.specs.declared.Judged.{Judged}
 use Rattle.profile.specs.declared.Judged.the-variants.{Reference, Nm, Ustrd, Date, Time, Bic, Iban, Identifier}
-use Rattle.notes.specs.declared.Notes.{Notes}
 use Rattle.notes.specs.declared.State.{State}
 use Rattle.notes.specs.Reading.{Reading, on, stop, andThen}
 

@@ -1,9 +1,7 @@
 -- What reading has met so far: it goes on in a state, or the first fault has ended it, with a number and a place.
-use Prim.Native.Nat.{ℕ, suc, _+_, _≤_}
-use mathlib.Core.Bool.{Bool, true, false}
+use Prim.Native.Nat.{ℕ, _≤_}
 use mathlib.Core.List.{List}
-use lib.ListN.{length, set}
-use Rattle.notes.specs.declared.Notes.{Notes}
+use lib.ListN.{length}
 use Rattle.notes.specs.declared.State.{State}
 use Rattle.notes.specs.declared.Met.{Met}
 use Rattle.notes.specs.declared.Met.the-variants.{On, Stopped}

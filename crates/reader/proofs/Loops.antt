@@ -1,14 +1,14 @@
 -- The group reader's loop: what holds at its head, and each way on from there. Assumes nothing.
 use mathlib.Core.Path.{_≡_, refl, sym, ap, _∙_}
 use mathlib.Core.Bool.{Bool, true, false}
-use mathlib.Core.List.{List, [], _∷_}
+use mathlib.Core.List.{List}
 use Prim.Native.Nat.{ℕ, zero, suc, _+_, _≤_, _<_}
 use native.Mathlib.Omega.{arith}
 use lib.ListN.{length}
 use Rattle.text.specs.Truth.{pick}
 use Rattle.profile.specs.declared.Row.{Row}
-use Rattle.profile.specs.Tree.{Occ, more, Shape}
-use Rattle.profile.specs.Table.{tags, occOf, opensBy, closesBy, due, Tied, Kept, Element}
+use Rattle.profile.specs.Tree.{more}
+use Rattle.profile.specs.Table.{tags, occOf, opensBy, closesBy, due, Tied, Kept}
 use Rattle.notes.specs.declared.State.{State}
 use Rattle.notes.specs.Reading.{Reading, on, stop, Good, Fine}
 use Rattle.notes.proofs.Stays.{later}

@@ -1,16 +1,13 @@
 -- What one step of the reader finds, over plain lists, tests and states; and that a good state stays good. Assumes nothing.
 use mathlib.Core.Path.{_≡_, refl, sym, ap, _∙_}
 use mathlib.Core.Bool.{Bool, true, false}
-use mathlib.Core.List.{List, [], _∷_}
+use mathlib.Core.List.{List}
 use Prim.Native.Nat.{ℕ, zero, suc, _+_, _-_, _≤_, _<_}
 use native.Mathlib.Omega.{arith}
-use borrow.Author.Tests.{lt-ltb, le-ltb, lt-leb, le-leb}
+use borrow.Author.Tests.{lt-ltb, le-ltb}
 use lib.ListN.{length, take, drop, length-drop, length-take}
-use lib.Seq.{take-all}
-use lib.Dec.{leb}
-use Rattle.text.specs.Truth.{both, pick, lead, part}
+use Rattle.text.specs.Truth.{pick, lead, part}
 use Rattle.text.specs.Quoted.{bytes, is, alike}
-use Rattle.text.proofs.Truths.{both-false}
 use Rattle.text.proofs.Scan.{rest-of, lead-le}
 use Rattle.profile.specs.declared.Kind.{Kind}
 use Rattle.profile.specs.declared.Look.{Look}
@@ -23,10 +20,9 @@ use Rattle.profile.proofs.Looks.{look-fits}
 use Rattle.notes.specs.declared.State.{State}
 use Rattle.notes.specs.Reading.{Reading, on, stop, andThen, moved, Good, Fine}
 use Rattle.notes.specs.Noting.{begun, noted}
-use Rattle.notes.proofs.Stays.{later, then-fine, noted-fine, begun-fine}
-use Rattle.reader.specs.declared.Choice.{Choice}
+use Rattle.notes.proofs.Stays.{later, noted-fine, begun-fine}
 use Rattle.reader.specs.declared.Choice.the-variants.{Enter, Pass, Stop}
-use Rattle.reader.specs.Reader.{onLook, skipped, closed, missing, tagged, counted, inEuro, priced, entered, behindValue, valueAt, valued}
+use Rattle.reader.specs.Reader.{onLook, skipped, closed, missing, tagged, counted, inEuro, entered, valueAt, valued}
 
 -- what is shown of a step: it is the reading, and fine from a place on
 pub told : (m : List ℕ) (p : ℕ) (x r s : Reading) → x ≡ r → r ≡ s → Fine m p r → (x ≡ s) × Fine m p x

@@ -1,7 +1,7 @@
 -- A turn of the group reader: what is to be read from a row on, before the turn and after it; and an element, at its row's numbers. Assumes nothing.
 use mathlib.Core.Path.{_≡_, refl, sym, ap, _∙_}
 use mathlib.Core.Bool.{Bool, true, false}
-use mathlib.Core.List.{List, [], _∷_}
+use mathlib.Core.List.{List}
 use Prim.Native.Nat.{ℕ, zero, suc, _+_, _≤_, _<_}
 use native.Mathlib.Omega.{arith}
 use Prim.Native.String.{String}
@@ -9,7 +9,7 @@ use lib.ListN.{length}
 use Rattle.text.specs.Truth.{pick}
 use Rattle.profile.specs.declared.Kind.{Kind}
 use Rattle.profile.specs.declared.Row.{Row}
-use Rattle.profile.specs.Tree.{Occ, once, optional, many, more, Shape, end, leaf, group}
+use Rattle.profile.specs.Tree.{Occ, more, Shape, end, leaf, group}
 use Rattle.profile.specs.Tags.{exactly, endTag, plainTag, startTag, isAmount}
 use Rattle.profile.specs.Profile.{profile, itemShape}
 use Rattle.profile.specs.Table.{tags, table, rowIn, kindOf, occOf, amountKind, opensBy, closesBy, width, due, Tied, Kept, Element}
@@ -17,7 +17,6 @@ use Rattle.profile.proofs.Looks.{exactly-length}
 use Rattle.profile.proofs.Rows.{rows}
 use Rattle.notes.specs.declared.State.{State}
 use Rattle.notes.specs.Reading.{Reading, on, stop, andThen, Good}
-use Rattle.reader.specs.declared.Choice.{Choice}
 use Rattle.reader.specs.declared.Choice.the-variants.{Enter, Pass, Stop}
 use Rattle.reader.proofs.Steps.{enter-fits}
 use Rattle.reader.specs.Reader.{skipped, closed, tagged, entered, valued, turn, again, follow, leafBody, groupBody, read, element}

@@ -22,8 +22,10 @@ use Rattle.documents.specs.Document.{Tagless, text}
 use Rattle.documents.specs.Entries.{Entry, value}
 use Rattle.documents.specs.Message.{Message, head, whole, Lawful, told}
 use Rattle.documents.specs.Holds.{Holds}
+use Rattle.documents.proofs.Ends.{profile-sure}
+use Rattle.documents.proofs.One.{one-document}
 use Rattle.documents.proofs.Exactly.{document-accepted}
-use Rattle.slips.specs.Slip.{Watched, Slip, replaced, exchanged, Refusal, Stands}
+use Rattle.slips.specs.Slip.{Watched, Slip, replaced, exchanged, Refusal, In, Stands}
 use Rattle.slips.proofs.Values.{slip-never}
 use Rattle.slips.proofs.Swap.{document-swaps}
 
@@ -123,6 +125,11 @@ module _ (m : List ℕ) (k : Kind) (q : ℕ) (v : List ℕ) (s : Stands m k q v)
   stands-there =
       let x = placed v refl (λ h. h) in
       (ap length (fronts v x) ∙ x .at, x .is ∙ (rw (fronts v x, backs v x)))
+
+  -- it stands there in whatever document has the message as its text: there is only one
+  pub stands-in-any : (e : Message profile) → Lawful profile e → m ≡ whole e → In (value k (s .slot) q v) (told e)
+  stands-in-any e law i =
+      subst (λ (x : Message profile). In (value k (s .slot) q v) (told x)) (one-document profile profile-sure d e (s .lawful) law (sym (s .is) ∙ i)) (s .among)
 
   -- any slip in the value, its bytes put in the place of the value's
   pub slip-refused : (n c : ℕ) → judged m ≡ accepted n c → (w : List ℕ) → Slip k v w → Refusal (judged (take q m ++ (w ++ drop (q + length v) m)))
