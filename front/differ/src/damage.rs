@@ -1,8 +1,6 @@
 //! Damaged messages, with what is known of their refusal.
 
-use crate::message::{
-    accepted, concat, Message, Part, Plan, Spacing, What, DECLARATION, INSTRUMENTS,
-};
+use crate::message::{accepted, concat, Message, Part, Plan, What, DECLARATION, INSTRUMENTS};
 use crate::random::Random;
 use crate::value::{self, Kind, WHITE};
 
@@ -33,6 +31,17 @@ pub struct Case {
     pub records: Vec<u8>,
 }
 
+impl Case {
+    pub fn new(bytes: Vec<u8>, damage: &'static str, known: Known) -> Case {
+        Case { bytes, damage, known, items: Vec::new(), records: Vec::new() }
+    }
+}
+
+/// "12: item 10,001 begins"
+pub const MOST_ITEMS: usize = 10_000;
+/// "1: over 16,777,216 bytes"
+pub const LONGEST: usize = 16_777_216;
+
 type Damage = fn(Message, &mut Random) -> Option<(Vec<u8>, Known)>;
 
 const DAMAGES: &[(&str, Damage)] = &[
@@ -54,9 +63,9 @@ const DAMAGES: &[(&str, Damage)] = &[
     ("element doubled", element_doubled),
     ("elements swapped", elements_swapped),
     ("element not listed", element_not_listed),
-    ("count off by one", count_off),
-    ("total off by one", total_off),
-    ("count and total off by one", both_off),
+    ("count wrong", count_off),
+    ("total wrong", total_off),
+    ("count and total wrong", both_off),
     ("slip in IBAN", slip_in_iban),
     ("slip in identifier", slip_in_identifier),
     ("slip in amount", slip_in_amount),
@@ -89,26 +98,60 @@ const DAMAGES: &[(&str, Damage)] = &[
     ("two damages", two_damages),
 ];
 
-/// One message of the run with this seed: accepted as it is, once in four, or damaged.
-pub fn case(seed: u64, case: u64) -> Case {
-    let random = &mut Random::new(seed, case);
+/// The accepted message that a case is made from, and the numbers that go on from there.
+pub fn message(seed: u64, case: u64) -> (Message, Random) {
+    let mut random = Random::new(seed, case);
     let most_items = match random.below(400) {
         0 => 300,
         1..=20 => 40,
         _ => 8,
     };
-    let mut plan = Plan::by_chance(random, most_items);
+    let mut plan = Plan::by_chance(&mut random, most_items);
     plan.small = random.once_in(2);
-    let message = accepted(&plan, random);
+    let message = accepted(&plan, &mut random);
+    (message, random)
+}
+
+/// One message of the run with this seed: accepted as it is, once in four, or damaged.
+pub fn case(seed: u64, case: u64) -> Case {
+    let (message, mut random) = message(seed, case);
     if random.once_in(4) {
         return whole(message);
     }
+    damaged(message, &mut random)
+}
+
+/// A message of thousands of items, every other time damaged. Every third has 10,000. One that is
+/// over the limit of length is known to be refused for that.
+pub fn large(seed: u64, case: u64) -> Case {
+    let random = &mut Random::new(seed ^ 0x1A46E, case);
+    let mut plan = Plan::by_chance(random, 1);
+    plan.items = if case % 3 == 0 { MOST_ITEMS } else { random.between(2000, MOST_ITEMS) };
+    plan.small = random.once_in(2);
+    let message = accepted(&plan, random);
+    let made = match case % 2 {
+        0 => whole(message),
+        _ => damaged(message, random),
+    };
+    if made.bytes.len() > LONGEST {
+        return Case::new(made.bytes, "too long", Known::Refused { number: 1, place: 0 });
+    }
+    made
+}
+
+/// A message damaged in any way that fits it.
+fn damaged(message: Message, random: &mut Random) -> Case {
     loop {
         let (damage, make) = DAMAGES[random.below(DAMAGES.len())];
         if let Some((bytes, known)) = make(message.clone(), random) {
-            return Case { bytes, damage, known, items: Vec::new(), records: Vec::new() };
+            return Case::new(bytes, damage, known);
         }
     }
+}
+
+/// The ways of damage.
+pub fn ways() -> impl Iterator<Item = &'static str> {
+    DAMAGES.iter().map(|(damage, _)| *damage)
 }
 
 /// A message as it is.
@@ -122,19 +165,19 @@ pub fn whole(message: Message) -> Case {
     }
 }
 
-fn fine(message: &Message) -> Known {
+pub(crate) fn fine(message: &Message) -> Known {
     Known::Accepted { count: message.count, cents: message.cents }
 }
 
-fn is_tag(part: &Part) -> bool {
+pub(crate) fn is_tag(part: &Part) -> bool {
     matches!(part.what, What::Start | What::End)
 }
 
-fn is_value(part: &Part) -> bool {
+pub(crate) fn is_value(part: &Part) -> bool {
     matches!(part.what, What::Value(_))
 }
 
-fn kind_of(part: &Part) -> Kind {
+pub(crate) fn kind_of(part: &Part) -> Kind {
     match part.what {
         What::Value(kind) => kind,
         _ => panic!("not a value"),
@@ -142,7 +185,7 @@ fn kind_of(part: &Part) -> Kind {
 }
 
 /// The number for a value that is not of its kind's form.
-fn form_number(kind: Kind) -> u8 {
+pub(crate) fn form_number(kind: Kind) -> u8 {
     match kind {
         Kind::Code(_) => 10,
         _ => 7,
@@ -153,7 +196,7 @@ fn pick(parts: &[usize], random: &mut Random) -> Option<usize> {
     (!parts.is_empty()).then(|| parts[random.below(parts.len())])
 }
 
-fn values_of(message: &Message, kind: Kind) -> Vec<usize> {
+pub(crate) fn values_of(message: &Message, kind: Kind) -> Vec<usize> {
     message.parts_that(|part| part.what == What::Value(kind))
 }
 
@@ -164,7 +207,7 @@ fn due(message: &Message) -> usize {
 }
 
 /// The message cut to a length: "3: ends where more is due", unless only white space goes.
-fn cut_to(message: &Message, length: usize) -> (Vec<u8>, Known) {
+pub(crate) fn cut_to(message: &Message, length: usize) -> (Vec<u8>, Known) {
     let known = match length >= due(message) {
         true => fine(message),
         false => Known::Refused { number: 3, place: length },
@@ -242,15 +285,17 @@ fn tag_swapped(mut message: Message, random: &mut Random) -> Option<(Vec<u8>, Kn
     Some((message.bytes(), Known::Bad))
 }
 
-fn tag_malformed(mut message: Message, random: &mut Random) -> Option<(Vec<u8>, Known)> {
-    let at = pick(&message.parts_that(is_tag), random)?;
-    let tag = &mut message.parts[at].bytes;
+/// The ways that [`malform`] knows.
+pub(crate) const MALFORMED: usize = 17;
+
+/// Makes a tag one that is no tag of the profile.
+pub(crate) fn malform(tag: &mut Vec<u8>, way: usize, random: &mut Random) {
     let last = tag.len() - 1;
-    match random.below(16) {
+    match way {
         0 => {
             let letters: Vec<usize> =
                 (0..tag.len()).filter(|&at| tag[at].is_ascii_alphabetic()).collect();
-            tag[pick(&letters, random)?] ^= 0x20;
+            tag[letters[random.below(letters.len())]] ^= 0x20;
         }
         1 => drop(tag.splice(last..last, *b" a=\"1\"")),
         2 => tag.insert(last, random.of(WHITE)),
@@ -266,8 +311,15 @@ fn tag_malformed(mut message: Message, random: &mut Random) -> Option<(Vec<u8>, 
         12 => drop(tag.splice(0..0, *b"&amp;")),
         13 => drop(tag.splice(0..0, *b"<?pi?>")),
         14 => tag.insert(1, b'/'),
+        15 => tag.insert(random.between(1, last), random.of(WHITE)),
         _ => tag.truncate(random.between(1, last)),
     }
+}
+
+fn tag_malformed(mut message: Message, random: &mut Random) -> Option<(Vec<u8>, Known)> {
+    let at = pick(&message.parts_that(is_tag), random)?;
+    let way = random.below(MALFORMED);
+    malform(&mut message.parts[at].bytes, way, random);
     Some((message.bytes(), Known::Bad))
 }
 
@@ -294,7 +346,7 @@ fn lone_bracket(mut message: Message, random: &mut Random) -> Option<(Vec<u8>, K
 }
 
 /// The parts of the element whose start tag this is: itself to its end tag.
-fn element_at(message: &Message, start: usize) -> (usize, usize) {
+pub(crate) fn element_at(message: &Message, start: usize) -> (usize, usize) {
     let mut depth = 0;
     for at in start..message.parts.len() {
         match message.parts[at].what {
@@ -367,23 +419,33 @@ fn element_not_listed(mut message: Message, random: &mut Random) -> Option<(Vec<
     Some((message.bytes(), Known::Bad))
 }
 
-fn one_off(number: u64, random: &mut Random) -> u64 {
-    match random.below(2) {
-        0 => number + 1,
-        _ => number - 1,
+/// Another number than this one: one more or less, a few, ten times, a tenth, none, the largest.
+fn another(number: u64, most: u64, random: &mut Random) -> u64 {
+    loop {
+        let other = match random.below(8) {
+            0 | 1 => number + 1,
+            2 | 3 => number - 1,
+            4 => number + random.worth(1, 1000),
+            5 => number.saturating_mul(10),
+            6 => number / 10,
+            _ => *random.pick(&[&0, &1, &most]),
+        };
+        if other != number && other <= most {
+            return other;
+        }
     }
 }
 
 fn set_count_off(message: &mut Message, random: &mut Random) -> Known {
     let part = message.header_value("NbOfTxs");
-    let number = one_off(message.count, random);
+    let number = another(message.count, 999_999_999_999_999, random);
     message.parts[part].bytes = value::with_zeros(number, random);
     Known::Refused { number: 14, place: message.place(part) }
 }
 
 fn set_total_off(message: &mut Message, random: &mut Random) -> Known {
     let part = message.header_value("TtlIntrBkSttlmAmt");
-    let cents = one_off(message.cents, random);
+    let cents = another(message.cents, value::HEADER_MOST, random);
     message.parts[part].bytes = value::amount(cents, random);
     Known::Refused { number: if cents == 0 { 9 } else { 15 }, place: message.place(part) }
 }
@@ -504,7 +566,7 @@ fn no_ascii(random: &mut Random) -> u8 {
     match random.below(3) {
         0 => 0,
         1 => random.of(b"\x01\x0b\x0c\x7f\x80\xa0\xc2\xe2\xff"),
-        _ => 128 | random.next() as u8,
+        _ => 128 | random.bits() as u8,
     }
 }
 
@@ -706,7 +768,7 @@ fn beginning(message: Message, random: &mut Random) -> Option<(Vec<u8>, Known)> 
 fn random_bytes(_: Message, random: &mut Random) -> Option<(Vec<u8>, Known)> {
     let length = random.between(0, 120);
     let bytes = match random.below(3) {
-        0 => (0..length).map(|_| random.next() as u8).collect(),
+        0 => (0..length).map(|_| random.bits() as u8).collect(),
         1 => random.bytes(b"<>/? Dx!", length),
         _ => random.bytes(b" \t\r\n<", length),
     };
@@ -732,156 +794,4 @@ fn two_damages(mut message: Message, random: &mut Random) -> Option<(Vec<u8>, Kn
     let tag = pick(&message.parts_that(is_tag), random)?;
     value::edit(&mut message.parts[tag].bytes, random);
     Some((message.bytes(), Known::Nothing))
-}
-
-/// The small messages that are swept: one with everything optional, in white space, behind a
-/// declaration; one without.
-fn small_messages(seed: u64) -> [Message; 2] {
-    [(Spacing::Some, true), (Spacing::None, false)].map(|(spacing, full)| {
-        let random = &mut Random::new(seed, u64::MAX - u64::from(full));
-        let items = if full { 1 } else { 2 };
-        let plan = Plan { items, spacing, small: true, declaration: full, optional: Some(full) };
-        accepted(&plan, random)
-    })
-}
-
-/// Every byte of two small messages cut, deleted, doubled, changed and preceded by another, and
-/// every part dropped, doubled, swapped with the next, and replaced by a bracket. `each` gets the
-/// number of the case too, and the sweep's length is answered.
-pub fn sweep(seed: u64, mut each: impl FnMut(u64, Case)) -> u64 {
-    let mut number = 0;
-    let mut give = |bytes: Vec<u8>, damage: &'static str, known: Known| {
-        each(number, Case { bytes, damage, known, items: Vec::new(), records: Vec::new() });
-        number += 1;
-    };
-    for message in small_messages(seed) {
-        let bytes = message.bytes();
-        for length in 0..=bytes.len() {
-            let (bytes, known) = cut_to(&message, length);
-            give(bytes, "sweep: cut", known);
-        }
-        for at in 0..bytes.len() {
-            let mut less = bytes.clone();
-            less.remove(at);
-            give(less, "sweep: byte deleted", Known::Nothing);
-            let mut more = bytes.clone();
-            more.insert(at, bytes[at]);
-            give(more, "sweep: byte doubled", Known::Nothing);
-            let old = bytes[at];
-            for new in [
-                b'<',
-                b'>',
-                b'/',
-                b' ',
-                b'\n',
-                0,
-                0xE9,
-                b'A',
-                b'0',
-                b'"',
-                old ^ 0x20,
-                old.wrapping_add(1),
-                old.wrapping_sub(1),
-            ] {
-                if new != old {
-                    let mut other = bytes.clone();
-                    other[at] = new;
-                    let known = if new == 0 || new > 127 { Known::Bad } else { Known::Nothing };
-                    give(other, "sweep: byte changed", known);
-                }
-            }
-        }
-        for at in 0..=bytes.len() {
-            for new in [b' ', b'<', b'A', b'1', 0] {
-                let mut more = bytes.clone();
-                more.insert(at, new);
-                let known = if matches!(new, 0 | b'<') { Known::Bad } else { Known::Nothing };
-                give(more, "sweep: byte inserted", known);
-            }
-        }
-        for at in 0..message.parts.len() {
-            let mut less = message.parts.clone();
-            let part = less.remove(at);
-            give(concat(&less), "sweep: part dropped", Known::Nothing);
-            less.insert(at, part.clone());
-            less.insert(at, part);
-            give(concat(&less), "sweep: part doubled", Known::Nothing);
-            let mut other = message.parts.clone();
-            other[at].bytes = b"<".to_vec();
-            give(concat(&other), "sweep: part a bracket", Known::Nothing);
-            if at > 0 {
-                let mut other = message.parts.clone();
-                other.swap(at - 1, at);
-                give(concat(&other), "sweep: parts swapped", Known::Nothing);
-            }
-        }
-    }
-    number
-}
-
-/// Messages at the limits of length and of items, with what is known of each.
-pub fn limits(mut each: impl FnMut(u64, Case)) {
-    const LONGEST: usize = 16_777_216;
-    let mut number = 0;
-    let mut give = |bytes: Vec<u8>, damage: &'static str, known: Known| {
-        each(number, Case { bytes, damage, known, items: Vec::new(), records: Vec::new() });
-        number += 1;
-    };
-    let plan = |items| Plan {
-        items,
-        spacing: Spacing::None,
-        small: true,
-        declaration: true,
-        optional: Some(false),
-    };
-    let one = accepted(&plan(1), &mut Random::new(1, 1));
-    for (length, known) in [
-        (LONGEST - 1, fine(&one)),
-        (LONGEST, fine(&one)),
-        (LONGEST + 1, Known::Refused { number: 1, place: 0 }),
-    ] {
-        let mut bytes = one.bytes();
-        bytes.resize(length, b'\n');
-        give(bytes, "limits: white space at the end", known);
-    }
-    for (length, known) in [
-        (LONGEST, Known::Refused { number: 2, place: 0 }),
-        (LONGEST + 1, Known::Refused { number: 1, place: 0 }),
-    ] {
-        give(vec![0; length], "limits: NUL", known);
-    }
-    for (length, known) in [
-        (LONGEST, Known::Refused { number: 3, place: LONGEST }),
-        (LONGEST + 1, Known::Refused { number: 1, place: 0 }),
-    ] {
-        give(vec![b' '; length], "limits: white space", known);
-    }
-
-    let most = accepted(&plan(10_000), &mut Random::new(1, 2));
-    give(most.bytes(), "limits: 10,000 items", fine(&most));
-    let (last, after) = most.items[9999];
-    let place = most.place(after);
-    let before = concat(&most.parts[..after]);
-    for (more, known) in [
-        ("", (3, place)),
-        (" <DrctDbtTxInf", (3, place + 14)),
-        (" <DrctDbtTxInf>", (12, place + 1)),
-        (" <DrctDbtTxInf>_", (12, place + 1)),
-        (" <DrctDbtTxInf/>", (4, place + 1)),
-    ] {
-        let bytes = [&before, more.as_bytes()].concat();
-        let known = Known::Refused { number: known.0, place: known.1 };
-        give(bytes, "limits: item 10,001 begins", known);
-    }
-    let mut more = most.clone();
-    more.parts.splice(after..after, most.parts[last..after].to_vec());
-    give(more.bytes(), "limits: 10,001 items", Known::Refused { number: 12, place });
-    let random = &mut Random::new(1, 3);
-    let mut cut = 0;
-    while cut < 3 {
-        let length = random.between(before.len() - 2000, before.len());
-        let (bytes, known) = cut_to(&most, length);
-        give(bytes, "limits: 10,000 items, cut", known);
-        cut += 1;
-    }
 }

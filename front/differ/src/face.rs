@@ -22,16 +22,26 @@ extern "C" {
     fn bulk_count(p: *const u8, n: usize, answer: *mut u64);
     fn bulk_item_amount(p: *const u8, n: usize, answer: *mut u64);
     fn bulk_header_amount(p: *const u8, n: usize, answer: *mut u64);
-    #[cfg(feature = "messages")]
     fn bulk_judge(p: *const u8, n: usize, answer: *mut u64);
-    #[cfg(feature = "messages")]
     fn bulk_item(p: *const u8, n: usize, i: u64, answer: *mut u64);
-    #[cfg(feature = "records")]
     fn bulk_records(p: *const u8, n: usize, area: *mut u8, area_len: usize, answer: *mut u64);
 }
 
-/// What the words hold before the call; no answer has it.
-const UNWRITTEN: Words = [u64::MAX; 3];
+/// What the three words hold before the call, and the words beside them before and after it. No
+/// answer has it.
+const UNWRITTEN: u64 = u64::MAX - 1;
+/// Stands for an answer where a word beside the three was written. No answer is it.
+const WRITTEN_BESIDE: Words = [u64::MAX; 3];
+
+/// Lends three words between two others and answers them. The others must stay.
+fn answered(call: impl FnOnce(*mut u64)) -> Words {
+    let mut words = [UNWRITTEN; 5];
+    call(words[1..4].as_mut_ptr());
+    match words {
+        [UNWRITTEN, first, second, third, UNWRITTEN] => [first, second, third],
+        _ => WRITTEN_BESIDE,
+    }
+}
 
 /// The single checker of a kind: `0, number or cents, 0`, or `number, 0, 0`.
 pub fn check(kind: Kind, value: &[u8]) -> Words {
@@ -49,43 +59,27 @@ pub fn check(kind: Kind, value: &[u8]) -> Words {
         Kind::HeaderAmount => bulk_header_amount,
         Kind::Code(_) => panic!("a code has no single checker"),
     };
-    let mut answer = UNWRITTEN;
     // SAFETY: the value is lent for the call, the answer is three words.
-    unsafe { checker(value.as_ptr(), value.len(), answer.as_mut_ptr()) };
-    answer
+    answered(|answer| unsafe { checker(value.as_ptr(), value.len(), answer) })
 }
 
 /// The judge: `0, count, cents`, or `number, place, 0`.
-#[cfg(feature = "messages")]
 pub fn judge(message: &[u8]) -> Words {
-    let mut answer = UNWRITTEN;
     // SAFETY: the message is lent for the call, the answer is three words.
-    unsafe { bulk_judge(message.as_ptr(), message.len(), answer.as_mut_ptr()) };
-    answer
+    answered(|answer| unsafe { bulk_judge(message.as_ptr(), message.len(), answer) })
 }
 
 /// Where item `i` lies: `0, start, end`, or `number, place, 0`.
-#[cfg(feature = "messages")]
 pub fn item(message: &[u8], i: u64) -> Words {
-    let mut answer = UNWRITTEN;
     // SAFETY: the message is lent for the call, the answer is three words.
-    unsafe { bulk_item(message.as_ptr(), message.len(), i, answer.as_mut_ptr()) };
-    answer
+    answered(|answer| unsafe { bulk_item(message.as_ptr(), message.len(), i, answer) })
 }
 
 /// The records: `0, count, cents` and the area written, or `number, place, 0` and the area as lent.
-#[cfg(feature = "records")]
 pub fn records(message: &[u8], area: &mut [u8]) -> Words {
-    let mut answer = UNWRITTEN;
+    let (lent, length) = (area.as_mut_ptr(), area.len());
     // SAFETY: the message is lent for the call, the area mutably so, the answer is three words.
-    unsafe {
-        bulk_records(
-            message.as_ptr(),
-            message.len(),
-            area.as_mut_ptr(),
-            area.len(),
-            answer.as_mut_ptr(),
-        )
-    };
-    answer
+    answered(|answer| unsafe {
+        bulk_records(message.as_ptr(), message.len(), lent, length, answer)
+    })
 }

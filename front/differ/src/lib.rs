@@ -1,18 +1,29 @@
-//! Values and messages made from a seed, and what is known of them.
+//! Values and messages made from a seed, what is known of them, and the judges that are asked.
 //!
 //! - [`random`]: a seeded generator of numbers.
-//! - [`value`]: values of each kind: valid, nearly valid, damaged, random.
+//! - [`value`], [`handmade`]: values of each kind: valid, nearly valid, damaged, random.
 //! - [`message`]: accepted messages, with what is known of them.
-//! - [`damage`]: damaged messages, with what is known of their refusal, and the sweeps.
+//! - [`damage`]: damaged messages, with what is known of their refusal.
+//! - [`sweep`]: every byte and every part of small messages damaged; messages at the limits.
+//! - [`slips`]: every slip of an accepted message.
 //! - [`slow`]: a second judge, made from a table of the elements, to hold `plain` against.
-//! - [`face`]: the C face of the library under test (only where BULK_LIB_DIR was set).
+//! - [`face`]: the C face of the library under test.
+//! - [`ask`]: the questions: the judges, what is known, and the laws held against each other.
+//! - [`tally`]: what a run has seen; a difference, printed so that it can be run again.
+//! - [`usual`], [`bench`]: messages like those that are sent, and the stopwatch.
 
 #![deny(unsafe_code)]
 
+pub mod ask;
+pub mod bench;
 pub mod damage;
-#[cfg(bulk)]
 pub mod face;
+pub mod handmade;
 pub mod message;
 pub mod random;
+pub mod slips;
 pub mod slow;
+pub mod sweep;
+pub mod tally;
+pub mod usual;
 pub mod value;

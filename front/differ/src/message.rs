@@ -175,42 +175,14 @@ impl Writer<'_> {
     /// One item; answers its record.
     fn item(&mut self, cents: u64, instrument: &[u8], optional: (bool, bool)) -> Vec<u8> {
         self.open("DrctDbtTxInf");
-
-        self.open("PmtId");
-        if optional.0 {
-            self.element("InstrId", Kind::Reference);
-        }
-        let end_to_end = self.element("EndToEndId", Kind::Reference);
-        let transaction = self.element("TxId", Kind::Reference);
-        self.close("PmtId");
-
-        self.open("PmtTpInf");
-        self.code("SvcLvl", SEPA, b"SEPA");
-        self.code("LclInstrm", INSTRUMENTS, instrument);
-        let sequence = self.element("SeqTp", SEQUENCES);
-        self.close("PmtTpInf");
+        let (end_to_end, transaction) = self.identification(optional.0);
+        let sequence = self.payment_type(instrument);
 
         let amount = value::amount(cents, self.random);
         self.given("IntrBkSttlmAmt", Kind::ItemAmount, &amount);
         self.element("ChrgBr", BEARERS);
         let date = self.element("ReqdColltnDt", Kind::Date);
-
-        self.open("DrctDbtTx");
-        self.open("MndtRltdInf");
-        let mandate = self.element("MndtId", Kind::Reference);
-        self.element("DtOfSgntr", Kind::Date);
-        self.close("MndtRltdInf");
-        self.open("CdtrSchmeId");
-        self.open("Id");
-        self.open("PrvtId");
-        self.open("Othr");
-        let identifier = self.element("Id", Kind::CreditorId);
-        self.group("SchmeNm", |w| drop(w.element("Prtry", SEPA)));
-        self.close("Othr");
-        self.close("PrvtId");
-        self.close("Id");
-        self.close("CdtrSchmeId");
-        self.close("DrctDbtTx");
+        let (mandate, identifier) = self.direct_debit();
 
         self.group("Cdtr", |w| drop(w.element("Nm", Kind::Text70)));
         let creditor_iban = self.account("CdtrAcct");
@@ -223,8 +195,7 @@ impl Writer<'_> {
         }
         self.close("DrctDbtTxInf");
 
-        let mut record = Vec::with_capacity(256);
-        for (field, width) in [
+        record(&[
             (transaction, 35),
             (end_to_end, 35),
             (mandate, 35),
@@ -236,14 +207,79 @@ impl Writer<'_> {
             (sequence, 4),
             (identifier, 35),
             (creditor_bic, 11),
-        ] {
-            let end = record.len() + width;
-            record.extend(field);
-            record.resize(end, b' ');
-        }
-        record.push(b'\n');
-        record
+        ])
     }
+
+    /// PmtId; answers EndToEndId and TxId.
+    fn identification(&mut self, instruction: bool) -> (Vec<u8>, Vec<u8>) {
+        self.open("PmtId");
+        if instruction {
+            self.element("InstrId", Kind::Reference);
+        }
+        let end_to_end = self.element("EndToEndId", Kind::Reference);
+        let transaction = self.element("TxId", Kind::Reference);
+        self.close("PmtId");
+        (end_to_end, transaction)
+    }
+
+    /// PmtTpInf; answers SeqTp.
+    fn payment_type(&mut self, instrument: &[u8]) -> Vec<u8> {
+        self.open("PmtTpInf");
+        self.code("SvcLvl", SEPA, b"SEPA");
+        self.code("LclInstrm", INSTRUMENTS, instrument);
+        let sequence = self.element("SeqTp", SEQUENCES);
+        self.close("PmtTpInf");
+        sequence
+    }
+
+    /// DrctDbtTx; answers the mandate and the creditor identifier.
+    fn direct_debit(&mut self) -> (Vec<u8>, Vec<u8>) {
+        self.open("DrctDbtTx");
+        self.open("MndtRltdInf");
+        let mandate = self.element("MndtId", Kind::Reference);
+        self.element("DtOfSgntr", Kind::Date);
+        self.close("MndtRltdInf");
+        for name in ["CdtrSchmeId", "Id", "PrvtId", "Othr"] {
+            self.open(name);
+        }
+        let identifier = self.element("Id", Kind::CreditorId);
+        self.group("SchmeNm", |w| drop(w.element("Prtry", SEPA)));
+        for name in ["Othr", "PrvtId", "Id", "CdtrSchmeId"] {
+            self.close(name);
+        }
+        self.close("DrctDbtTx");
+        (mandate, identifier)
+    }
+
+    /// GrpHdr of so many items and cents.
+    fn header(&mut self, items: usize, cents: u64) {
+        self.open("GrpHdr");
+        self.element("MsgId", Kind::Reference);
+        self.element("CreDtTm", Kind::Time);
+        let number = match self.small {
+            true => items.to_string().into_bytes(),
+            false => value::with_zeros(items as u64, self.random),
+        };
+        self.given("NbOfTxs", Kind::Count, &number);
+        let total = value::amount(cents, self.random);
+        self.given("TtlIntrBkSttlmAmt", Kind::HeaderAmount, &total);
+        self.element("IntrBkSttlmDt", Kind::Date);
+        self.group("SttlmInf", |w| drop(w.element("SttlmMtd", METHODS)));
+        self.agent("InstgAgt");
+        self.close("GrpHdr");
+    }
+}
+
+/// A record: each field filled with spaces to its width, and LF.
+fn record(fields: &[(Vec<u8>, usize)]) -> Vec<u8> {
+    let mut record = Vec::with_capacity(256);
+    for (field, width) in fields {
+        let end = record.len() + width;
+        record.extend(field);
+        record.resize(end, b' ');
+    }
+    record.push(b'\n');
+    record
 }
 
 /// The length of a short value.
@@ -275,20 +311,7 @@ pub fn accepted(plan: &Plan, random: &mut Random) -> Message {
     w.part(What::Start, "Document", ROOT.into());
     w.open("FIToFICstmrDrctDbt");
 
-    w.open("GrpHdr");
-    w.element("MsgId", Kind::Reference);
-    w.element("CreDtTm", Kind::Time);
-    let number = match plan.small {
-        true => plan.items.to_string().into_bytes(),
-        false => value::with_zeros(plan.items as u64, w.random),
-    };
-    w.given("NbOfTxs", Kind::Count, &number);
-    let total = value::amount(cents, w.random);
-    w.given("TtlIntrBkSttlmAmt", Kind::HeaderAmount, &total);
-    w.element("IntrBkSttlmDt", Kind::Date);
-    w.group("SttlmInf", |w| drop(w.element("SttlmMtd", METHODS)));
-    w.agent("InstgAgt");
-    w.close("GrpHdr");
+    w.header(plan.items, cents);
 
     let instrument = value::valid(INSTRUMENTS, w.random).bytes;
     let mut items = Vec::new();

@@ -16,7 +16,8 @@ impl Random {
         Random(mix(seed ^ mix(case)) | 1)
     }
 
-    pub fn next(&mut self) -> u64 {
+    /// 64 bits.
+    pub fn bits(&mut self) -> u64 {
         self.0 ^= self.0 >> 12;
         self.0 ^= self.0 << 25;
         self.0 ^= self.0 >> 27;
@@ -25,7 +26,7 @@ impl Random {
 
     /// 0 to `n - 1`.
     pub fn below(&mut self, n: usize) -> usize {
-        ((self.next() >> 11) % n as u64) as usize
+        ((self.bits() >> 11) % n as u64) as usize
     }
 
     /// `least` to `most`, both of them too.
@@ -37,7 +38,7 @@ impl Random {
     pub fn worth(&mut self, least: u64, most: u64) -> u64 {
         let digits = self.between(1, most.ilog10() as usize + 1) as u32;
         let top = 10u64.pow(digits).min(most.saturating_add(1));
-        ((self.next() >> 1) % top).clamp(least, most)
+        ((self.bits() >> 1) % top).clamp(least, most)
     }
 
     /// True once in `n`.

@@ -70,6 +70,9 @@ struct Node {
     /// Of a value: its kind, or the codes listed.
     value: Option<&'static str>,
     children: Vec<Node>,
+    /// Its tags as patterns.
+    start: String,
+    end: String,
 }
 
 /// The table as a tree.
@@ -95,7 +98,8 @@ fn nodes(lines: &mut std::iter::Peekable<std::str::Lines<'static>>, depth: usize
             None => (name, 1, 1),
         };
         let children = nodes_below(lines, depth, value.is_none());
-        nodes.push(Node { name, least, most, value, children });
+        let start = start_tag(name, value);
+        nodes.push(Node { name, least, most, value, children, start, end: format!("</{name}>") });
     }
     nodes
 }
@@ -117,7 +121,7 @@ type Refusal = (u8, usize);
 /// A tag as a pattern: `^` stands for any capital (no tag has that byte).
 fn fits(pattern: &str, byte: u8, at: usize) -> bool {
     match pattern.as_bytes()[at] {
-        b'^' => (b'A'..=b'Z').contains(&byte),
+        b'^' => (65..=90).contains(&byte),
         fixed => fixed == byte,
     }
 }
@@ -136,7 +140,7 @@ struct Run<'m> {
 
 impl Run<'_> {
     /// Which of the patterns stands here; `number` where none does.
-    fn choose(&mut self, patterns: &[String], number: u8) -> Result<usize, Refusal> {
+    fn choose(&mut self, patterns: &[&str], number: u8) -> Result<usize, Refusal> {
         let left = &self.message[self.at..];
         let mut ends = false;
         for (which, pattern) in patterns.iter().enumerate() {
@@ -156,7 +160,7 @@ impl Run<'_> {
         }
     }
 
-    fn children(&mut self, children: &[Node], end: &str) -> Result<(), Refusal> {
+    fn children(&mut self, children: &[Node], end_tag: &str) -> Result<(), Refusal> {
         let mut had = vec![0usize; children.len()];
         let mut child = 0;
         loop {
@@ -167,7 +171,7 @@ impl Run<'_> {
             let mut may_end = true;
             for at in child..children.len() {
                 if had[at] < children[at].most {
-                    patterns.push(start_tag(&children[at]));
+                    patterns.push(children[at].start.as_str());
                     which.push(at);
                 }
                 if had[at] < children[at].least {
@@ -176,7 +180,7 @@ impl Run<'_> {
                 }
             }
             if may_end {
-                patterns.push(format!("</{end}>"));
+                patterns.push(end_tag);
             }
             self.white();
             let place = self.at;
@@ -202,10 +206,10 @@ impl Run<'_> {
             return Err((12, place));
         }
         match node.value {
-            Some(kind) => self.value(node.name, kind)?,
+            Some(kind) => self.value(node, kind)?,
             None => {
                 self.path.push(node.name);
-                self.children(&node.children, node.name)?;
+                self.children(&node.children, &node.end)?;
                 self.path.pop();
             }
         }
@@ -215,7 +219,7 @@ impl Run<'_> {
         Ok(())
     }
 
-    fn value(&mut self, name: &str, kind: &str) -> Result<(), Refusal> {
+    fn value(&mut self, node: &Node, kind: &str) -> Result<(), Refusal> {
         let place = self.at;
         let Some(length) = self.message[place..].iter().position(|&b| b == b'<') else {
             return Err((3, self.message.len()));
@@ -226,7 +230,7 @@ impl Run<'_> {
             None if kind.split(' ').any(|code| code.as_bytes() == bytes) => 0,
             None => return Err((10, place)),
         };
-        match name {
+        match node.name {
             "NbOfTxs" => self.count = (worth, place),
             "TtlIntrBkSttlmAmt" => self.total = (worth, place),
             "Cd" if self.path.last() == Some(&"LclInstrm") => {
@@ -244,15 +248,15 @@ impl Run<'_> {
             _ => {}
         }
         self.at = place + length;
-        self.choose(&[format!("</{name}>")], 4)?;
+        self.choose(&[&node.end], 4)?;
         Ok(())
     }
 }
 
-fn start_tag(node: &Node) -> String {
-    match node.value {
-        Some("item-amount" | "header-amount") => format!("<{} Ccy=\"^^^\">", node.name),
-        _ => format!("<{}>", node.name),
+fn start_tag(name: &str, value: Option<&str>) -> String {
+    match value {
+        Some("item-amount" | "header-amount") => format!("<{name} Ccy=\"^^^\">"),
+        _ => format!("<{name}>"),
     }
 }
 
@@ -288,12 +292,12 @@ impl Slow {
             path: Vec::new(),
         };
         if message.len() >= 2 && &message[..2] == b"<?" {
-            run.choose(&["<?xml version=\"1.0\" encoding=\"UTF-8\"?>".to_string()], 2)?;
+            run.choose(&["<?xml version=\"1.0\" encoding=\"UTF-8\"?>"], 2)?;
         }
         run.white();
         let root = "<Document xmlns=\"urn:iso:std:iso:20022:tech:xsd:pacs.003.001.02\">";
-        run.choose(&[root.to_string()], 2)?;
-        run.children(&self.top, "Document")?;
+        run.choose(&[root], 2)?;
+        run.children(&self.top, "</Document>")?;
         run.white();
         if run.at < message.len() {
             return Err((16, run.at));

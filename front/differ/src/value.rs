@@ -1,5 +1,6 @@
 //! Values of each kind.
 
+use crate::handmade::handmade;
 use crate::random::Random;
 
 pub const CAPITALS: &[u8] = b"ABCDEFGHIJKLMNOPQRSTUVWXYZ";
@@ -289,302 +290,12 @@ pub fn text_of_length(random: &mut Random, length: usize) -> Vec<u8> {
     bytes
 }
 
-/// Handmade values that stand beside the lines of a kind; some are valid.
-fn handmade(kind: Kind) -> &'static [&'static str] {
-    match kind {
-        Kind::Iban => &[
-            "DE87200500001234567891",
-            "DE78200500001234567890",
-            "de87200500001234567890",
-            "DE8720050000123456789a",
-            "DE87 2005 0000 1234 5678 90",
-            "DE87200500001234567890 ",
-            "NO938601111794",
-            "NO9386011117947",
-            "DE00200500001234567890",
-            "DE99200500001234567890",
-            "D187200500001234567890",
-            "1E87200500001234567890",
-            "DEX7200500001234567890",
-            "DE8X200500001234567890",
-            "DE87-20050000-1234567890",
-            "00000000000000000000000",
-        ],
-        Kind::CreditorId => &[
-            "DE98ZZZ09999999999",
-            "DE98zzz09999999999",
-            "DE00ZZZ09999999999",
-            "DE01ZZZ09999999999",
-            "DE99ZZZ09999999999",
-            "DE98ZZZ",
-            "DE98ZZZ/",
-            "DE98ZZZ//",
-            "DE98ZZZ-+?:()",
-            "DE98Z/Z09999999999",
-            "DE98ZZ 09999999999",
-            "DE98ZZZ0 9999999999",
-            "DE98ZZZ/09999999999",
-            "DE98ZZZ09999999999//",
-            "De98ZZZ09999999999",
-            "DE9AZZZ09999999999",
-            "DE98ZZZ09999999999_",
-        ],
-        Kind::Bic => &[
-            "BANKDEFF",
-            "BANKDEFFXXX",
-            "BANKDEFFXX",
-            "BANKDEF",
-            "BANKDEFFX",
-            "BANKDEFFXXXX",
-            "BANKDE0F",
-            "BANKDE1F",
-            "BANKDE2F",
-            "BANKDE9F",
-            "BANKDEFO",
-            "BANKDEF0",
-            "BANKDEF1",
-            "BANKDEFN",
-            "BANKDEFP",
-            "B4NKDEFF",
-            "BANKD3FF",
-            "bANKDEFF",
-            "BANKDEfF",
-            "BANKDEFf",
-            "BANKDEFFxXX",
-            "BANKDEFF000",
-            "BANKDEFF999",
-            "BANKDEFFOOO",
-            "BANK DEFF",
-        ],
-        Kind::Date => &[
-            "2000-02-29",
-            "1900-02-29",
-            "2100-02-29",
-            "2004-02-29",
-            "2005-02-29",
-            "0000-01-01",
-            "0001-01-01",
-            "9999-12-31",
-            "0004-02-29",
-            "0100-02-29",
-            "0400-02-29",
-            "2010-00-01",
-            "2010-13-01",
-            "2010-01-00",
-            "2010-01-32",
-            "2010-04-31",
-            "2010-06-31",
-            "2010-09-31",
-            "2010-11-31",
-            "2010-02-30",
-            "10000-01-01",
-            "2010-1-01",
-            "2010-01-1",
-            "2010/01/01",
-            "20100101",
-            "+010-01-01",
-            "-001-01-01",
-            "2010-01-01Z",
-            "01-01-2010",
-            "2010-01:01",
-        ],
-        Kind::Time => &[
-            "2010-12-01T00:00:00",
-            "2010-12-01T24:00:00",
-            "2010-12-01T23:60:00",
-            "2010-12-01T23:59:60",
-            "2010-12-01T23:59:59",
-            "2010-12-01T09:30",
-            "2010-12-01T9:30:00",
-            "2010-12-01 09:30:00",
-            "2010-12-01t09:30:00",
-            "2010-12-01T09:30:00z",
-            "2010-12-01T09:30:00.1",
-            "2010-12-01T09:30:00.12",
-            "2010-12-01T09:30:00.123",
-            "2010-12-01T09:30:00.1234",
-            "2010-12-01T09:30:00.",
-            "2010-12-01T09:30:00,123",
-            "2010-12-01T09:30:00+14:00",
-            "2010-12-01T09:30:00+14:01",
-            "2010-12-01T09:30:00-14:00",
-            "2010-12-01T09:30:00-14:59",
-            "2010-12-01T09:30:00+15:00",
-            "2010-12-01T09:30:00-00:00",
-            "2010-12-01T09:30:00+13:60",
-            "2010-12-01T09:30:00+00:59",
-            "2010-12-01T09:30:00+00:60",
-            "2010-12-01T09:30:00+1400",
-            "2010-12-01T09:30:00+14",
-            "2010-12-01T09:30:00+14:00Z",
-            "2010-12-01T09:30:00ZZ",
-            "2010-12-01T09:30:00.123+01:00",
-            "2010-12-01T09:30:00+01:00.123",
-            "2010-12-01",
-            "2010-12-01T",
-            "2010-11-31T09:30:00",
-            "0000-12-01T09:30:00",
-            "2010-12-01T09-30-00",
-            "2010-12-01T09:30:00 01:00",
-            "2010-12-01T09:30:00.12Z",
-            "2010-12-01T09:30:00.Z",
-        ],
-        Kind::Reference => &[
-            "A",
-            "/",
-            "//",
-            "A/",
-            "/A",
-            "A/B",
-            "A//B",
-            "A/B/C",
-            "A B",
-            " A",
-            "A ",
-            "A_B",
-            "A&B",
-            "A#",
-            "A\"",
-            "\u{e9}",
-            "12345678901234567890123456789012345",
-            "123456789012345678901234567890123456",
-            "1234567890123456789012345678901234/",
-            "-?:().,'+",
-            "A;B",
-            "A*B",
-            "A@B",
-            "A[",
-            "A`",
-            "A{",
-        ],
-        Kind::Text70 | Kind::Text140 => &[
-            "A",
-            " ",
-            " A",
-            "A ",
-            "A  B",
-            "/",
-            "//",
-            "/A/",
-            "A_B",
-            "A&amp;B",
-            "\u{e9}",
-            "A\tB",
-            "A\nB",
-            "A\rB",
-            "A\0B",
-            "-",
-            "A>B",
-            "A\"B",
-            "A;",
-            "M\u{fc}ller",
-        ],
-        Kind::Count => &[
-            "0",
-            "00",
-            "1",
-            "01",
-            "999999999999999",
-            "1000000000000000",
-            "0000000000000001",
-            "000000000000001",
-            "-1",
-            "+1",
-            "1.",
-            "1.0",
-            " 1",
-            "1 ",
-            "1,000",
-            "0x1",
-            "a",
-        ],
-        Kind::ItemAmount | Kind::HeaderAmount => &[
-            "0",
-            "0.0",
-            "0.00",
-            "0.01",
-            "0.001",
-            "5.3",
-            "5.30",
-            "5.",
-            ".5",
-            "0005.00",
-            "999999999.99",
-            "1000000000",
-            "1000000000.00",
-            "1000000000.0",
-            "000000999999999.99",
-            "999999999999999",
-            "999999999999999.9",
-            "999999999999999.99",
-            "9999999999999999",
-            "0000000000000000",
-            "0000000000000001",
-            "000000000000001",
-            "000000000000000",
-            "000000000000000.01",
-            "1,00",
-            "1.234",
-            "1.2.3",
-            "1..2",
-            "+1",
-            "-1",
-            "-0.01",
-            "1e3",
-            " 1",
-            "1 ",
-            "1. 5",
-            "1.5 ",
-            "\u{661}",
-            "1000000000.01",
-            "0.1",
-            "0.10",
-            "00.09",
-        ],
-        Kind::Code(_) => &[
-            "CLRG", "SEPA", "CORE", "B2B", "FRST", "RCUR", "FNAL", "OOFF", "SLEV", "CORE ",
-            " CORE", "COR1", "b2b", "sepa", "SEP", "SEPAX", "B2", "B2BX", "SHAR", "INDA", "URGP",
-            "RPRE", "_",
-        ],
-    }
-}
-
 /// A value that is nearly of its kind, or just so.
 pub fn near(kind: Kind, random: &mut Random) -> Vec<u8> {
     match (kind, random.below(5)) {
         (_, 0 | 1) => random.pick(handmade(kind)).as_bytes().to_vec(),
-        // Too long or too short by one or so, the rest right.
-        (Kind::Iban, 2) => {
-            let country = random.bytes(CAPITALS, 2);
-            let length = *random.pick(&[&9, &10, &11, &30, &31, &32]);
-            let body = random.bytes(CAPITALS_DIGITS, length);
-            let check = check_digits(&country, &body);
-            [country, check, body].concat()
-        }
-        (Kind::CreditorId, 2) => {
-            let country = random.bytes(CAPITALS, 2);
-            let length = *random.pick(&[&0, &1, &2, &27, &28, &29]);
-            let national = random.bytes(REFERENCE_SET, length);
-            let check = check_digits(&country, &national);
-            [country, check, b"ZZZ".to_vec(), national].concat()
-        }
-        // The rest is right, but a letter of the body is small, or the country is, or a place of the
-        // business code is no letter or digit.
-        (Kind::Iban, 3) => {
-            let country = random.bytes(LETTERS_DIGITS, 2);
-            let length = random.between(11, 30);
-            let body = random.bytes(LETTERS_DIGITS, length);
-            let check = check_digits(&country, &body);
-            [country, check, body].concat()
-        }
-        (Kind::CreditorId, 3) => {
-            let country = random.bytes(LETTERS_DIGITS, 2);
-            let business = random.bytes(REFERENCE_SET, 3);
-            let length = random.between(1, 28);
-            let national = random.bytes(REFERENCE_SET, length);
-            let check = check_digits(&country, &national);
-            [country, check, business, national].concat()
-        }
+        (Kind::Iban | Kind::CreditorId, 2) => near_length(kind, random),
+        (Kind::Iban | Kind::CreditorId, 3) => near_letters(kind, random),
         (Kind::Iban | Kind::CreditorId, 4) => alias(kind, random),
         (Kind::Reference, 2) => edge(random, b"A/", 33, 37),
         (Kind::Text70, 2) => edge(random, b"A /", 68, 72),
@@ -607,6 +318,33 @@ pub fn near(kind: Kind, random: &mut Random) -> Vec<u8> {
     }
 }
 
+/// An IBAN or an identifier too long or too short by one or so, or just not; the rest is right.
+fn near_length(kind: Kind, random: &mut Random) -> Vec<u8> {
+    let country = random.bytes(CAPITALS, 2);
+    let (set, lengths, business): (_, [&usize; 6], &[u8]) = match kind {
+        Kind::Iban => (CAPITALS_DIGITS, [&9, &10, &11, &30, &31, &32], b""),
+        _ => (REFERENCE_SET, [&0, &1, &2, &27, &28, &29], b"ZZZ"),
+    };
+    let length = *random.pick(&lengths);
+    let body = random.bytes(set, length);
+    let check = check_digits(&country, &body);
+    [&country, &check, business, &body].concat()
+}
+
+/// An IBAN or an identifier that is right but for a letter of the body that is small, or the country
+/// that is none, or a place of the business code that is no letter or digit.
+fn near_letters(kind: Kind, random: &mut Random) -> Vec<u8> {
+    let country = random.bytes(LETTERS_DIGITS, 2);
+    let (set, least, most, business) = match kind {
+        Kind::Iban => (LETTERS_DIGITS, 11, 30, Vec::new()),
+        _ => (REFERENCE_SET, 1, 28, random.bytes(REFERENCE_SET, 3)),
+    };
+    let length = random.between(least, most);
+    let body = random.bytes(set, length);
+    let check = check_digits(&country, &body);
+    [country, check, business, body].concat()
+}
+
 fn edge(random: &mut Random, set: &[u8], least: usize, most: usize) -> Vec<u8> {
     let length = random.between(least, most);
     random.bytes(set, length)
@@ -615,7 +353,7 @@ fn edge(random: &mut Random, set: &[u8], least: usize, most: usize) -> Vec<u8> {
 /// Bytes that a damage sets or puts in.
 pub fn foreign(random: &mut Random) -> u8 {
     match random.below(6) {
-        0 => random.next() as u8,
+        0 => random.bits() as u8,
         1 => random.of(WHITE),
         2 => random.of(b"\0\x01\x1f\x7f\x80\xa0\xbf\xc3\xe9\xff"),
         3 => random.of(b"<>/=\"'&;!?-_.,:+[]@`{}^"),
@@ -662,25 +400,14 @@ pub fn damaged(kind: Kind, random: &mut Random) -> Vec<u8> {
 pub fn random(kind: Kind, random: &mut Random) -> Vec<u8> {
     if random.once_in(20) {
         let length = random.between(0, 40);
-        return (0..length).map(|_| random.next() as u8).collect();
+        return (0..length).map(|_| random.bits() as u8).collect();
     }
     if random.once_in(200) {
         let byte = random.of(b"A0 ./9");
         return vec![byte; random.between(100, 5000)];
     }
     match kind {
-        Kind::Iban => {
-            let length = random.between(9, 32);
-            let set = random.pick(&[DIGITS, CAPITALS_DIGITS, b"01A".as_slice()]);
-            [random.bytes(CAPITALS, 2), random.bytes(DIGITS, 2), random.bytes(set, length)].concat()
-        }
-        Kind::CreditorId => {
-            let length = random.between(0, 30);
-            let set = random.pick(&[DIGITS, REFERENCE_SET, b"/-1a".as_slice()]);
-            let business = random.bytes(LETTERS_DIGITS, 3);
-            let head = [random.bytes(CAPITALS, 2), random.bytes(DIGITS, 2)].concat();
-            [head, business, random.bytes(set, length)].concat()
-        }
+        Kind::Iban | Kind::CreditorId => random_account(kind, random),
         Kind::Bic => {
             let length = random.between(7, 12);
             random.bytes(random_set(&[b"ABNOPZ0129", CAPITALS], length), length)
@@ -699,6 +426,18 @@ pub fn random(kind: Kind, random: &mut Random) -> Vec<u8> {
         Kind::ItemAmount | Kind::HeaderAmount => edge(random, b"0019.", 0, 18),
         Kind::Code(_) => edge(random, b"CORE2BSPA", 0, 5),
     }
+}
+
+/// Two capitals, two digits, and more of the shape of an IBAN or of an identifier.
+fn random_account(kind: Kind, random: &mut Random) -> Vec<u8> {
+    let head = [random.bytes(CAPITALS, 2), random.bytes(DIGITS, 2)].concat();
+    let (least, most, business, sets): (_, _, _, [&[u8]; 3]) = match kind {
+        Kind::Iban => (9, 32, Vec::new(), [DIGITS, CAPITALS_DIGITS, b"01A"]),
+        _ => (0, 30, random.bytes(LETTERS_DIGITS, 3), [DIGITS, REFERENCE_SET, b"/-1a"]),
+    };
+    let length = random.between(least, most);
+    let set = random.pick(&sets);
+    [head, business, random.bytes(set, length)].concat()
 }
 
 fn random_set<'a>(sets: &[&'a [u8]], length: usize) -> &'a [u8] {
@@ -760,24 +499,7 @@ pub fn sweep(seed: u64, mut each: impl FnMut(u64, Case)) {
         let random = &mut Random::new(seed, u64::MAX - at as u64);
         for _ in 0..3 {
             let value = valid(kind, random).bytes;
-            for at in 0..=value.len() {
-                for byte in 0..=255 {
-                    let mut more = value.clone();
-                    more.insert(at, byte);
-                    give(kind, more, "sweep: byte inserted");
-                    if at < value.len() {
-                        let mut other = value.clone();
-                        other[at] = byte;
-                        give(kind, other, "sweep: byte set");
-                    }
-                }
-                if at < value.len() {
-                    let mut less = value.clone();
-                    less.remove(at);
-                    give(kind, less, "sweep: byte left out");
-                }
-                give(kind, value[..at].to_vec(), "sweep: cut");
-            }
+            sweep_places(&value, |bytes, sort| give(kind, bytes, sort));
         }
         for byte in 0..=255 {
             for length in 0..150 {
@@ -788,6 +510,28 @@ pub fn sweep(seed: u64, mut each: impl FnMut(u64, Case)) {
             give(kind, value.as_bytes().to_vec(), "sweep: handmade");
         }
     }
+    sweep_days(&mut give);
+    sweep_times(|bytes| give(Kind::Time, bytes, "sweep: times"));
+}
+
+/// Each place of a value set to each byte, preceded by each byte, left out, and the end.
+fn sweep_places(value: &[u8], mut give: impl FnMut(Vec<u8>, &'static str)) {
+    for at in 0..=value.len() {
+        let (before, after) = value.split_at(at);
+        for byte in 0..=255 {
+            give([before, &[byte], after].concat(), "sweep: byte inserted");
+            if let [_, after @ ..] = after {
+                give([before, &[byte], after].concat(), "sweep: byte set");
+            }
+        }
+        if let [_, after @ ..] = after {
+            give([before, after].concat(), "sweep: byte left out");
+        }
+        give(before.to_vec(), "sweep: cut");
+    }
+}
+
+fn sweep_days(give: &mut impl FnMut(Kind, Vec<u8>, &'static str)) {
     let mut day = |year: usize, month: usize, day: usize| {
         let text = format!("{year:04}-{month:02}-{day:02}");
         give(Kind::Time, format!("{text}T00:00:00").into_bytes(), "sweep: days");
@@ -802,14 +546,16 @@ pub fn sweep(seed: u64, mut each: impl FnMut(u64, Case)) {
     for year in [0, 1, 4, 1900, 2000, 2010, 2012, 9999] {
         (0..100).for_each(|month| (0..100).for_each(|d| day(year, month, d)));
     }
-    let mut time = |text: String| give(Kind::Time, text.into_bytes(), "sweep: times");
+}
+
+fn sweep_times(mut give: impl FnMut(Vec<u8>)) {
     for two in 0..100 {
-        time(format!("2010-12-01T{two:02}:00:00"));
-        time(format!("2010-12-01T00:{two:02}:00"));
-        time(format!("2010-12-01T00:00:{two:02}"));
+        give(format!("2010-12-01T{two:02}:00:00").into_bytes());
+        give(format!("2010-12-01T00:{two:02}:00").into_bytes());
+        give(format!("2010-12-01T00:00:{two:02}").into_bytes());
         for minutes in 0..100 {
             for sign in ["+", "-", ".000+", ".999-"] {
-                time(format!("2010-12-01T12:00:00{sign}{two:02}:{minutes:02}"));
+                give(format!("2010-12-01T12:00:00{sign}{two:02}:{minutes:02}").into_bytes());
             }
         }
     }
@@ -828,25 +574,8 @@ fn slip_places(kind: Kind, length: usize) -> Vec<usize> {
 /// worth, or its rest by 97. Answers false where the value has no such place.
 pub fn slip(kind: Kind, bytes: &mut [u8], random: &mut Random) -> bool {
     let places = slip_places(kind, bytes.len());
-    let small = |byte: u8| byte.to_ascii_lowercase();
-    if random.once_in(2) {
-        // Two neighbours of one sort; behind position 7 of an identifier they lie beside each other.
-        let pairs: Vec<usize> = places
-            .iter()
-            .copied()
-            .filter(|&at| places.contains(&(at + 1)))
-            .filter(|&at| {
-                let (one, other) = (bytes[at], bytes[at + 1]);
-                let digits = one.is_ascii_digit() && other.is_ascii_digit();
-                let letters = one.is_ascii_alphabetic() && other.is_ascii_alphabetic();
-                (digits || letters) && small(one) != small(other)
-            })
-            .collect();
-        if !pairs.is_empty() {
-            let at = pairs[random.below(pairs.len())];
-            bytes.swap(at, at + 1);
-            return true;
-        }
+    if random.once_in(2) && exchange(bytes, &places, random) {
+        return true;
     }
     let singles: Vec<usize> =
         places.into_iter().filter(|&at| bytes[at].is_ascii_alphanumeric()).collect();
@@ -865,5 +594,27 @@ pub fn slip(kind: Kind, bytes: &mut [u8], random: &mut Random) -> bool {
     while bytes[at] == old {
         bytes[at] = random.of(set);
     }
+    true
+}
+
+/// Two unequal neighbours of one sort exchanged, both at these places; behind position 7 of an
+/// identifier they lie beside each other.
+fn exchange(bytes: &mut [u8], places: &[usize], random: &mut Random) -> bool {
+    let pairs: Vec<usize> = places
+        .iter()
+        .copied()
+        .filter(|&at| places.contains(&(at + 1)))
+        .filter(|&at| {
+            let (one, other) = (bytes[at], bytes[at + 1]);
+            let digits = one.is_ascii_digit() && other.is_ascii_digit();
+            let letters = one.is_ascii_alphabetic() && other.is_ascii_alphabetic();
+            (digits || letters) && !one.eq_ignore_ascii_case(&other)
+        })
+        .collect();
+    if pairs.is_empty() {
+        return false;
+    }
+    let at = pairs[random.below(pairs.len())];
+    bytes.swap(at, at + 1);
     true
 }

@@ -1,95 +1,165 @@
-//! `plain` alone over generated messages and values: what is known of each from its making, and the
-//! slow judge's answer. Needs no library. (`differ self N SEED` is the same over more cases.)
+//! The generator makes what it promises: without these a run without differences would say little.
 
 use differ::damage::{self, Known};
-use differ::message::{accepted, Plan};
-use differ::random::Random;
-use differ::slow::{self, Slow};
-use differ::value;
-use plain::Verdict;
+use differ::message::{Message, What};
+use differ::value::{Kind, WHITE};
+use differ::{slips, sweep};
+use std::collections::{BTreeMap, BTreeSet};
 
-fn is_known(verdict: Verdict, known: Known) -> bool {
-    match (known, verdict) {
-        (Known::Accepted { count, cents }, v) => v == Verdict::Accepted { count, cents },
-        (Known::Refused { number, place }, v) => v == Verdict::Refused { number, place },
-        (Known::Bad, v) => matches!(v, Verdict::Refused { .. }),
-        (Known::Nothing, _) => true,
-    }
+/// The first messages that the gate's run of seed 1 is made from.
+fn messages() -> impl Iterator<Item = Message> {
+    (0..6_000).map(|case| damage::message(1, case).0)
 }
 
-fn slow_verdict(slow: &Slow, message: &[u8]) -> Verdict {
-    match slow.judge(message) {
-        Ok((count, cents, _)) => Verdict::Accepted { count, cents },
-        Err((number, place)) => Verdict::Refused { number, place },
-    }
-}
-
-fn hold(case: &damage::Case, number: u64, slow: &Slow) {
-    let verdict = plain::judge(&case.bytes);
-    let text = case.bytes.escape_ascii();
-    assert!(
-        is_known(verdict, case.known),
-        "{number} {} {verdict:?} {:?}\n{text}",
-        case.damage,
-        case.known
-    );
-    assert_eq!(verdict, slow_verdict(slow, &case.bytes), "{number} {}\n{text}", case.damage);
-}
+/// Every element with a value, and the shortest and longest value that the paper allows there.
+const LENGTHS: [(&str, usize, usize); 22] = [
+    ("MsgId", 1, 35),
+    ("CreDtTm", 19, 29),
+    ("NbOfTxs", 1, 15),
+    ("TtlIntrBkSttlmAmt", 1, 18),
+    ("IntrBkSttlmDt", 10, 10),
+    ("SttlmMtd", 4, 4),
+    ("BIC", 8, 11),
+    ("InstrId", 1, 35),
+    ("EndToEndId", 1, 35),
+    ("TxId", 1, 35),
+    ("Cd", 3, 4),
+    ("SeqTp", 4, 4),
+    ("IntrBkSttlmAmt", 1, 18),
+    ("ChrgBr", 4, 4),
+    ("ReqdColltnDt", 10, 10),
+    ("MndtId", 1, 35),
+    ("DtOfSgntr", 10, 10),
+    ("Id", 8, 35),
+    ("Prtry", 4, 4),
+    ("Nm", 1, 70),
+    ("IBAN", 15, 34),
+    ("Ustrd", 1, 140),
+];
 
 #[test]
-fn accepted_messages_are_accepted() {
-    for number in 0..3000 {
-        let random = &mut Random::new(11, number);
-        let plan = Plan::by_chance(random, 20);
-        let message = accepted(&plan, random);
-        let bytes = message.bytes();
-        let verdict = Verdict::Accepted { count: message.count, cents: message.cents };
-        assert_eq!(plain::judge(&bytes), verdict, "{}", bytes.escape_ascii());
-        for (i, place) in message.item_places().into_iter().enumerate() {
-            assert_eq!(plain::item(&bytes, i as u64), Ok(place));
+fn shortest_and_longest_values_of_every_element() {
+    let mut lengths: BTreeMap<&str, (usize, usize)> = BTreeMap::new();
+    for message in messages() {
+        for part in &message.parts {
+            if let What::Value(_) = part.what {
+                let seen = lengths.entry(part.name).or_insert((usize::MAX, 0));
+                *seen = (seen.0.min(part.bytes.len()), seen.1.max(part.bytes.len()));
+            }
         }
-        assert_eq!(plain::item(&bytes, message.count), Err((18, 0)));
-        let mut area = vec![0xAA; 256 * message.records.len() + 5];
-        assert_eq!(plain::records(&bytes, &mut area), verdict);
-        assert_eq!(area, [message.records.concat(), vec![0xAA; 5]].concat());
+    }
+    let promised: BTreeMap<&str, (usize, usize)> =
+        LENGTHS.into_iter().map(|(name, least, most)| (name, (least, most))).collect();
+    assert_eq!(lengths, promised);
+}
+
+#[test]
+fn every_code_and_leading_zeros() {
+    let mut codes = BTreeSet::new();
+    let mut zeros = BTreeSet::new();
+    for message in messages() {
+        for part in &message.parts {
+            match part.what {
+                What::Value(Kind::Code(_)) => drop(codes.insert((part.name, part.bytes.clone()))),
+                What::Value(Kind::Count | Kind::ItemAmount | Kind::HeaderAmount)
+                    if part.bytes.len() > 1 && part.bytes[0] == b'0' && part.bytes[1] != b'.' =>
+                {
+                    zeros.insert(part.name);
+                }
+                _ => {}
+            }
+        }
+    }
+    let codes: Vec<String> =
+        codes.into_iter().map(|(name, code)| format!("{name} {}", code.escape_ascii())).collect();
+    assert_eq!(
+        codes,
+        [
+            "Cd B2B",
+            "Cd CORE",
+            "Cd SEPA",
+            "ChrgBr SLEV",
+            "Prtry SEPA",
+            "SeqTp FNAL",
+            "SeqTp FRST",
+            "SeqTp OOFF",
+            "SeqTp RCUR",
+            "SttlmMtd CLRG",
+        ]
+    );
+    let zeros: Vec<&str> = zeros.into_iter().collect();
+    assert_eq!(zeros, ["IntrBkSttlmAmt", "NbOfTxs", "TtlIntrBkSttlmAmt"]);
+}
+
+/// InstrId and RmtInf in each combination; each kind of white space before each tag that may have
+/// it, behind the declaration and at the end.
+#[test]
+fn every_option_and_white_space_everywhere() {
+    let mut options = BTreeSet::new();
+    let mut before = BTreeSet::new();
+    let mut tags = BTreeSet::new();
+    for message in messages() {
+        for &(first, after) in &message.items {
+            let has = |name| message.parts[first..after].iter().any(|part| part.name == name);
+            options.insert((has("InstrId"), has("RmtInf")));
+        }
+        let mut last = What::White;
+        for (at, part) in message.parts.iter().enumerate() {
+            let beside_value = matches!(last, What::Value(_)) && part.what == What::End;
+            if matches!(part.what, What::Start | What::End) && !beside_value {
+                tags.insert(part.bytes.clone());
+            }
+            if part.what == What::White {
+                let next = message.parts.get(at + 1).map(|next| next.bytes.clone());
+                before.extend(part.bytes.iter().map(|&white| (white, next.clone())));
+            }
+            last = part.what;
+        }
+    }
+    assert_eq!(options.len(), 4);
+    for &white in WHITE {
+        for tag in &tags {
+            let text = tag.escape_ascii();
+            assert!(before.contains(&(white, Some(tag.clone()))), "{white} before {text}");
+        }
+        assert!(before.contains(&(white, None)), "{white} at the end");
     }
 }
 
 #[test]
-fn damaged_messages_are_refused_as_known() {
-    let slow = Slow::new();
-    for number in 0..20_000 {
-        hold(&damage::case(12, number), number, &slow);
+fn every_damage_and_every_number() {
+    let mut damages = BTreeSet::new();
+    let mut numbers = BTreeSet::new();
+    for case in (0..6_000).map(|case| damage::case(1, case)) {
+        damages.insert(case.damage);
+        if let plain::Verdict::Refused { number, .. } = plain::judge(&case.bytes) {
+            numbers.insert(number);
+        }
     }
+    let missing: Vec<&str> = damage::ways().filter(|way| !damages.contains(way)).collect();
+    assert!(missing.is_empty(), "{missing:?}");
+    // 1 and 12 are met at the limits; 13 no message reaches.
+    assert_eq!(numbers.into_iter().collect::<Vec<u8>>(), [2, 3, 4, 6, 7, 8, 9, 10, 11, 14, 15, 16]);
+    let mut at_limits = BTreeSet::new();
+    sweep::limits(|_, case| {
+        if let Known::Refused { number, .. } = case.known {
+            at_limits.insert(number);
+        }
+    });
+    assert!(at_limits.contains(&1) && at_limits.contains(&12), "{at_limits:?}");
 }
 
+/// The same seed gives the same case, and every slip is known to be refused.
 #[test]
-fn small_messages_swept() {
-    let slow = Slow::new();
-    damage::sweep(13, |number, case| hold(&case, number, &slow));
-}
-
-#[test]
-fn values_as_known() {
-    let hold = |case: value::Case| {
-        let answer = match case.kind {
-            value::Kind::Iban => plain::iban(&case.bytes),
-            value::Kind::CreditorId => plain::creditor_id(&case.bytes),
-            value::Kind::Bic => plain::bic(&case.bytes),
-            value::Kind::Date => plain::date(&case.bytes),
-            value::Kind::Time => plain::time(&case.bytes),
-            value::Kind::Reference => plain::reference(&case.bytes),
-            value::Kind::Text70 => plain::text70(&case.bytes),
-            value::Kind::Text140 => plain::text140(&case.bytes),
-            value::Kind::Count => plain::count(&case.bytes),
-            value::Kind::ItemAmount => plain::item_amount(&case.bytes),
-            value::Kind::HeaderAmount => plain::header_amount(&case.bytes),
-            value::Kind::Code(_) => unreachable!(),
-        };
-        let text = case.bytes.escape_ascii();
-        assert_eq!(answer, slow::check(case.kind, &case.bytes), "{:?} {text}", case.kind);
-        assert!(case.known.is_none_or(|known| known == answer), "{:?} {text}", case.kind);
-    };
-    (0..100_000).for_each(|number| hold(value::case(14, number)));
-    value::sweep(14, |_, case| hold(case));
+fn cases_can_be_made_again() {
+    for number in 0..200 {
+        assert_eq!(damage::case(3, number).bytes, damage::case(3, number).bytes);
+    }
+    let mut slipped = Vec::new();
+    slips::slips(3, 5, |number, case| slipped.push((number, case.bytes, case.known)));
+    assert!(slipped.iter().all(|(_, _, known)| matches!(known, Known::Refused { .. })));
+    let mut again = slipped.into_iter();
+    slips::slips(3, 5, |number, case| {
+        assert_eq!(again.next(), Some((number, case.bytes, case.known)));
+    });
 }

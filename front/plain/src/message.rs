@@ -85,18 +85,7 @@ pub fn read<'m, const ACCEPTED: bool>(
         next = cursor.first_of(ITEM, b"</FIToFICstmrDrctDbt>")?;
     }
 
-    cursor.tag(b"</Document>")?;
-    cursor.white_space();
-    // "After `</Document>`: 16, 14, 15".
-    if !cursor.rest.is_empty() {
-        return Err((number::AFTER, cursor.place()));
-    }
-    if header.count != items as u64 {
-        return Err((number::COUNT, header.count_place));
-    }
-    if header.total != sum {
-        return Err((number::TOTAL, header.total_place));
-    }
+    cursor.ending(&header, items as u64, sum)?;
     Ok((items as u64, sum))
 }
 
@@ -265,6 +254,22 @@ impl<'m, const ACCEPTED: bool> Cursor<'m, ACCEPTED> {
         self.fixed(ROOT, number::ROOT)
     }
 
+    /// "After `</Document>`: 16, 14, 15", for a message of so many items and this sum.
+    fn ending(&mut self, header: &Header, items: u64, sum: u64) -> Result<(), Refusal> {
+        self.tag(b"</Document>")?;
+        self.white_space();
+        if !self.rest.is_empty() {
+            return Err((number::AFTER, self.place()));
+        }
+        if header.count != items {
+            return Err((number::COUNT, header.count_place));
+        }
+        if header.total != sum {
+            return Err((number::TOTAL, header.total_place));
+        }
+        Ok(())
+    }
+
     /// "GrpHdr: MsgId, CreDtTm, NbOfTxs, TtlIntrBkSttlmAmt, IntrBkSttlmDt, SttlmInf/SttlmMtd,
     /// InstgAgt/FinInstnId/BIC"
     fn group_header(&mut self) -> Result<Header, Refusal> {
@@ -315,25 +320,8 @@ impl<'m, const ACCEPTED: bool> Cursor<'m, ACCEPTED> {
         let collection_date = self.element(b"<ReqdColltnDt>", date, b"</ReqdColltnDt>")?.bytes;
         let (mandate, creditor_id) = self.direct_debit()?;
 
-        self.tag(b"<Cdtr>")?;
-        self.element(b"<Nm>", text70, b"</Nm>")?;
-        self.tag(b"</Cdtr>")?;
-        self.tag(b"<CdtrAcct>")?;
-        let creditor_iban = self.account()?;
-        self.tag(b"</CdtrAcct>")?;
-        self.tag(b"<CdtrAgt>")?;
-        let creditor_bic = self.financial_institution()?;
-        self.tag(b"</CdtrAgt>")?;
-
-        self.tag(b"<Dbtr>")?;
-        self.element(b"<Nm>", text70, b"</Nm>")?;
-        self.tag(b"</Dbtr>")?;
-        self.tag(b"<DbtrAcct>")?;
-        let debtor_iban = self.account()?;
-        self.tag(b"</DbtrAcct>")?;
-        self.tag(b"<DbtrAgt>")?;
-        let debtor_bic = self.financial_institution()?;
-        self.tag(b"</DbtrAgt>")?;
+        let (creditor_iban, creditor_bic) = self.creditor()?;
+        let (debtor_iban, debtor_bic) = self.debtor()?;
 
         // "RmtInf/Ustrd (0 or 1)"
         if self.first_of(b"<RmtInf>", ITEM_END)?.is_some() {
@@ -433,6 +421,36 @@ impl<'m, const ACCEPTED: bool> Cursor<'m, ACCEPTED> {
         self.tag(b"</CdtrSchmeId>")?;
         self.tag(b"</DrctDbtTx>")?;
         Ok((mandate, identifier))
+    }
+
+    /// "Cdtr/Nm, CdtrAcct/Id/IBAN, CdtrAgt/FinInstnId/BIC". Answers the last two.
+    #[inline]
+    fn creditor(&mut self) -> Result<(&'m [u8], &'m [u8]), Refusal> {
+        self.tag(b"<Cdtr>")?;
+        self.element(b"<Nm>", text70, b"</Nm>")?;
+        self.tag(b"</Cdtr>")?;
+        self.tag(b"<CdtrAcct>")?;
+        let account = self.account()?;
+        self.tag(b"</CdtrAcct>")?;
+        self.tag(b"<CdtrAgt>")?;
+        let agent = self.financial_institution()?;
+        self.tag(b"</CdtrAgt>")?;
+        Ok((account, agent))
+    }
+
+    /// "Dbtr/Nm, DbtrAcct/Id/IBAN, DbtrAgt/FinInstnId/BIC". Answers the last two.
+    #[inline]
+    fn debtor(&mut self) -> Result<(&'m [u8], &'m [u8]), Refusal> {
+        self.tag(b"<Dbtr>")?;
+        self.element(b"<Nm>", text70, b"</Nm>")?;
+        self.tag(b"</Dbtr>")?;
+        self.tag(b"<DbtrAcct>")?;
+        let account = self.account()?;
+        self.tag(b"</DbtrAcct>")?;
+        self.tag(b"<DbtrAgt>")?;
+        let agent = self.financial_institution()?;
+        self.tag(b"</DbtrAgt>")?;
+        Ok((account, agent))
     }
 
     /// "Id/IBAN" of CdtrAcct and DbtrAcct.

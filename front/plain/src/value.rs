@@ -164,7 +164,7 @@ pub fn time(value: &[u8]) -> Result<u64, u8> {
 
 #[inline]
 fn is_time(value: &[u8]) -> Option<bool> {
-    let (day, after) = value.split_at_checked(10)?;
+    let (day, after) = value.split_first_chunk::<10>()?;
     let &[b'T', h1, h2, b':', m1, m2, b':', s1, s2, ref after @ ..] = after else {
         return None;
     };

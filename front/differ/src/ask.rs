@@ -1,0 +1,316 @@
+//! The questions: the library, the plain judge, the slow judge and what is known of a case are held
+//! against each other, and the laws that the library's proofs state are tried on the compiled code.
+
+use crate::damage::{Case, Known};
+use crate::face::{self, Words};
+use crate::random::Random;
+use crate::slow::{self, Slow};
+use crate::tally::{Name, Tally};
+use crate::value::{self, Kind};
+use plain::Verdict;
+
+/// A verdict as the C face tells it.
+pub fn verdict_words(verdict: Verdict) -> Words {
+    match verdict {
+        Verdict::Accepted { count, cents } => [0, count, cents],
+        Verdict::Refused { number, place } => [u64::from(number), place as u64, 0],
+    }
+}
+
+/// An item's extent as the C face tells it.
+fn item_words(extent: Result<(usize, usize), (u8, usize)>) -> Words {
+    match extent {
+        Ok((start, end)) => [0, start as u64, end as u64],
+        Err((number, place)) => [u64::from(number), place as u64, 0],
+    }
+}
+
+/// The plain judge's single checker of a kind.
+pub fn plain_check(kind: Kind, value: &[u8]) -> Result<u64, u8> {
+    match kind {
+        Kind::Iban => plain::iban(value),
+        Kind::CreditorId => plain::creditor_id(value),
+        Kind::Bic => plain::bic(value),
+        Kind::Date => plain::date(value),
+        Kind::Time => plain::time(value),
+        Kind::Reference => plain::reference(value),
+        Kind::Text70 => plain::text70(value),
+        Kind::Text140 => plain::text140(value),
+        Kind::Count => plain::count(value),
+        Kind::ItemAmount => plain::item_amount(value),
+        Kind::HeaderAmount => plain::header_amount(value),
+        Kind::Code(_) => panic!("a code has no single checker"),
+    }
+}
+
+/// A message of which each question takes long, so that fewer are asked.
+fn is_large(bytes: &[u8]) -> bool {
+    bytes.len() > 1_000_000
+}
+
+/// The questions about one case after another.
+pub struct Asker {
+    pub tally: Tally,
+    slow: Slow,
+}
+
+impl Asker {
+    pub fn new(what: String) -> Asker {
+        Asker { tally: Tally::new(what), slow: Slow::new() }
+    }
+
+    /// One value: its single checker.
+    pub fn value(&mut self, name: &Name, case: &value::Case) {
+        let words = |answer: Result<u64, u8>| match answer {
+            Ok(worth) => [0, worth, 0],
+            Err(refusal) => [u64::from(refusal), 0, 0],
+        };
+        let (bytes, question) = (&case.bytes, || format!("{:?}", case.kind));
+        let library = face::check(case.kind, bytes);
+        self.tally.met(library[0]);
+        let others = [
+            ("plain", Some(plain_check(case.kind, bytes))),
+            ("slow", Some(slow::check(case.kind, bytes))),
+            ("known", case.known),
+        ];
+        for (who, answer) in others {
+            if let Some(answer) = answer.map(words) {
+                self.tally.hold(name, &question, bytes, ("library", &library), (who, &answer));
+            }
+        }
+    }
+
+    /// The judge: the library, the plain judge, what is known, and the law of the first fault.
+    pub fn quickly(&mut self, name: &Name, case: &Case) -> Words {
+        let bytes = &case.bytes;
+        let library = face::judge(bytes);
+        let plain = verdict_words(plain::judge(bytes));
+        self.tally.met(library[0]);
+        let question = || "judge".to_string();
+        self.tally.hold(name, &question, bytes, ("library", &library), ("plain", &plain));
+        let known = match case.known {
+            Known::Accepted { count, cents } => Some([0, count, cents]),
+            Known::Refused { number, place } => Some([u64::from(number), place as u64, 0]),
+            Known::Bad | Known::Nothing => None,
+        };
+        if let Some(known) = known {
+            self.tally.hold(name, &question, bytes, ("library", &library), ("known", &known));
+        }
+        if case.known == Known::Bad {
+            let refused = library[0] != 0;
+            let question = || "is it refused?".to_string();
+            self.tally.hold(name, &question, bytes, ("library", &refused), ("known", &true));
+        }
+        self.first_fault(name, bytes, library);
+        library
+    }
+
+    /// "The first fault met ends it": for a refusal 2 to 13 at place p, the first p bytes alone are
+    /// refused with 3 at p, so all before p was still in order. The bytes behind p stay where they
+    /// are: whoever read past the end would meet them. The judge gives no number of others.
+    fn first_fault(&mut self, name: &Name, bytes: &[u8], [number, place, last]: Words) {
+        let may_come = matches!(number, 0..=4 | 6..=12 | 14..=16)
+            && (number == 0 || (place <= bytes.len() as u64 && last == 0))
+            && (number != 3 || place == bytes.len() as u64);
+        let question = || format!("may the judge answer {number} {place} {last}?");
+        self.tally.hold(name, &question, bytes, ("library", &may_come), ("law", &true));
+        if may_come && (2..=13).contains(&number) {
+            let before = &bytes[..place as usize];
+            let law = [3, place, 0];
+            let question = || format!("judge, the first {place} bytes alone");
+            let library = face::judge(before);
+            self.tally.hold(name, &question, bytes, ("library", &library), ("law", &law));
+            let plain = verdict_words(plain::judge(before));
+            self.tally.hold(name, &question, bytes, ("plain", &plain), ("law", &law));
+        }
+    }
+
+    /// All that is asked of a message but its records: the judge, also the slow one, where the items
+    /// lie, and the law of the names.
+    pub fn message(&mut self, name: &Name, case: &Case) {
+        let library = self.quickly(name, case);
+        self.slowly(name, case, library);
+        self.items(name, case, library);
+        self.names(name, case, library);
+    }
+
+    /// The slow judge: the verdict, and where each item lies.
+    pub fn slowly(&mut self, name: &Name, case: &Case, library: Words) {
+        let bytes = &case.bytes;
+        let answer = self.slow.judge(bytes);
+        let words = match &answer {
+            Ok((count, cents, _)) => [0, *count, *cents],
+            Err((number, place)) => [u64::from(*number), *place as u64, 0],
+        };
+        let question = || "judge".to_string();
+        self.tally.hold(name, &question, bytes, ("library", &library), ("slow", &words));
+        let Ok((_, _, items)) = answer else { return };
+        if !case.items.is_empty() {
+            let question = || "where each item lies".to_string();
+            self.tally.hold(name, &question, bytes, ("slow", &items), ("known", &case.items));
+        }
+        let asked = if is_large(bytes) { 1 } else { 40 };
+        for (i, &place) in items.iter().enumerate().take(asked) {
+            let (library, slow) = (face::item(bytes, i as u64), item_words(Ok(place)));
+            let question = || format!("item {i}");
+            self.tally.hold(name, &question, bytes, ("library", &library), ("slow", &slow));
+        }
+    }
+
+    /// Where the items lie: the first, the last, one between, and those that are not there.
+    fn items(&mut self, name: &Name, case: &Case, [number, count, _]: Words) {
+        let mut asked = vec![name.number % 3];
+        if number == 0 && is_large(&case.bytes) {
+            asked = vec![count / 2, count - 1, count];
+        } else if number == 0 {
+            asked.extend([0, name.number % count, count / 2, count - 1, count, count + 1, 1 << 32]);
+            asked.push(u64::MAX);
+        }
+        asked.sort_unstable();
+        asked.dedup();
+        for i in asked {
+            let (library, plain) =
+                (face::item(&case.bytes, i), item_words(plain::item(&case.bytes, i)));
+            let question = || format!("item {i}");
+            self.tally.hold(name, &question, &case.bytes, ("library", &library), ("plain", &plain));
+            if number == 0 && i >= count {
+                let known = [18, 0, 0];
+                let known = ("known", &known);
+                self.tally.hold(name, &question, &case.bytes, ("library", &library), known);
+            }
+        }
+    }
+
+    /// "A legal Nm or Ustrd replaced by another legal one of equal length alters no answer and no
+    /// record byte", in refused messages too.
+    fn names(&mut self, name: &Name, case: &Case, library: Words) {
+        let random = &mut Random::new(name.seed ^ 0x4E6D, name.number);
+        let Some(other) = other_names(&case.bytes, random) else { return };
+        let bytes = &case.bytes;
+        let question = || "judge, with other names".to_string();
+        let answer = face::judge(&other);
+        self.tally.hold(name, &question, bytes, ("as it is", &library), ("other names", &answer));
+        if is_large(bytes) && library[0] != 0 {
+            return;
+        }
+        let question = || "item 0, with other names".to_string();
+        let answers = (face::item(bytes, 0), face::item(&other, 0));
+        let (one, two) = (("as it is", &answers.0), ("other names", &answers.1));
+        self.tally.hold(name, &question, bytes, one, two);
+        let room = if library[0] == 0 { 256 * library[1] as usize } else { 256 };
+        let (mut one, mut two) = (vec![0xAA; room], vec![0xAA; room]);
+        let question = || "records, with other names".to_string();
+        let answers = (face::records(bytes, &mut one), face::records(&other, &mut two));
+        let words = (("as it is", &answers.0), ("other names", &answers.1));
+        self.tally.hold(name, &question, bytes, words.0, words.1);
+        let areas = (("as it is", one.as_slice()), ("other names", two.as_slice()));
+        self.tally.hold_areas(name, &question, bytes, areas.0, areas.1);
+    }
+
+    /// The records into areas of all sizes, each between bytes that must stay.
+    pub fn records(&mut self, name: &Name, case: &Case, lengths: &[usize]) {
+        let bytes = &case.bytes;
+        let verdict = plain::judge(bytes);
+        let before = bytes.clone();
+        for &length in lengths {
+            let lent = Area::new(length, name.number);
+            let (words, written) = self.expected(name, case, verdict, &lent);
+            let mut area = lent.clone();
+            let library = face::records(bytes, area.area());
+            let question = || format!("records, area of {length}");
+            self.tally.hold(name, &question, bytes, ("library", &library), ("expected", &words));
+            let question = || format!("the area of {length}, from {} bytes before it", lent.before);
+            let areas = (("library", &area.bytes[..]), ("expected", &written.bytes[..]));
+            self.tally.hold_areas(name, &question, bytes, areas.0, areas.1);
+        }
+        let question = || "the message after its records".to_string();
+        self.tally.hold_areas(name, &question, bytes, ("after", bytes), ("before", &before));
+    }
+
+    /// What the records must answer and leave in a lent area: by the plain judge, which is itself
+    /// held against the records that are known of the message, and against a refusal's "as lent".
+    fn expected(
+        &mut self,
+        name: &Name,
+        case: &Case,
+        verdict: Verdict,
+        lent: &Area,
+    ) -> (Words, Area) {
+        let mut area = lent.clone();
+        let length = area.area().len();
+        let plain = verdict_words(plain::records(&case.bytes, area.area()));
+        let mut known = lent.clone();
+        let words = match verdict {
+            Verdict::Accepted { count, .. } if (length as u64) < 256 * count => [17, 0, 0],
+            verdict => verdict_words(verdict),
+        };
+        if words[0] == 0 {
+            let records = match case.records.is_empty() {
+                true => area.area()[..256 * words[1] as usize].to_vec(),
+                false => case.records.clone(),
+            };
+            known.area()[..records.len()].copy_from_slice(&records);
+        }
+        let bytes = &case.bytes;
+        let question = || format!("records, area of {length}");
+        self.tally.hold(name, &question, bytes, ("plain", &plain), ("known", &words));
+        let areas = (("plain", &area.bytes[..]), ("known", &known.bytes[..]));
+        self.tally.hold_areas(name, &question, bytes, areas.0, areas.1);
+        (words, known)
+    }
+}
+
+/// The message with each legal Nm and Ustrd replaced by another of equal length, if it has one.
+pub fn other_names(bytes: &[u8], random: &mut Random) -> Option<Vec<u8>> {
+    let mut other = bytes.to_vec();
+    for (tag, kind) in [(b"<Nm>".as_slice(), Kind::Text70), (b"<Ustrd>".as_slice(), Kind::Text140)]
+    {
+        let mut at = 0;
+        while let Some(found) = bytes[at..].windows(tag.len()).position(|w| w == tag) {
+            at += found + tag.len();
+            let Some(length) = bytes[at..].iter().position(|&b| b == b'<') else { break };
+            if slow::check(kind, &bytes[at..at + length]).is_ok() {
+                let text = value::text_of_length(random, length);
+                other[at..at + length].copy_from_slice(&text);
+            }
+        }
+    }
+    (other != bytes).then_some(other)
+}
+
+/// An area to lend, with bytes before and behind it, all of a pattern that no record has.
+#[derive(Clone)]
+struct Area {
+    bytes: Vec<u8>,
+    before: usize,
+}
+
+impl Area {
+    const BEHIND: usize = 300;
+
+    /// It begins at any place of a word, by the seed.
+    fn new(length: usize, seed: u64) -> Area {
+        let before = 64 + (seed % 16) as usize;
+        let bytes = (0..before + length + Area::BEHIND)
+            .map(|at| (at as u8).wrapping_mul(37).wrapping_add(seed as u8) | 0x80)
+            .collect();
+        Area { bytes, before }
+    }
+
+    fn area(&mut self) -> &mut [u8] {
+        let end = self.bytes.len() - Area::BEHIND;
+        &mut self.bytes[self.before..end]
+    }
+}
+
+/// The lengths of areas that a message of so many items is asked with: none, one record and one byte
+/// less or more, the room that is wanted and one byte or one record less or more, any.
+pub fn area_lengths(items: usize, random: &mut Random) -> Vec<usize> {
+    let exact = 256 * items;
+    let any = random.between(0, 2 * exact);
+    let mut lengths = vec![0, 1, 255, 256, 257, any, exact + random.between(2, 600)];
+    lengths.extend([exact - 256, exact - 1, exact, exact + 1, exact + 255, exact + 256]);
+    lengths.sort_unstable();
+    lengths.dedup();
+    lengths
+}
