@@ -1,8 +1,8 @@
 //! `check`: one single checker.
 
-use crate::face::{self, Kind};
 use crate::say::{self, put, Language, Trouble};
 use crate::{judge, pages, read, Call, Status};
+use face::Kind;
 use std::ffi::OsStr;
 use std::os::unix::ffi::OsStrExt;
 

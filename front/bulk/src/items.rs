@@ -3,7 +3,7 @@
 use crate::judge::{self, Verdict};
 use crate::records::{self, Record};
 use crate::say::{put, tell, Language, Trouble};
-use crate::{euro, face, place, read, Call, Status};
+use crate::{euro, place, read, Call, Status};
 use std::ffi::OsStr;
 
 type Row = [String; 7];

@@ -1,9 +1,9 @@
 //! `judge`: one line a file.
 
-use crate::face::{self, Kind};
 use crate::place::{self, Found};
 use crate::say::{self, Language, Trouble};
 use crate::{euro, pages, read, Call, Status};
+use face::Kind;
 use std::ffi::OsStr;
 
 /// The most bytes of a value that are shown.

@@ -1,10 +1,9 @@
 //! The command `bulk`: its words, its verbs, its exit status.
 
-#![deny(unsafe_code)]
+#![forbid(unsafe_code)]
 
 mod check;
 mod euro;
-mod face;
 mod items;
 mod judge;
 mod pages;

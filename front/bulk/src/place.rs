@@ -2,7 +2,7 @@
 //! It judges nothing. The judge has told that everything before the place is in order, so a stack of
 //! the tags before it is the element it lies in.
 
-use crate::face::{self, Kind};
+use face::Kind;
 
 pub const ITEM: &[u8] = b"<DrctDbtTxInf>";
 const TX_ID: &[u8] = b"<TxId>";

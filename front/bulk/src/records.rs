@@ -2,7 +2,7 @@
 
 use crate::judge::{self, Verdict};
 use crate::say::{self, put, Language, Trouble};
-use crate::{face, read, Call, Status};
+use crate::{read, Call, Status};
 use std::ffi::{OsStr, OsString};
 use std::fs::{self, File, Metadata, OpenOptions};
 use std::io::{self, Write};

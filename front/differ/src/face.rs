@@ -1,85 +1,23 @@
-//! The C face of the library under test. The only module with unsafe code; its functions are safe:
-//! each lends a slice for the call, and three words for the answer.
-
-#![allow(unsafe_code)]
+//! The library under test, asked by the kinds of these tests.
 
 use crate::value::Kind;
-
-/// The three words of an answer.
-pub type Words = [u64; 3];
-
-type Checker = unsafe extern "C" fn(*const u8, usize, *mut u64);
-
-extern "C" {
-    fn bulk_iban(p: *const u8, n: usize, answer: *mut u64);
-    fn bulk_creditor_id(p: *const u8, n: usize, answer: *mut u64);
-    fn bulk_bic(p: *const u8, n: usize, answer: *mut u64);
-    fn bulk_date(p: *const u8, n: usize, answer: *mut u64);
-    fn bulk_time(p: *const u8, n: usize, answer: *mut u64);
-    fn bulk_reference(p: *const u8, n: usize, answer: *mut u64);
-    fn bulk_text70(p: *const u8, n: usize, answer: *mut u64);
-    fn bulk_text140(p: *const u8, n: usize, answer: *mut u64);
-    fn bulk_count(p: *const u8, n: usize, answer: *mut u64);
-    fn bulk_item_amount(p: *const u8, n: usize, answer: *mut u64);
-    fn bulk_header_amount(p: *const u8, n: usize, answer: *mut u64);
-    fn bulk_judge(p: *const u8, n: usize, answer: *mut u64);
-    fn bulk_item(p: *const u8, n: usize, i: u64, answer: *mut u64);
-    fn bulk_records(p: *const u8, n: usize, area: *mut u8, area_len: usize, answer: *mut u64);
-}
-
-/// What the three words hold before the call, and the words beside them before and after it. No
-/// answer has it.
-const UNWRITTEN: u64 = u64::MAX - 1;
-/// Stands for an answer where a word beside the three was written. No answer is it.
-const WRITTEN_BESIDE: Words = [u64::MAX; 3];
-
-/// Lends three words between two others and answers them. The others must stay.
-fn answered(call: impl FnOnce(*mut u64)) -> Words {
-    let mut words = [UNWRITTEN; 5];
-    call(words[1..4].as_mut_ptr());
-    match words {
-        [UNWRITTEN, first, second, third, UNWRITTEN] => [first, second, third],
-        _ => WRITTEN_BESIDE,
-    }
-}
+pub use face::{item, judge, records, Words};
 
 /// The single checker of a kind: `0, number or cents, 0`, or `number, 0, 0`.
 pub fn check(kind: Kind, value: &[u8]) -> Words {
-    let checker: Checker = match kind {
-        Kind::Iban => bulk_iban,
-        Kind::CreditorId => bulk_creditor_id,
-        Kind::Bic => bulk_bic,
-        Kind::Date => bulk_date,
-        Kind::Time => bulk_time,
-        Kind::Reference => bulk_reference,
-        Kind::Text70 => bulk_text70,
-        Kind::Text140 => bulk_text140,
-        Kind::Count => bulk_count,
-        Kind::ItemAmount => bulk_item_amount,
-        Kind::HeaderAmount => bulk_header_amount,
+    let kind = match kind {
+        Kind::Iban => face::Kind::Iban,
+        Kind::CreditorId => face::Kind::CreditorId,
+        Kind::Bic => face::Kind::Bic,
+        Kind::Date => face::Kind::Date,
+        Kind::Time => face::Kind::Time,
+        Kind::Reference => face::Kind::Reference,
+        Kind::Text70 => face::Kind::Text70,
+        Kind::Text140 => face::Kind::Text140,
+        Kind::Count => face::Kind::Count,
+        Kind::ItemAmount => face::Kind::ItemAmount,
+        Kind::HeaderAmount => face::Kind::HeaderAmount,
         Kind::Code(_) => panic!("a code has no single checker"),
     };
-    // SAFETY: the value is lent for the call, the answer is three words.
-    answered(|answer| unsafe { checker(value.as_ptr(), value.len(), answer) })
-}
-
-/// The judge: `0, count, cents`, or `number, place, 0`.
-pub fn judge(message: &[u8]) -> Words {
-    // SAFETY: the message is lent for the call, the answer is three words.
-    answered(|answer| unsafe { bulk_judge(message.as_ptr(), message.len(), answer) })
-}
-
-/// Where item `i` lies: `0, start, end`, or `number, place, 0`.
-pub fn item(message: &[u8], i: u64) -> Words {
-    // SAFETY: the message is lent for the call, the answer is three words.
-    answered(|answer| unsafe { bulk_item(message.as_ptr(), message.len(), i, answer) })
-}
-
-/// The records: `0, count, cents` and the area written, or `number, place, 0` and the area as lent.
-pub fn records(message: &[u8], area: &mut [u8]) -> Words {
-    let (lent, length) = (area.as_mut_ptr(), area.len());
-    // SAFETY: the message is lent for the call, the area mutably so, the answer is three words.
-    answered(|answer| unsafe {
-        bulk_records(message.as_ptr(), message.len(), lent, length, answer)
-    })
+    face::check(kind, value)
 }

@@ -7,12 +7,12 @@
 //! - [`sweep`]: every byte and every part of small messages damaged; messages at the limits.
 //! - [`slips`]: every slip of an accepted message.
 //! - [`slow`]: a second judge, made from a table of the elements, to hold `plain` against.
-//! - [`face`]: the C face of the library under test.
+//! - [`face`]: the library under test, asked by the kinds of these tests.
 //! - [`ask`]: the questions: the judges, what is known, and the laws held against each other.
 //! - [`tally`]: what a run has seen; a difference, printed so that it can be run again.
 //! - [`usual`], [`bench`]: messages like those that are sent, and the stopwatch.
 
-#![deny(unsafe_code)]
+#![forbid(unsafe_code)]
 
 pub mod ask;
 pub mod bench;

@@ -1,7 +1,5 @@
-//! The C face of the proved library. The only module with unsafe code; its functions are safe: each
+//! The C face of the proved library. The only crate with unsafe code; its functions are safe: each
 //! lends a slice for the call, and three words for the answer.
-
-#![allow(unsafe_code)]
 
 /// The three words of an answer: `0` and two values, or a refusal number, its place, and 0.
 pub type Words = [u64; 3];
@@ -47,8 +45,21 @@ extern "C" {
     );
 }
 
-/// What the words hold before the call; no answer has it.
-const UNWRITTEN: Words = [u64::MAX; 3];
+/// What the three words hold before the call, and the words beside them before and after it. No
+/// answer has it.
+const UNWRITTEN: u64 = u64::MAX - 1;
+/// Stands for an answer where a word beside the three was written. No answer is it.
+const WRITTEN_BESIDE: Words = [u64::MAX; 3];
+
+/// Lends three words between two others and answers them. The others must stay.
+fn answered(call: impl FnOnce(*mut u64)) -> Words {
+    let mut words = [UNWRITTEN; 5];
+    call(words[1..4].as_mut_ptr());
+    match words {
+        [UNWRITTEN, first, second, third, UNWRITTEN] => [first, second, third],
+        _ => WRITTEN_BESIDE,
+    }
+}
 
 /// The single checker of a kind: `0, number or cents, 0`, or `number, 0, 0`.
 pub fn check(kind: Kind, value: &[u8]) -> Words {
@@ -65,33 +76,27 @@ pub fn check(kind: Kind, value: &[u8]) -> Words {
         Kind::Text70 => bulk_text70,
         Kind::Text140 => bulk_text140,
     };
-    let mut answer = UNWRITTEN;
     // SAFETY: the value is lent for the call, the answer is three words.
-    unsafe { checker(value.as_ptr(), value.len(), answer.as_mut_ptr()) };
-    answer
+    answered(|answer| unsafe { checker(value.as_ptr(), value.len(), answer) })
 }
 
 /// The judge: `0, count, cents`, or `number, place, 0`.
 pub fn judge(message: &[u8]) -> Words {
-    let mut answer = UNWRITTEN;
     // SAFETY: the message is lent for the call, the answer is three words.
-    unsafe { bulk_judge(message.as_ptr(), message.len(), answer.as_mut_ptr()) };
-    answer
+    answered(|answer| unsafe { bulk_judge(message.as_ptr(), message.len(), answer) })
 }
 
 /// Where item `i` lies, from 0: `0, start, end`, or `number, place, 0`. It judges the whole message.
 pub fn item(message: &[u8], i: u64) -> Words {
-    let mut answer = UNWRITTEN;
     // SAFETY: the message is lent for the call, the answer is three words.
-    unsafe { bulk_item(message.as_ptr(), message.len(), i, answer.as_mut_ptr()) };
-    answer
+    answered(|answer| unsafe { bulk_item(message.as_ptr(), message.len(), i, answer) })
 }
 
 /// The records: `0, count, cents` and the area written, or `number, place, 0` and the area as lent.
 pub fn records(message: &[u8], area: &mut [u8]) -> Words {
-    let mut answer = UNWRITTEN;
-    let (start, length) = (area.as_mut_ptr(), area.len());
+    let (lent, length) = (area.as_mut_ptr(), area.len());
     // SAFETY: the message is lent for the call, the area mutably so, the answer is three words.
-    unsafe { bulk_records(message.as_ptr(), message.len(), start, length, answer.as_mut_ptr()) };
-    answer
+    answered(|answer| unsafe {
+        bulk_records(message.as_ptr(), message.len(), lent, length, answer)
+    })
 }
