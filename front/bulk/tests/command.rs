@@ -395,8 +395,23 @@ fn unprivileged(folder: &Folder, words: &[&str]) -> Said {
     command.args(words).env_clear().uid(65534).gid(65534).output().unwrap().into()
 }
 
+/// Under root the rights must be given up first; a machine may not allow that, and then there is
+/// nothing to try.
+fn no_rights_to_give_up() -> bool {
+    let root = fs::metadata("/proc/self").unwrap().uid() == 0;
+    let nobody = Command::new("true").uid(65534).gid(65534).status();
+    let skipped = root && !nobody.map_or(false, |status| status.success());
+    if skipped {
+        eprintln!("left out: this root cannot become nobody");
+    }
+    skipped
+}
+
 #[test]
 fn a_file_without_the_right_to_read_it() {
+    if no_rights_to_give_up() {
+        return;
+    }
     let folder = Folder::new();
     let file = folder.put("secret.xml", evening().as_bytes());
     fs::set_permissions(&file, Permissions::from_mode(0o000)).unwrap();
@@ -608,6 +623,9 @@ fn a_full_disk_loses_nothing() {
 
 #[test]
 fn a_read_only_folder_loses_nothing() {
+    if no_rights_to_give_up() {
+        return;
+    }
     let folder = Folder::new();
     let file = folder.put("bulk.xml", evening().as_bytes());
     let inner = folder.path("inner");
@@ -628,6 +646,9 @@ fn a_read_only_folder_loses_nothing() {
 
 #[test]
 fn a_write_protected_file_stays() {
+    if no_rights_to_give_up() {
+        return;
+    }
     let folder = Folder::new();
     let file = folder.put("bulk.xml", evening().as_bytes());
     let inner = folder.path("inner");
@@ -792,11 +813,25 @@ fn bad_usage_says_what_to_do() {
 }
 
 #[test]
-fn output_that_nobody_takes() {
+fn output_that_cannot_be_written() {
     let file = sample("evening.xml");
-    let full = File::options().write(true).open("/dev/full").unwrap();
-    let said = command(&["judge", text(&file)]).stdout(full).output().unwrap();
-    assert!(Said::from(said).trouble().contains("standard output cannot be written"));
+    let full = || match File::options().write(true).open("/dev/full") {
+        Ok(full) => Some(full),
+        Err(error) => {
+            eprintln!("left out: /dev/full: {error}");
+            None
+        }
+    };
+    if let (Some(out), Some(err)) = (full(), full()) {
+        let said = command(&["judge", text(&file)]).stdout(out).output().unwrap();
+        assert!(Said::from(said).trouble().contains("standard output cannot be written"));
+        let said = Command::new(COMMAND).arg("judge").stderr(err).output().unwrap();
+        assert_eq!(said.status.code(), Some(2));
+    }
+}
+
+#[test]
+fn output_that_nobody_takes() {
     // A reader that goes away before the table comes is no reason for a word.
     let mut command = command(&["items", "-"]);
     command.stdin(Stdio::piped()).stdout(Stdio::piped()).stderr(Stdio::piped());
@@ -805,7 +840,4 @@ fn output_that_nobody_takes() {
     child.stdin.take().unwrap().write_all(evening().as_bytes()).unwrap();
     let said = Said::from(child.wait_with_output().unwrap());
     assert_eq!((said.status, said.err.as_str()), (2, ""));
-    let full = File::options().write(true).open("/dev/full").unwrap();
-    let said = Command::new(COMMAND).arg("judge").stderr(full).output().unwrap();
-    assert_eq!(said.status.code(), Some(2));
 }
