@@ -3,7 +3,7 @@ use mathlib.Core.Path.{_≡_, refl, sym, ap, subst, _∙_}
 use mathlib.Core.Logic.{_≢_, _⊎_}
 use mathlib.Core.Bool.{true, not}
 use mathlib.Core.List.{List, [], _∷_, _++_, append-assoc}
-use Prim.Native.Nat.{ℕ, suc, _+_, _<_}
+use Prim.Native.Nat.{ℕ, suc, _+_, _≤_, _<_}
 use native.Mathlib.Omega.{arith}
 use borrow.Author.Tests.{ne-eqb}
 use lib.ListN.{length, take, drop, set, length-append}
@@ -14,19 +14,27 @@ use Rattle.text.specs.Slips.{exchangedAt}
 use Rattle.text.proofs.Truths.{both-true}
 use Rattle.text.proofs.Digits.{digit-bounds}
 use Rattle.profile.specs.declared.Kind.{Kind}
+use Rattle.profile.specs.declared.Kind.the-variants.{Plain}
+use Rattle.profile.specs.declared.Judged.{Judged as PlainKind}
 use Rattle.profile.specs.Tags.{inValue}
 use Rattle.profile.specs.Profile.{profile}
+use Rattle.answers.specs.Given.{refused as refused-by}
+use Rattle.notes.specs.Reading.{Reading, on, stop, andThen}
+use Rattle.notes.specs.Noting.{fresh, plainGiven, judgedBy, noted}
 use Rattle.judge.specs.Verdict.{Judged, accepted, refused}
 use Rattle.judge.specs.Message.{judged}
 use Rattle.documents.specs.Document.{Tagless, text}
-use Rattle.documents.specs.Entries.{Entry, value}
-use Rattle.documents.specs.Message.{Message, head, whole, Lawful, told}
-use Rattle.documents.specs.Holds.{Holds}
-use Rattle.documents.proofs.Ends.{profile-sure}
+use Rattle.documents.specs.Entries.{Entry, value, says}
+use Rattle.documents.specs.Message.{Message, head, whole, Lawful, told, weighed}
+use Rattle.documents.specs.Holds.{Kept, Holds}
+use Rattle.documents.proofs.Ends.{profile-sure, judged-told, accepted-document}
 use Rattle.documents.proofs.One.{one-document}
 use Rattle.documents.proofs.Exactly.{document-accepted}
+use Rattle.documents.proofs.Each.{each-rest}
+use Rattle.documents.proofs.Noted.{says-append}
+use Rattle.documents.proofs.Sound.{never}
 use Rattle.slips.specs.Slip.{Watched, Slip, replaced, exchanged, Refusal, In, Stands}
-use Rattle.slips.proofs.Values.{slip-never}
+use Rattle.slips.proofs.Values.{plain-slip, slip-never}
 use Rattle.slips.proofs.Swap.{document-swaps}
 
 pub refusal : (j : Judged) → ((n c : ℕ) → j ≡ accepted n c → ⊥) → Refusal j
@@ -39,6 +47,36 @@ pub document-slip : (d e : Message profile) → Lawful profile d → Lawful prof
 document-slip d e law law′ k xs ys slot p v w f g s n c a =
     refusal (judged (whole e)) (λ i j b.
     slip-never k xs ys slot p v w n c i j s (subst (λ (l : List Entry). Holds l n c) f (document-accepted d law n c a)) (subst (λ (l : List Entry). Holds l i j) g (document-accepted e law′ i j b)))
+
+-- Where the slip is in an IBAN or an identifier, the other is refused with 8, at that value.
+pub check-digits-tell : (d e : Message profile) → Lawful profile d → Lawful profile e → (j : PlainKind) (xs ys : List Entry) (slot p : ℕ) (v w : List ℕ)
+    → told d ≡ xs ++ (value (Plain j) slot p v ∷ ys) → told e ≡ xs ++ (value (Plain j) slot p w ∷ ys) → Slip (Plain j) v w → length (whole e) ≤ 16777216
+    → (n c : ℕ) → judged (whole d) ≡ accepted n c → judged (whole e) ≡ refused 8 p
+unfolding noted judgedBy
+check-digits-tell d e law law′ j xs ys slot p v w f g s short n c a =
+    judged-told e law′ short
+    ∙ ap (λ (l : List Entry). weighed (says l fresh)) g
+    ∙ ap weighed (says-append xs (value (Plain j) slot p w ∷ ys) fresh)
+    ∙ go (says xs fresh) refl
+  where
+    holds : Holds (xs ++ (value (Plain j) slot p v ∷ ys)) n c
+    holds = subst (λ (l : List Entry). Holds l n c) f (document-accepted d law n c a)
+
+    eight : plainGiven j w ≡ refused-by 8
+    eight = plain-slip j v w s (each-rest Kept xs (value (Plain j) slot p v ∷ ys) (holds .kinds) .0)
+
+    -- what stands before the value was in order in the one, so it is in the other
+    before : (k q : ℕ) → says xs fresh ≡ stop k q → accepted n c ≡ refused k q
+    before k q z =
+        sym a
+        ∙ judged-told d law (accepted-document (whole d) n c a .short)
+        ∙ ap (λ (l : List Entry). weighed (says l fresh)) f
+        ∙ ap weighed (says-append xs (value (Plain j) slot p v ∷ ys) fresh)
+        ∙ ap (λ (x : Reading). weighed (andThen x (says (value (Plain j) slot p v ∷ ys)))) z
+
+    go : (x : Reading) → says xs fresh ≡ x → weighed (andThen x (says (value (Plain j) slot p w ∷ ys))) ≡ refused 8 p
+    go (on u) z = rw eight
+    go (stop k q) z = let y : accepted n c ≡ refused k q = before k q z in never (cc)
 
 -- ---- a slip leaves a value as long, and brings no `<`
 digit-in : (c : ℕ) → digit c ≡ true → inValue c ≡ true
@@ -138,6 +176,10 @@ module _ (m : List ℕ) (k : Kind) (q : ℕ) (v : List ℕ) (s : Stands m k q v)
       rw (fronts w x, backs w x, ← x .whole)
       (document-slip d (x .other) (s .lawful) (x .lawful) k (x .first) (x .later) (s .slot) q v w (x .says) (x .said) l n c (ap judged (sym (s .is)) ∙ a))
 
+  whole-long : (w : List ℕ) (x : Placed w) → length w ≡ length v → length (whole (x .other)) ≡ length m
+  whole-long w x e =
+      omega (arith, ap length (x .whole), ap length (x .is), length-append (x .front) (w ++ x .back), length-append (x .front) (v ++ x .back), length-append w (x .back), length-append v (x .back), e)
+
   module _ (i : ℕ) (in-it : i < length v) where
     -- the bytes before and behind place i of the value
     before : List ℕ
@@ -203,3 +245,13 @@ module _ (m : List ℕ) (k : Kind) (q : ℕ) (v : List ℕ) (s : Stands m k q v)
         (slip-refused n c h (take i v ++ (b ∷ a ∷ drop (suc (suc i)) v))
         (exchanged (take i v) (drop (suc (suc i)) v) a b (rw (length-take-le i v (omega arith)) here) (ap digit (sym (same-byte i fore)) ∙ da) (ap digit (sym next-byte) ∙ db)
         (λ e. ne (same-byte i fore ∙ e ∙ sym next-byte)) pair refl))
+
+-- In an IBAN, or an identifier outside positions 5 to 7, any slip is refused with 8, at the value's place.
+pub refused-eight : (m : List ℕ) (j : PlainKind) (q : ℕ) (v : List ℕ) → Stands m (Plain j) q v → (n c : ℕ) → judged m ≡ accepted n c → (w : List ℕ) → Slip (Plain j) v w
+    → judged (take q m ++ (w ++ drop (q + length v) m)) ≡ refused 8 q
+refused-eight m j q v s n c a w l =
+    let k = Plain j in
+    let x = placed m k q v s w (slip-long k v w l) (slip-tagless k v w l) in
+    let short : length (whole (x .other)) ≤ 16777216 = rw (whole-long m k q v s w x (slip-long k v w l)) (accepted-document m n c a .short) in
+    rw (fronts m k q v s w x, backs m k q v s w x, ← x .whole)
+    (check-digits-tell (s .message) (x .other) (s .lawful) (x .lawful) j (x .first) (x .later) (s .slot) q v w (x .says) (x .said) l short n c (ap judged (sym (s .is)) ∙ a))

@@ -17,8 +17,8 @@ use Rattle.documents.specs.Message.{whole, Lawful, told}
 use Rattle.documents.specs.Holds.{Holds}
 use Rattle.documents.specs.Bulk.{inItem, tree, Bulk, message, withItems}
 use Rattle.documents.proofs.Each.{each-both, each-first, each-rest}
-use Rattle.documents.proofs.Bulks.{itemText, accepted-bulk, same-number}
-use Rattle.documents.proofs.Items.{front, back, whole-parts, front-long, item-itself}
+use Rattle.documents.proofs.Bulks.{itemText, Bulked, accepted-bulk, same-number}
+use Rattle.documents.proofs.Items.{front, back, whole-parts, front-long, Itself, item-itself}
 use Rattle.slips.specs.Slip.{Refusal}
 use Rattle.slips.proofs.Digits.{refusal}
 
@@ -175,12 +175,9 @@ module _ (m : List ℕ) (n c : ℕ) (e : judged m ≡ accepted n c) (i from to :
     pub without : Refusal (judged (before ++ rest))
     pub with-two : (w : List ℕ) → White w → Refusal (judged ((before ++ body) ++ (w ++ (body ++ rest))))
 
-  cut : Cut
-  cut =
-      let k = accepted-bulk m n c e in
+  cut-from : (k : Bulked m n c) → Itself (k .bulk) (k .lawful) n c (ap judged (sym (k .is)) ∙ e) (k .holds) i from to → Cut
+  cut-from k z =
       let b = k .bulk in
-      let g : judged (whole (message many b)) ≡ accepted n c = ap judged (sym (k .is)) ∙ e in
-      let z = item-itself b (k .lawful) n c g (k .holds) i from to (ap (item i) (sym (k .is)) ∙ q) in
       record {
         before = before b (k .lawful) n c (k .holds) (z .before) (z .it) (z .after) (z .is);
         body = body b (k .lawful) n c (k .holds) (z .before) (z .it) (z .after) (z .is);
@@ -201,6 +198,11 @@ module _ (m : List ℕ) (n c : ℕ) (e : judged m ≡ accepted n c) (i from to :
         without = left-out b (k .lawful) n c (k .holds) (z .before) (z .it) (z .after) (z .is);
         with-two = doubled b (k .lawful) n c (k .holds) (z .before) (z .it) (z .after) (z .is);
       }
+
+  cut : Cut
+  cut =
+      let k = accepted-bulk m n c e in
+      cut-from k (item-itself (k .bulk) (k .lawful) n c (ap judged (sym (k .is)) ∙ e) (k .holds) i from to (ap (item i) (sym (k .is)) ∙ q))
 
   -- One whole item left out.
   pub item-left-out : Refusal (judged (take from m ++ drop to m))

@@ -20,6 +20,7 @@ use Rattle.accounts.specs.Identifier.{identifierForm, identifierGiven}
 use Rattle.accounts.proofs.Slips.{iban-replaced, iban-exchanged, identifier-replaced, identifier-exchanged}
 use Rattle.profile.specs.declared.Kind.{Kind}
 use Rattle.profile.specs.declared.Kind.the-variants.{Plain, Count, Total, Amount, Code}
+use Rattle.profile.specs.declared.Judged.{Judged as PlainKind}
 use Rattle.profile.specs.declared.Judged.the-variants.{Reference, Nm, Ustrd, Date, Time, Bic, Iban, Identifier}
 use Rattle.notes.specs.Noting.{plainGiven}
 use Rattle.documents.specs.Entries.{Entry, item, value}
@@ -71,18 +72,14 @@ outside-two i (inl (inr h)) = inr (omega arith)
 outside-two i (inr (inl h)) = inl (omega arith)
 outside-two i (inr (inr h)) = inr h
 
-iban-slip : (v w : List ℕ) → Slip (Plain Iban) v w → Passes (ibanGiven v) → Passes (ibanGiven w) → ⊥
-iban-slip v w (replaced p q a b at da db ne x y) g h =
-    refused-never (ibanGiven w) 8 (ap ibanGiven y ∙ iban-replaced p q a b da db ne (ap ibanGiven (sym x) ∙ iban-yes v g)) h
-iban-slip v w (exchanged p q a b at da db ne x y) g h =
-    refused-never (ibanGiven w) 8 (ap ibanGiven y ∙ iban-exchanged p q a b da db ne (ap ibanGiven (sym x) ∙ iban-yes v g)) h
+iban-slip : (v w : List ℕ) → Slip (Plain Iban) v w → ibanGiven v ≡ yes → ibanGiven w ≡ refused 8
+iban-slip v w (replaced p q a b at da db ne x y) g = ap ibanGiven y ∙ iban-replaced p q a b da db ne (ap ibanGiven (sym x) ∙ g)
+iban-slip v w (exchanged p q a b at da db ne x y) g = ap ibanGiven y ∙ iban-exchanged p q a b da db ne (ap ibanGiven (sym x) ∙ g)
 
-identifier-slip : (v w : List ℕ) → Slip (Plain Identifier) v w → Passes (identifierGiven v) → Passes (identifierGiven w) → ⊥
-identifier-slip v w (replaced p q a b at da db ne x y) g h =
-    refused-never (identifierGiven w) 8 (ap identifierGiven y ∙ identifier-replaced p q a b da db ne at (ap identifierGiven (sym x) ∙ identifier-yes v g)) h
-identifier-slip v w (exchanged p q a b at da db ne x y) g h =
-    refused-never (identifierGiven w) 8
-    (ap identifierGiven y ∙ identifier-exchanged p q a b da db ne (outside-two (length p) at) (ap identifierGiven (sym x) ∙ identifier-yes v g)) h
+identifier-slip : (v w : List ℕ) → Slip (Plain Identifier) v w → identifierGiven v ≡ yes → identifierGiven w ≡ refused 8
+identifier-slip v w (replaced p q a b at da db ne x y) g = ap identifierGiven y ∙ identifier-replaced p q a b da db ne at (ap identifierGiven (sym x) ∙ g)
+identifier-slip v w (exchanged p q a b at da db ne x y) g =
+    ap identifierGiven y ∙ identifier-exchanged p q a b da db ne (outside-two (length p) at) (ap identifierGiven (sym x) ∙ g)
 
 count-slip : (v w : List ℕ) → Slip Count v w → Passes (countGiven v) → Passes (countGiven w) → valueOf (countGiven v) ≡ valueOf (countGiven w) → ⊥
 count-slip v w s g h e = go s (count-worth v g .0) (sym (count-worth v g .1) ∙ e ∙ count-worth w h .1)
@@ -103,6 +100,18 @@ unwatched : (k : Kind) (v w : List ℕ) → ((j : ℕ) → Watched k j → ⊥) 
 unwatched k v w f (replaced p q a b at da db ne x y) = f (length p) at
 unwatched k v w f (exchanged p q a b (inl at) da db ne x y) = f (length p) at
 unwatched k v w f (exchanged p q a b (inr at) da db ne x y) = f (suc (length p)) at
+
+-- a value with check digits: they tell
+pub plain-slip : (j : PlainKind) (v w : List ℕ) → Slip (Plain j) v w → Passes (plainGiven j v) → plainGiven j w ≡ refused 8
+unfolding plainGiven
+plain-slip Reference v w s g = absurd (unwatched (Plain Reference) v w (λ x h. h) s)
+plain-slip Nm v w s g = absurd (unwatched (Plain Nm) v w (λ x h. h) s)
+plain-slip Ustrd v w s g = absurd (unwatched (Plain Ustrd) v w (λ x h. h) s)
+plain-slip Date v w s g = absurd (unwatched (Plain Date) v w (λ x h. h) s)
+plain-slip Time v w s g = absurd (unwatched (Plain Time) v w (λ x h. h) s)
+plain-slip Bic v w s g = absurd (unwatched (Plain Bic) v w (λ x h. h) s)
+plain-slip Iban v w s g = iban-slip v w s (iban-yes v g)
+plain-slip Identifier v w s g = identifier-slip v w s (identifier-yes v g)
 
 -- ---- the entries before and behind the value
 items-middle : (xs ys : List Entry) (k : Kind) (slot p q : ℕ) (v w : List ℕ) → itemsIn (xs ++ (value k slot p v ∷ ys)) ≡ itemsIn (xs ++ (value k slot q w ∷ ys))
@@ -160,17 +169,8 @@ module _ (xs ys : List Entry) (k : Kind) (slot p : ℕ) (v w : List ℕ) (n c i 
 -- one slip: not both of them are as the profile has them
 pub slip-never : (k : Kind) (xs ys : List Entry) (slot p : ℕ) (v w : List ℕ) (n c i j : ℕ) → Slip k v w
     → Holds (xs ++ (value k slot p v ∷ ys)) n c → Holds (xs ++ (value k slot p w ∷ ys)) i j → ⊥
-unfolding plainGiven
-slip-never (Plain Reference) xs ys slot p v w n c i j s a b = unwatched (Plain Reference) v w (λ x h. h) s
-slip-never (Plain Nm) xs ys slot p v w n c i j s a b = unwatched (Plain Nm) v w (λ x h. h) s
-slip-never (Plain Ustrd) xs ys slot p v w n c i j s a b = unwatched (Plain Ustrd) v w (λ x h. h) s
-slip-never (Plain Date) xs ys slot p v w n c i j s a b = unwatched (Plain Date) v w (λ x h. h) s
-slip-never (Plain Time) xs ys slot p v w n c i j s a b = unwatched (Plain Time) v w (λ x h. h) s
-slip-never (Plain Bic) xs ys slot p v w n c i j s a b = unwatched (Plain Bic) v w (λ x h. h) s
-slip-never (Plain Iban) xs ys slot p v w n c i j s a b =
-    iban-slip v w s (fits xs ys (Plain Iban) slot p v w n c i j a b) (fits-too xs ys (Plain Iban) slot p v w n c i j a b)
-slip-never (Plain Identifier) xs ys slot p v w n c i j s a b =
-    identifier-slip v w s (fits xs ys (Plain Identifier) slot p v w n c i j a b) (fits-too xs ys (Plain Identifier) slot p v w n c i j a b)
+slip-never (Plain j′) xs ys slot p v w n c i j s a b =
+    refused-never (plainGiven j′ w) 8 (plain-slip j′ v w s (fits xs ys (Plain j′) slot p v w n c i j a b)) (fits-too xs ys (Plain j′) slot p v w n c i j a b)
 slip-never Count xs ys slot p v w n c i j s a b =
     count-slip v w s (fits xs ys Count slot p v w n c i j a b) (fits-too xs ys Count slot p v w n c i j a b) (omega (arith, same-count xs ys Count slot p v w n c i j a b))
 slip-never Total xs ys slot p v w n c i j s a b =
