@@ -139,9 +139,7 @@ abbrev pub headerEntries : Bulk → List Entry
 headerEntries b = ledEntries once (plainTag "GrpHdr") (entries inHeader) (headerAt b) (b .header)
 
 pub told-parts : (o : Occ) (b : Bulk) → told (message o b) ≡ headerEntries b ++ along itemText (itemEntries o) (itemsAt b) (b .items)
-told-parts o b =
-    append-nil ((headerEntries b ++ []) ++ (along itemText (itemEntries o) (headerAt b + length (headerText (b .header) ++ [])) (b .items) ++ []) ++ [])
-    ∙ simp append-nil
+told-parts o b = simp append-nil
 
 -- items come again
 abbrev pub Again : Occ → Type 0

@@ -191,7 +191,7 @@ judged-told d law h =
     rw (le-ltb 16777216 (length (whole d)) h)
     (ap (λ (o : Opened). concluded (whole d) (readFrom (whole d) o)) (opens profile d law (text profile (d .inside) ++ d .behind)) ∙ concluded-whole profile profile-sure d law)
 
--- what is accepted goes on to its end, however long it is
+-- what is accepted is short enough, and the reading of its inside is what is accepted
 pub read-on : (m : List ℕ) (n c p : ℕ) → opened m ≡ From p → judged m ≡ accepted n c → (length m ≤ 16777216) × (concluded m (read profile m (moved fresh p)) ≡ accepted n c)
 unfolding judged
 read-on m n c p o = go (ltb 16777216 (length m)) refl

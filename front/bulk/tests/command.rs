@@ -621,25 +621,35 @@ fn a_full_disk_loses_nothing() {
     assert_eq!(folder.names(), ["out"]);
 }
 
+/// An accepted message, and a file that cannot be replaced: in a folder of its own, with the rights
+/// that the two are given.
+fn guarded(folder: &Folder, of_file: u32, of_folder: u32) -> (PathBuf, PathBuf) {
+    let file = folder.put("bulk.xml", evening().as_bytes());
+    let inner = folder.path("inner");
+    fs::create_dir(&inner).unwrap();
+    fs::write(inner.join("out"), b"old").unwrap();
+    fs::set_permissions(inner.join("out"), Permissions::from_mode(of_file)).unwrap();
+    fs::set_permissions(&inner, Permissions::from_mode(of_folder)).unwrap();
+    (file, inner)
+}
+
+/// Writing under this name fails, the old file is as it was, and no other stands beside it.
+fn stays(folder: &Folder, file: &Path, inner: &Path, name: &str) {
+    let said = unprivileged(folder, &["records", text(file), text(&inner.join(name))]).trouble();
+    assert!(said.contains(&format!("inner/{name}: You may not write there.")), "{said}");
+    assert_eq!(fs::read(inner.join("out")).unwrap(), b"old");
+    assert_eq!(fs::read_dir(inner).unwrap().count(), 1);
+}
+
 #[test]
 fn a_read_only_folder_loses_nothing() {
     if no_rights_to_give_up() {
         return;
     }
     let folder = Folder::new();
-    let file = folder.put("bulk.xml", evening().as_bytes());
-    let inner = folder.path("inner");
-    fs::create_dir(&inner).unwrap();
-    fs::write(inner.join("out"), b"old").unwrap();
-    fs::set_permissions(inner.join("out"), Permissions::from_mode(0o666)).unwrap();
-    fs::set_permissions(&inner, Permissions::from_mode(0o555)).unwrap();
-    for name in ["out", "new"] {
-        let out = inner.join(name);
-        let said = unprivileged(&folder, &["records", text(&file), text(&out)]).trouble();
-        assert!(said.contains(&format!("inner/{name}: You may not write there.")), "{said}");
-    }
-    assert_eq!(fs::read(inner.join("out")).unwrap(), b"old");
-    assert_eq!(fs::read_dir(&inner).unwrap().count(), 1);
+    let (file, inner) = guarded(&folder, 0o666, 0o555);
+    stays(&folder, &file, &inner, "out");
+    stays(&folder, &file, &inner, "new");
     fs::set_permissions(&inner, Permissions::from_mode(0o777)).unwrap();
     unprivileged(&folder, &["records", text(&file), text(&inner.join("new"))]).done(0);
 }
@@ -650,17 +660,8 @@ fn a_write_protected_file_stays() {
         return;
     }
     let folder = Folder::new();
-    let file = folder.put("bulk.xml", evening().as_bytes());
-    let inner = folder.path("inner");
-    fs::create_dir(&inner).unwrap();
-    fs::set_permissions(&inner, Permissions::from_mode(0o777)).unwrap();
-    let out = inner.join("out");
-    fs::write(&out, b"old").unwrap();
-    fs::set_permissions(&out, Permissions::from_mode(0o444)).unwrap();
-    let said = unprivileged(&folder, &["records", text(&file), text(&out)]).trouble();
-    assert!(said.contains("inner/out: You may not write there."), "{said}");
-    assert_eq!(fs::read(&out).unwrap(), b"old");
-    assert_eq!(fs::read_dir(&inner).unwrap().count(), 1);
+    let (file, inner) = guarded(&folder, 0o444, 0o777);
+    stays(&folder, &file, &inner, "out");
 }
 
 // ---- check
