@@ -2,22 +2,17 @@
 use Prim.Native.Nat.{ℕ}
 use mathlib.Core.Bool.{Bool}
 use mathlib.Core.List.{List, [], _∷_}
-use Rattle.profile.specs.Tree.{Occ, once, Shape, end, leaf, group}
-use Rattle.profile.specs.Profile.{header, items}
+use Rattle.profile.specs.Tree.{Occ, once, Shape, end, group}
+use Rattle.items.specs.Inside.{inHeader as anyHeader, inItem as anItem}
 use Rattle.documents.specs.Document.{Led, Doc}
 use Rattle.documents.specs.Message.{Message}
 
-abbrev contents : Shape → Shape
-contents (end n) = end n
-contents (leaf o n k slot rest) = rest
-contents (group o n inner rest) = inner
-
--- what the header holds, and what an item holds
+-- what the header holds, and what an item holds, each as one word
 unfoldable pub inHeader : Shape
-inHeader = contents (header (end ""))
+inHeader = anyHeader
 
 unfoldable pub inItem : Shape
-inItem = contents (items (end ""))
+inItem = anItem
 
 -- the profile's tree, with items so often
 abbrev pub tree : Occ → Shape

@@ -23,6 +23,7 @@ use Rattle.notes.specs.Reading.{Reading, on, stop, andThen, moved}
 use Rattle.notes.specs.Noting.{fresh, withItem, begun}
 use Rattle.reader.specs.declared.Choice.the-variants.{Enter, Pass, Stop}
 use Rattle.reader.specs.Reader.{onLook, skipped, tagged, chosen, turn, again, groupBody, read, element, itemAt}
+use Rattle.items.specs.Inside.{inHeader, inItem}
 use Rattle.items.proofs.Steady.{Follows, abreast, over, Every, read-steady, group-steady}
 use Rattle.items.proofs.Like.{Like, Single, like-keeps, itself}
 
@@ -68,12 +69,6 @@ every-single (group o n inner rest) e =
     let g : (singles inner ≡ true) × (singles rest ≡ true) = both-true (singles inner) (singles rest) (h .1) in
     (single o (h .0), every-single inner (g .0), every-single rest (g .1))
 
--- what a group holds
-abbrev within-group : Shape → Shape
-within-group (end n) = end n
-within-group (leaf o n k slot rest) = rest
-within-group (group o n inner rest) = inner
-
 -- white space that was passed is passed
 lead-over : (f : ℕ → Bool) (l : List ℕ) → lead f (drop (lead f l) l) ≡ 0
 lead-over f [] = refl
@@ -100,9 +95,6 @@ module _ (m : List ℕ) where
     alone p h w = rw (le-leb (length m) 16777216 small, le-leb p (length m) h, w)
 
   -- ---- one item
-  abbrev inItem : Shape
-  inItem = within-group (items (end ""))
-
   in-item : Every Single inItem
   in-item = every-single inItem refl
 
@@ -213,9 +205,6 @@ module _ (m : List ℕ) where
         go Other e = tt
 
     -- the header before them
-    abbrev inHeader : Shape
-    inHeader = within-group (header (end ""))
-
     abbrev headerBody : State → Reading
     headerBody = groupBody once "GrpHdr" (read inHeader m) m
 

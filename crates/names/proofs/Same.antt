@@ -18,8 +18,8 @@ use Rattle.profile.specs.declared.Kind.{Kind}
 use Rattle.profile.specs.declared.Kind.the-variants.{Plain}
 use Rattle.profile.specs.declared.Look.{Look}
 use Rattle.profile.specs.declared.Look.the-variants.{Whole, Cut, Other}
-use Rattle.profile.specs.Tree.{Occ, once, many, Shape, end, group, children}
-use Rattle.profile.specs.Profile.{profile, item, itemShape}
+use Rattle.profile.specs.Tree.{Occ, once, many, Shape, end, group}
+use Rattle.profile.specs.Profile.{profile, itemShape}
 use Rattle.profile.specs.Tags.{white, inValue, look, exactly, endTag, plainTag, amountTag, isAmount, startTag, currency}
 use Rattle.notes.specs.declared.State.{State}
 use Rattle.notes.specs.Reading.{Reading, on, stop, andThen, moved}
@@ -28,6 +28,7 @@ use Rattle.reader.specs.Reader.{onLook, skipped, closed, counted, inEuro, price
 use Rattle.items.proofs.Along.{Each, Steps, turn-along, group-along, read-along}
 use Rattle.items.proofs.Walk.{Ends}
 use Rattle.profile.proofs.Looks.{look-text}
+use Rattle.items.specs.Inside.{inItem}
 use Rattle.names.specs.Named.{nameOf}
 use Rattle.names.proofs.Alike.{Alike, level, Onward, cut-same, lead-alike, tag-alike}
 use Rattle.names.proofs.Apart.{clear, clear-tells, own-shut, judgedOf, Own, Apart, profile-apart}
@@ -264,9 +265,6 @@ module _ (m m′ : List ℕ) (S : Swapped m m′) where
   -- ---- what is due, read; and the item at a place
   pub read-same : (sh : Shape) → Each (Apart f) sh → (s : State) → Sound s → Same (read sh m s) (read sh m′ s)
   read-same sh e s h = read-along m m′ Both Same (Apart f) steps sh e s s (refl, h)
-
-  abbrev inItem : Shape
-  inItem = children item (end "DrctDbtTxInf")
 
   abbrev itemBody : List ℕ → State → Reading
   itemBody l = groupBody many "DrctDbtTxInf" (read inItem l) l
