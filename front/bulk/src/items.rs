@@ -1,93 +1,184 @@
-//! `items`: the items of an accepted message as a table, as its records have them.
+//! `items`: the items of a message, of one that is accepted or whose count or total alone is wrong.
 
-use crate::judge::{self, Verdict};
-use crate::records::{self, Record};
-use crate::say::{put, tell, Language, Trouble};
-use crate::{euro, place, read, Call, Status};
+use crate::call::{Call, Form};
+use crate::doubled::{self, by_item, Group};
+use crate::json::Object;
+use crate::language::Language;
+use crate::message::Item;
+use crate::show::shown;
+use crate::trouble::Trouble;
+use crate::verdict::{Judged, Verdict};
+use crate::{csv, euro, out, read, Status};
 use std::ffi::OsStr;
 
-type Row = [String; 7];
+/// An item as a row: its number from 1, what it says, and the doubles of it.
+pub struct Row<'a> {
+    pub number: usize,
+    pub item: &'a Item<'a>,
+    pub same: Option<&'a Group>,
+    pub alike: Option<&'a Group>,
+}
 
+/// Prints the items on standard output, and the refusal or the warnings on standard error, so that
+/// the output holds the items alone.
 pub fn items(call: &Call, name: &OsStr) -> Result<Status, Trouble> {
-    let message = read::bytes(name, call.language)?;
-    let verdict = judge::verdict(&message);
-    if let Verdict::Accepted { count, cents } = verdict {
-        let rows = rows(&message, count, call.language)?;
-        put(call.language, &if call.plain { tabs(&rows) } else { table(call, &rows, cents) })?;
-    } else {
-        // Standard output is for the table alone.
-        tell(&judge::line(call, name, &message, verdict));
-    }
-    Ok(verdict.status())
-}
-
-/// A row for each item: number, place, TxId, EndToEndId, debtor IBAN, cents, euros.
-fn rows(message: &[u8], count: u64, language: Language) -> Result<Vec<Row>, Trouble> {
-    let area = records::of(message, count, language)?;
-    let places = places(message, count, language)?;
-    let made = places.iter().zip(area.chunks(records::LENGTH)).enumerate();
-    Ok(made.map(|(at, (place, bytes))| row(at + 1, *place, &Record(bytes))).collect())
-}
-
-fn row(number: usize, place: usize, record: &Record) -> Row {
-    let cents = record.cents();
-    [
-        number.to_string(),
-        place.to_string(),
-        record.tx_id(),
-        record.end_to_end_id(),
-        record.debtor_iban(),
-        cents.to_string(),
-        euro::euros(cents),
-    ]
-}
-
-/// Where the items lie. The library judges the whole message each time it is asked for one, so it is
-/// asked for the first and the last, and the others are found between them by their tags.
-fn places(message: &[u8], count: u64, language: Language) -> Result<Vec<usize>, Trouble> {
-    let places: Vec<usize> = place::places(message, place::ITEM).collect();
-    let asked = [0, count - 1].map(|i| face::item(message, i)[1] as usize);
-    let ends = places.first().zip(places.last()).map(|(first, last)| [*first, *last]);
-    if places.len() as u64 == count && ends == Some(asked) {
-        return Ok(places);
-    }
-    Err(language.trouble(
-        "the items found are not those of the judge. Please report this, with the file.",
-        "Die gefundenen Posten sind nicht die der Prüfung. Bitte mit der Datei melden.",
-    ))
-}
-
-fn tabs(rows: &[Row]) -> String {
-    rows.iter().map(|row| row.join("\t") + "\n").collect()
-}
-
-/// The table, each column as wide as it must be, and a last line with count and total.
-fn table(call: &Call, rows: &[Row], cents: u64) -> String {
-    let heading = call.language.say(
-        ["No", "Place", "TxId", "EndToEndId", "Debtor IBAN", "Cents", "EUR"],
-        ["Nr.", "Stelle", "TxId", "EndToEndId", "IBAN Zahlungspflichtiger", "Cent", "EUR"],
-    );
-    let width = |column: usize| {
-        let cells = rows.iter().map(|row| row[column].len());
-        cells.chain([heading[column].len()]).max().unwrap_or(0)
+    let message = read::bytes(name)?;
+    let judged = Judged::of(name, &message);
+    let language = call.language;
+    // A script that does not look at the status must not take the rows of a refused bulk.
+    let is_shown = match call.form {
+        Form::Plain => judged.verdict.status() == Status::Accepted,
+        _ => judged.verdict.has_items(),
     };
-    let widths: Vec<usize> = (0..heading.len()).map(width).collect();
+    if is_shown {
+        agree(&judged)?;
+        let rows = rows(&judged);
+        out::put(&match call.form {
+            Form::Plain => rows.iter().map(plain).collect(),
+            Form::Json => rows.iter().map(json).collect(),
+            Form::Csv => csv::of(&rows, language),
+            Form::Words => table(&rows, judged.contents.cents().unwrap_or(0), language),
+        })?;
+    }
+    match (judged.verdict, call.form) {
+        (Verdict::Accepted { .. }, Form::Words | Form::Csv) => out::tell(&judged.below(language)),
+        (Verdict::Accepted { .. }, _) => {}
+        (verdict, Form::Plain) => out::tell(&format!("{}\n", verdict.plain())),
+        (_, Form::Json) => out::tell(&format!("{}\n", judged.json(language).end())),
+        _ => out::tell(&judged.words(language)),
+    }
+    Ok(judged.verdict.status())
+}
+
+/// The items found by their tags must come to what the library says of an accepted message.
+fn agree(judged: &Judged) -> Result<(), Trouble> {
+    let (found, cents) = (judged.contents.items.len() as u64, judged.contents.cents());
+    match judged.verdict {
+        Verdict::Accepted { count, cents: total } if found != count || cents != Some(total) => {
+            Err(Trouble::Disagreement)
+        }
+        _ if cents.is_none() => Err(Trouble::Disagreement),
+        _ => Ok(()),
+    }
+}
+
+/// The items as rows, each with its doubles.
+fn rows<'a>(judged: &'a Judged) -> Vec<Row<'a>> {
+    let items = &judged.contents.items;
+    let same = by_item(&judged.doubled.same, items.len());
+    let alike = by_item(&judged.doubled.alike, items.len());
+    let row = |(at, item)| Row { number: at + 1, item, same: same[at], alike: alike[at] };
+    items.iter().enumerate().map(row).collect()
+}
+
+impl Row<'_> {
+    /// The cents of an item whose amount was read.
+    pub fn cents(&self) -> u64 {
+        self.item.cents.unwrap_or(0)
+    }
+
+    /// Which item it is a double of, in words; empty for none.
+    pub fn mark(&self, language: Language) -> String {
+        let other = |group: &Group| doubled::other(group, self.number);
+        match (self.same.map(other), self.alike.map(other)) {
+            (Some(number), _) => {
+                language.say(format!("same TxId as {number}"), format!("TxId wie {number}"))
+            }
+            (None, Some(number)) => {
+                language.say(format!("looks like {number}"), format!("sieht aus wie {number}"))
+            }
+            (None, None) => String::new(),
+        }
+    }
+}
+
+/// A row for scripts: number, place, TxId, EndToEndId, debtor IBAN, cents, euros.
+fn plain(row: &Row) -> String {
+    let Item { place, tx_id, end_to_end_id, debtor_iban, .. } = row.item;
+    let [tx_id, end_to_end_id, iban] = [tx_id, end_to_end_id, debtor_iban].map(|text| shown(text));
+    let (cents, euros) = (row.cents(), euro::euros(row.cents()));
+    format!("{}\t{place}\t{tx_id}\t{end_to_end_id}\t{iban}\t{cents}\t{euros}\n", row.number)
+}
+
+/// A row as an object.
+fn json(row: &Row) -> String {
+    let item = row.item;
+    // One other item is enough to find the rest, and ten thousand doubles stay ten thousand lines.
+    let other = |group: &Group| doubled::other(group, row.number) as u64;
+    let object = Object::default()
+        .number("item", row.number as u64)
+        .number("place", item.place as u64)
+        .text("tx_id", item.tx_id)
+        .text("end_to_end_id", item.end_to_end_id)
+        .text("debtor", item.debtor)
+        .text("debtor_iban", item.debtor_iban)
+        .number("cents", row.cents())
+        .text("euros", euro::euros(row.cents()).as_bytes())
+        .text("collection_date", item.collection_date)
+        .text("mandate", item.mandate)
+        .text("mandate_date", item.mandate_date)
+        .text("sequence", item.sequence)
+        .text("instrument", item.instrument)
+        .number_or_null("doubled", row.same.map(other))
+        .number_or_null("looks_doubled", row.alike.map(other));
+    format!("{}\n", object.end())
+}
+
+/// The table, each column as wide as it must be, and a last line with count and total. The column for
+/// doubled items is there only if there are any.
+fn table(rows: &[Row], cents: u64, language: Language) -> String {
+    let heading = language.say(
+        ["No", "Place", "TxId", "EndToEndId", "Debtor IBAN", "Cents", "EUR", "Doubled"],
+        [
+            "Nr.",
+            "Stelle",
+            "TxId",
+            "EndToEndId",
+            "IBAN Zahlungspflichtiger",
+            "Cent",
+            "EUR",
+            "Doppelt",
+        ],
+    );
+    let cells: Vec<[String; 8]> = rows.iter().map(|row| cells(row, language)).collect();
+    let is_doubled = cells.iter().any(|row| !row[7].is_empty());
+    let columns = if is_doubled { 8 } else { 7 };
+    let width = |column: usize| {
+        let widths = cells.iter().map(|row| row[column].len());
+        widths.chain([heading[column].len()]).max().unwrap_or(0)
+    };
+    let widths: Vec<usize> = (0..columns).map(width).collect();
     let mut text = line(&heading.map(str::to_string), &widths);
-    rows.iter().for_each(|row| text.push_str(&line(row, &widths)));
-    let (count, money) = (call.language.items(rows.len() as u64), call.language.money(cents));
+    cells.iter().for_each(|row| text.push_str(&line(row, &widths)));
+    let (count, money) = (language.items(rows.len() as u128), language.money(cents));
     text.push_str(&format!("{count}, {money}\n"));
     text
 }
 
+/// The cells of a row.
+fn cells(row: &Row, language: Language) -> [String; 8] {
+    let euros = language.euros(row.cents().into());
+    [
+        row.number.to_string(),
+        row.item.place.to_string(),
+        shown(row.item.tx_id),
+        shown(row.item.end_to_end_id),
+        shown(row.item.debtor_iban),
+        row.cents().to_string(),
+        euros.trim_end_matches(" EUR").to_string(),
+        row.mark(language),
+    ]
+}
+
 /// One line; numbers stand to the right.
-fn line(row: &Row, widths: &[usize]) -> String {
-    let cell = |column: usize| {
-        let (text, width) = (&row[column], widths[column]);
+fn line(row: &[String; 8], widths: &[usize]) -> String {
+    let cell = |(column, &width): (usize, &usize)| {
+        let text = &row[column];
         match column {
-            2..=4 => format!("{text:width$}"),
+            2..=4 | 7 => format!("{text:width$}"),
             _ => format!("{text:>width$}"),
         }
     };
-    let cells: Vec<String> = (0..row.len()).map(cell).collect();
-    cells.join("  ") + "\n"
+    let cells: Vec<String> = widths.iter().enumerate().map(cell).collect();
+    format!("{}\n", cells.join("  ").trim_end())
 }

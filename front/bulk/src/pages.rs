@@ -1,6 +1,9 @@
 //! The pages of the refusals. Their texts live in docs/REFUSALS.md alone, and are read from it.
 
-use crate::say::{put, Language, Trouble};
+use crate::call::Call;
+use crate::language::Language;
+use crate::out;
+use crate::trouble::Trouble;
 use std::ffi::OsStr;
 
 const TEXT: &str = include_str!("../../../docs/REFUSALS.md");
@@ -10,20 +13,22 @@ const WIDTH: usize = 78;
 type Both = [&'static str; 2];
 
 /// One refusal number: its sentence of the overview, and the rows of its page.
-pub struct Page {
-    pub number: u64,
-    pub sentence: Both,
-    pub rows: Vec<(Both, Both)>,
+struct Page {
+    number: u64,
+    sentence: [String; 2],
+    rows: Vec<(Both, Both)>,
 }
 
 /// All pages in their order.
-pub fn all() -> Vec<Page> {
+fn all() -> Vec<Page> {
     let mut parts = TEXT.split("\n## ");
     let overview = parts.next().unwrap_or("");
     let mut pages: Vec<Page> = rows(overview)
         .filter_map(|[number, english, german]| {
             let number = number.parse().ok()?;
-            Some(Page { number, sentence: [english, german], rows: Vec::new() })
+            // The marks of the page's own layout are no part of a sentence.
+            let sentence = [english, german].map(|text| text.replace('`', ""));
+            Some(Page { number, sentence, rows: Vec::new() })
         })
         .collect();
     for part in parts {
@@ -52,43 +57,53 @@ fn row([label, english, german]: [&'static str; 3]) -> Option<(Both, Both)> {
 }
 
 /// The sentence of a number.
-pub fn sentence(number: u64, language: Language) -> &'static str {
+pub fn sentence(number: u64, language: Language) -> String {
     let page = all().into_iter().find(|page| page.number == number);
-    page.map_or("", |page| language.say(page.sentence[0], page.sentence[1]))
+    page.map_or(String::new(), |Page { sentence: [english, german], .. }| {
+        language.say(english, german)
+    })
 }
 
-/// `explain`: the list of the numbers, or the page of one, in both languages, hers first.
-pub fn explain(language: Language, number: Option<&OsStr>) -> Result<(), Trouble> {
-    let order = language.say([0, 1], [1, 0]);
-    let text = match number {
-        None => list(order),
-        Some(word) => match page(word) {
-            Some(page) => order.map(|of| told(&page, of)).join("\n"),
-            None => return Err(no_page(language, word)),
-        },
+/// The last number.
+pub fn last() -> u64 {
+    all().last().map_or(0, |page| page.number)
+}
+
+/// `explain`: the list of the numbers, or the page of one. In the language that was chosen; where
+/// none was, in both, that of the locale first.
+pub fn explain(call: &Call, number: Option<&OsStr>) -> Result<(), Trouble> {
+    let languages: &[usize] = match (call.language, call.is_chosen) {
+        (Language::English, true) => &[0],
+        (Language::German, true) => &[1],
+        (Language::English, false) => &[0, 1],
+        (Language::German, false) => &[1, 0],
     };
-    put(language, &text)
+    let text = match number {
+        None => list(languages),
+        Some(word) => {
+            let page = page(word).ok_or_else(|| Trouble::UnknownNumber(word.to_owned()))?;
+            let told: Vec<String> = languages.iter().map(|&of| told(&page, of)).collect();
+            told.join("\n")
+        }
+    };
+    out::put(&text)
 }
 
+/// The page of the number that a word says.
 fn page(word: &OsStr) -> Option<Page> {
     let number: u64 = word.to_str()?.parse().ok()?;
     all().into_iter().find(|page| page.number == number)
 }
 
-fn no_page(language: Language, word: &OsStr) -> Trouble {
-    let word = language.quoted(&crate::say::name(word));
-    language.trouble(
-        format!("there is no refusal number {word}. bulk explain lists them all: 1 to 18."),
-        format!("Eine Ablehnungsnummer {word} gibt es nicht. bulk explain nennt alle: 1 bis 18."),
-    )
-}
-
-fn list(order: [usize; 2]) -> String {
+/// A line or two for each number: its sentence in each of the languages.
+fn list(languages: &[usize]) -> String {
     let mut text = String::new();
     for page in all() {
-        let (first, second) = (page.sentence[order[0]], page.sentence[order[1]]);
-        text.push_str(&wrapped(&format!("{:2}  {first}", page.number), 0, 4));
-        text.push_str(&wrapped(second, 4, 4));
+        let number = format!("{:2}", page.number);
+        for (at, &of) in languages.iter().enumerate() {
+            let before = if at == 0 { &number } else { "  " };
+            text.push_str(&wrapped(&format!("{before}  {}", page.sentence[of]), 0, 4));
+        }
     }
     text
 }
@@ -135,10 +150,9 @@ mod tests {
         assert_eq!(numbers, (1..=18).collect::<Vec<u64>>());
         for page in pages {
             assert_eq!(page.rows.len(), 4, "page {}", page.number);
-            let rows = page.rows.iter().flat_map(|row| [row.0, row.1]);
-            for [english, german] in rows.chain([page.sentence]) {
-                assert!(!english.is_empty() && !german.is_empty(), "page {}", page.number);
-            }
+            let rows = page.rows.iter().flat_map(|row| [row.0, row.1]).flatten();
+            let mut texts = rows.chain(page.sentence.iter().map(String::as_str));
+            assert!(texts.all(|text| !text.is_empty()), "page {}", page.number);
         }
     }
 

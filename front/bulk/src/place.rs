@@ -1,95 +1,45 @@
-//! What stands at a place of a message: line and column, the element it lies in, the bytes found.
-//! It judges nothing. The judge has told that everything before the place is in order, so a stack of
-//! the tags before it is the element it lies in.
+//! What stands at a place of a message: line and column, the element it lies in, the bytes found, an
+//! excerpt. It judges nothing.
 
-use face::Kind;
+use crate::show::{characters, ending, shown};
+use crate::tags::{find, until, Open, ITEM};
 
-pub const ITEM: &[u8] = b"<DrctDbtTxInf>";
-const TX_ID: &[u8] = b"<TxId>";
-const AMOUNT: &[u8] = b"<IntrBkSttlmAmt Ccy=\"EUR\">";
+/// The most columns of an excerpt on either side of the place.
+const BEFORE: usize = 30;
+const BEHIND: usize = 44;
 
 /// Line and column of a place, both from 1. Lines end with LF; the column counts bytes.
 pub fn line_and_column(message: &[u8], place: usize) -> (usize, usize) {
     let before = &message[..place.min(message.len())];
     let line = before.iter().filter(|&&byte| byte == b'\n').count() + 1;
-    let start = before.iter().rposition(|&byte| byte == b'\n').map_or(0, |at| at + 1);
-    (line, before.len() - start + 1)
+    (line, place.min(message.len()) - line_start(before) + 1)
 }
 
-/// The elements that are open at a place, and how many items have begun.
-struct Open<'a> {
-    names: Vec<&'a [u8]>,
-    items: usize,
+/// Where the last line begins.
+fn line_start(before: &[u8]) -> usize {
+    before.iter().rposition(|&byte| byte == b'\n').map_or(0, |at| at + 1)
 }
 
-fn find(bytes: &[u8], from: usize, byte: u8) -> Option<usize> {
-    bytes[from..].iter().position(|&other| other == byte).map(|at| from + at)
-}
-
-impl<'a> Open<'a> {
-    fn before(before: &'a [u8]) -> Open<'a> {
-        let mut open = Open { names: Vec::new(), items: 0 };
-        let mut at = 0;
-        while let Some(start) = find(before, at, b'<') {
-            let end = find(before, start, b'>');
-            at = end.unwrap_or(before.len());
-            open.tag(&before[start + 1..at], end.is_some());
-        }
-        open
+/// The elements that are open at the place of a refusal. At 12 that is the item's own first byte.
+pub fn open(message: &[u8], number: u64, place: usize) -> Open<'_> {
+    let mut open = Open::behind(&message[..place.min(message.len())]);
+    if number == 12 {
+        open.enter(ITEM);
     }
-
-    /// One tag, without its brackets. A tag that the place cuts counts as soon as its name is whole,
-    /// that is when a space follows: the place then lies in the tag of that element.
-    fn tag(&mut self, inside: &'a [u8], whole: bool) {
-        match inside.first() {
-            Some(b'?') => {}
-            Some(b'/') => {
-                if whole {
-                    self.names.pop();
-                }
-            }
-            _ => {
-                let name = inside.split(|&byte| byte == b' ').next().unwrap_or(inside);
-                if whole || name.len() < inside.len() {
-                    self.names.push(name);
-                    self.items += usize::from(is_item(name));
-                }
-            }
-        }
-    }
-}
-
-fn is_item(name: &[u8]) -> bool {
-    name == &ITEM[1..ITEM.len() - 1]
+    open
 }
 
 /// The element at a place as a path, items counted from 1: for a value its element, between elements
 /// the group around them. None where no element is open, or the beginning itself is wrong.
-pub fn path(message: &[u8], number: u64, place: usize) -> Option<String> {
-    if matches!(number, 1 | 2) {
-        return None;
-    }
-    let mut open = Open::before(&message[..place.min(message.len())]);
-    if number == 12 {
-        // The place is the item's own first byte.
-        open.tag(&ITEM[1..ITEM.len() - 1], true);
-    }
-    let told = |name: &&[u8]| {
-        let text = crate::say::escaped(name);
-        if is_item(name) {
-            format!("{text}[{}]", open.items)
-        } else {
-            text
-        }
+pub fn path(open: &Open, number: u64) -> Option<String> {
+    let told = |name: &[u8]| match name == ITEM {
+        true => format!("{}[{}]", shown(name), open.items),
+        false => shown(name),
     };
+    let names: Vec<String> = open.names().map(told).collect();
     // Document stands around everything, so it is told only where it stands alone.
-    let from = usize::from(open.names.len() > 1);
-    let names: Vec<String> = open.names[from..].iter().map(told).collect();
-    if names.is_empty() {
-        None
-    } else {
-        Some(names.join("/"))
-    }
+    let from = usize::from(names.len() > 1);
+    (!matches!(number, 1 | 2) && !names.is_empty()).then(|| names[from..].join("/"))
 }
 
 /// What is found at the place of a refusal.
@@ -107,6 +57,7 @@ pub enum Found<'a> {
     Bytes(&'a [u8]),
 }
 
+/// The bytes that a refusal is about.
 pub fn found(message: &[u8], number: u64, place: usize) -> Found<'_> {
     let rest = &message[place.min(message.len())..];
     match number {
@@ -122,10 +73,6 @@ pub fn found(message: &[u8], number: u64, place: usize) -> Found<'_> {
     }
 }
 
-fn until(bytes: &[u8], byte: u8) -> &[u8] {
-    &bytes[..find(bytes, 0, byte).unwrap_or(bytes.len())]
-}
-
 /// A tag to its `>`, or text to the next tag.
 fn tag_or_text(rest: &[u8]) -> &[u8] {
     match rest.first() {
@@ -134,45 +81,39 @@ fn tag_or_text(rest: &[u8]) -> &[u8] {
     }
 }
 
-/// The places of a tag. In a message whose tags are in order nothing else holds a `<`.
-pub fn places<'a>(message: &'a [u8], tag: &'a [u8]) -> impl Iterator<Item = usize> + 'a {
-    let brackets = message.iter().enumerate().filter(|pair| *pair.1 == b'<').map(|pair| pair.0);
-    brackets.filter(move |&at| message[at..].starts_with(tag))
+/// The line of a place, cut on both sides where it is long, and below it a caret at the place. Both
+/// lines are indented. It helps in a message that is one long line.
+pub fn excerpt(message: &[u8], place: usize) -> String {
+    let (before, behind) = message.split_at(place.min(message.len()));
+    let before = &before[line_start(before)..];
+    // The line's own indentation would only push the text to the right.
+    let indented = before.iter().take_while(|byte| b" \t".contains(byte)).count();
+    let left = last_columns(&before[indented..]);
+    let behind = until(behind, b'\n');
+    let right = first_columns(behind.strip_suffix(b"\r").unwrap_or(behind));
+    let caret = " ".repeat(left.chars().count());
+    format!("    {left}{right}\n    {caret}^\n")
 }
 
-/// The number of items, for a message whose tags are in order.
-pub fn items(message: &[u8]) -> u64 {
-    places(message, ITEM).count() as u64
-}
-
-/// The items' cents added up, by the library's own checker; none if one of them is no amount.
-pub fn cents(message: &[u8]) -> Option<u64> {
-    places(message, AMOUNT).try_fold(0_u64, |sum, at| {
-        let value = until(&message[at + AMOUNT.len()..], b'<');
-        match face::check(Kind::ItemAmount, value) {
-            [0, cents, _] => sum.checked_add(cents),
-            _ => None,
-        }
-    })
-}
-
-/// Each TxId that stands more than once, in the order of their bytes.
-pub fn doubled(message: &[u8]) -> Vec<&[u8]> {
-    let value = |at: usize| until(&message[at + TX_ID.len()..], b'<');
-    let mut names: Vec<&[u8]> = places(message, TX_ID).map(value).collect();
-    names.sort_unstable();
-    let mut doubled: Vec<&[u8]> =
-        names.windows(2).filter(|pair| pair[0] == pair[1]).map(|pair| pair[0]).collect();
-    doubled.dedup();
-    doubled
-}
-
-/// What the value at a place is worth: a count, or a header total in cents.
-pub fn worth(message: &[u8], kind: Kind, place: usize) -> Option<u64> {
-    match face::check(kind, until(&message[place.min(message.len())..], b'<')) {
-        [0, worth, _] => Some(worth),
-        _ => None,
+/// The end of a text, as much as fits: an escape is wider than its byte.
+fn last_columns(text: &[u8]) -> String {
+    let mut from = text.len() - ending(text, BEFORE).len();
+    while shown(&text[from..]).chars().count() > BEFORE {
+        from += characters(&text[from..]).next().map_or(1, <[u8]>::len);
     }
+    format!("{}{}", if from > 0 { "…" } else { "" }, shown(&text[from..]))
+}
+
+/// The beginning of a text, as much as fits.
+fn first_columns(text: &[u8]) -> String {
+    let mut end = 0;
+    for character in characters(text) {
+        if shown(&text[..end + character.len()]).chars().count() > BEHIND {
+            break;
+        }
+        end += character.len();
+    }
+    format!("{}{}", shown(&text[..end]), if end < text.len() { "…" } else { "" })
 }
 
 #[cfg(test)]
@@ -183,9 +124,15 @@ mod tests {
         <FIToFICstmrDrctDbt><GrpHdr><MsgId>A</MsgId></GrpHdr>\n  <DrctDbtTxInf></DrctDbtTxInf>\
         <DrctDbtTxInf><DbtrAcct><Id><IBAN>DE</IBAN></Id></DbtrAcct><IntrBkSttlmAmt Ccy=\"USD\">";
 
+    /// Where this text stands in the message.
     fn at(text: &str) -> usize {
         let text = text.as_bytes();
         (0..CUT.len()).find(|&at| CUT[at..].starts_with(text)).expect("the text is there")
+    }
+
+    /// The path of a place, as it is printed.
+    fn path_of(message: &[u8], number: u64, place: usize) -> String {
+        path(&open(message, number, place), number).unwrap_or_default()
     }
 
     #[test]
@@ -203,7 +150,7 @@ mod tests {
 
     #[test]
     fn a_path_names_the_elements_around_a_place() {
-        let path = |number, place| path(CUT, number, place).unwrap_or_default();
+        let path = |number, place| path_of(CUT, number, place);
         assert_eq!(path(4, 0), "");
         assert_eq!(path(4, 5), "");
         assert_eq!(path(2, at("<Document")), "");
@@ -221,7 +168,7 @@ mod tests {
 
     #[test]
     fn a_cut_tag_counts_when_its_name_is_whole() {
-        let path = |cut: &[u8]| path(cut, 3, cut.len()).unwrap_or_default();
+        let path = |cut: &[u8]| path_of(cut, 3, cut.len());
         assert_eq!(path(&CUT[..at("<GrpHdr>") + 4]), "FIToFICstmrDrctDbt");
         assert_eq!(path(&CUT[..at("</GrpHdr>") + 5]), "FIToFICstmrDrctDbt/GrpHdr");
         let cut = &CUT[..at("Ccy=") + 2];
@@ -245,20 +192,21 @@ mod tests {
     }
 
     #[test]
-    fn doubled_items() {
-        let message = b"<TxId>B</TxId><TxId>A</TxId><TxId>C</TxId><TxId>B</TxId><TxId>A<TxId>B<";
-        assert_eq!(doubled(message), [b"A", b"B"]);
-        assert!(doubled(b"<TxId>A<TxId>AA<EndToEndId>A<").is_empty());
-    }
-
-    #[test]
-    fn items_and_their_sum() {
-        let message = b"<DrctDbtTxInf><IntrBkSttlmAmt Ccy=\"EUR\">5.3<DrctDbtTxInf>\
-            <IntrBkSttlmAmt Ccy=\"EUR\">0.01<TtlIntrBkSttlmAmt Ccy=\"EUR\">7</DrctDbtTxInf>";
-        assert_eq!(items(message), 2);
-        assert_eq!(cents(message), Some(531));
-        assert_eq!(cents(b"<IntrBkSttlmAmt Ccy=\"EUR\">5,3<"), None);
-        assert_eq!(worth(b"07<", Kind::Count, 0), Some(7));
-        assert_eq!(worth(b"x<", Kind::Count, 0), None);
+    fn an_excerpt_points_at_the_place() {
+        assert_eq!(excerpt(b"ab\n  <a>x</a>\ncd", 8), "    <a>x</a>\n       ^\n");
+        assert_eq!(excerpt(b"\t<a>x\r\n", 4), "    <a>x\n       ^\n");
+        assert_eq!(excerpt(b"<a", 2), "    <a\n      ^\n");
+        let long = format!("{}ü<b>{}", "a".repeat(100), "c".repeat(100));
+        let told = excerpt(long.as_bytes(), 102);
+        let lines: Vec<&str> = told.lines().collect();
+        let caret = lines[1].chars().position(|letter| letter == '^').unwrap();
+        assert_eq!(lines[0].chars().nth(caret), Some('<'), "{told}");
+        assert!(lines[0].starts_with("    …aaa") && lines[0].ends_with("ccc…"), "{told}");
+        assert!(lines[0].chars().count() <= 80, "{told}");
+        let nulls = excerpt(&[0; 200], 100);
+        let mut lines = nulls.lines();
+        assert!(lines.all(|line| line.chars().count() <= 80), "{nulls}");
+        // An escape is as wide as it is shown.
+        assert_eq!(excerpt(b"\x1b\xff<", 2), "    \\x1b\\xff<\n            ^\n");
     }
 }

@@ -1,9 +1,11 @@
 //! Messages and values from files and from standard input.
 
-use crate::say::{self, Language, Trouble};
-use std::ffi::OsStr;
-use std::fs::File;
+use crate::system;
+use crate::trouble::Trouble;
+use std::ffi::{OsStr, OsString};
+use std::fs::{self, File};
 use std::io::{self, Read};
+use std::path::Path;
 
 /// The most bytes that the judge takes. One more is refused with 1 whatever follows, so no more than
 /// that is ever read: a file of any size, or an endless one, does no harm.
@@ -13,41 +15,57 @@ const MOST: u64 = 16_777_216;
 pub const INPUT: &str = "-";
 
 /// The bytes of a file, or of standard input.
-pub fn bytes(name: &OsStr, language: Language) -> Result<Vec<u8>, Trouble> {
+pub fn bytes(name: &OsStr) -> Result<Vec<u8>, Trouble> {
     let read = if name == INPUT {
-        up_to_most(io::stdin().lock())
+        if system::is_closed(&io::stdin()) {
+            return Err(Trouble::InputClosed);
+        }
+        up_to_most(io::stdin().lock(), 0)
     } else {
-        File::open(name).and_then(up_to_most)
+        File::open(name).and_then(|file| {
+            let length = file.metadata()?.len();
+            up_to_most(file, length)
+        })
     };
-    read.map_err(|error| unreadable(name, &error, language))
+    read.map_err(|error| Trouble::Unreadable(name.to_owned(), error))
 }
 
-fn up_to_most(from: impl Read) -> io::Result<Vec<u8>> {
-    let mut bytes = Vec::new();
+/// Reads up to the most, with room for the length that is known.
+fn up_to_most(from: impl Read, length: u64) -> io::Result<Vec<u8>> {
+    let mut bytes = Vec::with_capacity(length.min(MOST) as usize + 1);
     from.take(MOST + 1).read_to_end(&mut bytes)?;
     Ok(bytes)
 }
 
-fn unreadable(name: &OsStr, error: &io::Error, language: Language) -> Trouble {
-    let name = say::file(name);
-    // The numbers of the system, the same on every Linux that we build for.
-    let (english, german) = match error.raw_os_error() {
-        Some(2 | 20) => (
-            "There is no such file. Check the name and the folder.".to_string(),
-            "Diese Datei gibt es nicht. Bitte Name und Ordner prüfen.".to_string(),
-        ),
-        Some(1 | 13) => (
-            "You may not read it. Ask its owner for the right to read it.".to_string(),
-            "Das Leserecht fehlt. Bitte beim Eigentümer der Datei anfragen.".to_string(),
-        ),
-        Some(21) => (
-            "It is a folder. Name a file in it.".to_string(),
-            "Das ist ein Ordner. Bitte eine Datei darin nennen.".to_string(),
-        ),
-        _ => (
-            format!("Reading failed: {error}. Copy the file anew and try again."),
-            format!("Lesen fehlgeschlagen: {error}. Bitte neu kopieren und noch einmal versuchen."),
-        ),
-    };
-    language.trouble(format!("{name}: {english}"), format!("{name}: {german}"))
+/// The files that an argument means: itself, or of a folder its .xml files.
+pub fn files(name: &OsStr) -> Result<Vec<OsString>, Trouble> {
+    if !is_folder(name) {
+        return Ok(vec![name.to_owned()]);
+    }
+    let fail = |error| Trouble::Unreadable(name.to_owned(), error);
+    let mut files = Vec::new();
+    for entry in fs::read_dir(name).map_err(fail)? {
+        let path = entry.map_err(fail)?.path();
+        // A file that is there but cannot be looked at is named too: the judge will say why.
+        let is_file = fs::metadata(&path).map_or(true, |data| data.is_file());
+        if is_file && is_xml(&path) {
+            files.push(path.into_os_string());
+        }
+    }
+    files.sort();
+    match files.len() {
+        0 => Err(Trouble::NoXml(name.to_owned())),
+        _ => Ok(files),
+    }
+}
+
+/// Whether an argument is a folder.
+pub fn is_folder(name: &OsStr) -> bool {
+    name != INPUT && fs::metadata(name).is_ok_and(|data| data.is_dir())
+}
+
+/// Whether a name ends in .xml, in any case. Hidden files do not count.
+pub fn is_xml(path: &Path) -> bool {
+    let is_hidden = path.file_name().is_some_and(|name| name.to_string_lossy().starts_with('.'));
+    !is_hidden && path.extension().is_some_and(|end| end.eq_ignore_ascii_case("xml"))
 }

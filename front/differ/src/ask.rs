@@ -2,11 +2,12 @@
 //! against each other, and the laws that the library's proofs state are tried on the compiled code.
 
 use crate::damage::{Case, Known};
-use crate::face::{self, Words};
+use crate::face::{self, Words, RECORD};
+use crate::kind::Kind;
 use crate::random::Random;
 use crate::slow::{self, Slow};
 use crate::tally::{Name, Tally};
-use crate::value::{self, Kind};
+use crate::value;
 use plain::Verdict;
 
 /// A verdict as the C face tells it.
@@ -55,6 +56,7 @@ pub struct Asker {
 }
 
 impl Asker {
+    /// Nothing asked yet.
     pub fn new(what: String) -> Asker {
         Asker { tally: Tally::new(what), slow: Slow::new() }
     }
@@ -197,7 +199,7 @@ impl Asker {
         let answers = (face::item(bytes, 0), face::item(&other, 0));
         let (one, two) = (("as it is", &answers.0), ("other names", &answers.1));
         self.tally.hold(name, &question, bytes, one, two);
-        let room = if library[0] == 0 { 256 * library[1] as usize } else { 256 };
+        let room = if library[0] == 0 { RECORD * library[1] as usize } else { RECORD };
         let (mut one, mut two) = (vec![0xAA; room], vec![0xAA; room]);
         let question = || "records, with other names".to_string();
         let answers = (face::records(bytes, &mut one), face::records(&other, &mut two));
@@ -241,12 +243,14 @@ impl Asker {
         let plain = verdict_words(plain::records(&case.bytes, area.area()));
         let mut known = lent.clone();
         let words = match verdict {
-            Verdict::Accepted { count, .. } if (length as u64) < 256 * count => [17, 0, 0],
+            Verdict::Accepted { count, .. } if (length as u64) < RECORD as u64 * count => {
+                [17, 0, 0]
+            }
             verdict => verdict_words(verdict),
         };
         if words[0] == 0 {
             let records = match case.records.is_empty() {
-                true => area.area()[..256 * words[1] as usize].to_vec(),
+                true => area.area()[..RECORD * words[1] as usize].to_vec(),
                 false => case.records.clone(),
             };
             known.area()[..records.len()].copy_from_slice(&records);
@@ -297,6 +301,7 @@ impl Area {
         Area { bytes, before }
     }
 
+    /// The lent part, between the bytes that must stay.
     fn area(&mut self) -> &mut [u8] {
         let end = self.bytes.len() - Area::BEHIND;
         &mut self.bytes[self.before..end]
@@ -306,10 +311,12 @@ impl Area {
 /// The lengths of areas that a message of so many items is asked with: none, one record and one byte
 /// less or more, the room that is wanted and one byte or one record less or more, any.
 pub fn area_lengths(items: usize, random: &mut Random) -> Vec<usize> {
-    let exact = 256 * items;
+    let exact = RECORD * items;
     let any = random.between(0, 2 * exact);
-    let mut lengths = vec![0, 1, 255, 256, 257, any, exact + random.between(2, 600)];
-    lengths.extend([exact - 256, exact - 1, exact, exact + 1, exact + 255, exact + 256]);
+    let mut lengths =
+        vec![0, 1, RECORD - 1, RECORD, RECORD + 1, any, exact + random.between(2, 600)];
+    lengths.extend([exact - RECORD, exact - 1, exact, exact + 1]);
+    lengths.extend([exact + RECORD - 1, exact + RECORD]);
     lengths.sort_unstable();
     lengths.dedup();
     lengths

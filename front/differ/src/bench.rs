@@ -30,6 +30,7 @@ enum Who {
 }
 
 impl Who {
+    /// As the table has it.
     fn name(&self) -> String {
         match self {
             Who::LibraryJudge => "library, judge".into(),
@@ -76,6 +77,7 @@ struct Times {
 }
 
 impl Times {
+    /// The middle and the least of these.
     fn of(mut times: Vec<Duration>) -> Times {
         times.sort_unstable();
         Times { median: times[times.len() / 2].as_secs_f64(), least: times[0].as_secs_f64() }
@@ -85,7 +87,7 @@ impl Times {
 /// The times of each of them, by turns, so that the load of the machine meets all alike.
 fn times(all: &[Who], message: &[u8], file: &Path, rounds: usize) -> Vec<Times> {
     let count = face::judge(message)[1] as usize;
-    let mut area = vec![0; 256 * count];
+    let mut area = vec![0; face::RECORD * count];
     let mut times = vec![Vec::new(); all.len()];
     for round in 0..WARM_UP + rounds {
         for (who, times) in all.iter().zip(&mut times) {
@@ -107,6 +109,7 @@ struct Measured {
 }
 
 impl Measured {
+    /// The word for its layout.
     fn form(&self) -> &'static str {
         if self.indented {
             "indented"
@@ -116,6 +119,7 @@ impl Measured {
     }
 }
 
+/// The times of all of them for one message.
 fn measure(all: &[Who], folder: &Path, items: usize, indented: bool) -> Measured {
     let message = usual(items, indented);
     let file = folder.join(format!("bench-{items}.xml"));
@@ -159,7 +163,7 @@ pub fn bench(out: &str, machine: &Machine) -> ExitCode {
     let load = load.split(' ').next().unwrap_or("not known").to_string();
     let mut all = vec![Who::LibraryJudge, Who::PlainJudge, Who::LibraryRecords, Who::PlainRecords];
     let (tools, left_out) = programs(&mut all);
-    let folder = PathBuf::from(env!("DIFFERENCES")).with_file_name("bench");
+    let folder = PathBuf::from(face::FOLDER).join("bench");
     std::fs::create_dir_all(&folder).expect("the folder of the messages can be made");
     let measured = MESSAGES.map(|(items, indented)| {
         let measured = measure(&all, &folder, items, indented);
@@ -222,6 +226,7 @@ fn how(machine: &Machine, load: &str, tools: &[String], left_out: &[&str]) -> St
     )
 }
 
+/// A number with commas.
 fn grouped(number: usize) -> String {
     let digits = number.to_string();
     let mut out = String::new();

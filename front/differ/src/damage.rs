@@ -1,8 +1,9 @@
 //! Damaged messages, with what is known of their refusal.
 
+use crate::kind::Kind;
 use crate::message::{accepted, concat, Message, Part, Plan, What, DECLARATION, INSTRUMENTS};
 use crate::random::Random;
-use crate::value::{self, Kind, WHITE};
+use crate::value::{self, WHITE};
 
 /// What is known of the judge's answer, from the way the message was made.
 #[derive(Clone, Copy, Debug, PartialEq, Eq)]
@@ -32,6 +33,7 @@ pub struct Case {
 }
 
 impl Case {
+    /// A case of which no item and no record is known.
     pub fn new(bytes: Vec<u8>, damage: &'static str, known: Known) -> Case {
         Case { bytes, damage, known, items: Vec::new(), records: Vec::new() }
     }
@@ -165,18 +167,22 @@ pub fn whole(message: Message) -> Case {
     }
 }
 
+/// What is known of a message that nothing was done to.
 pub(crate) fn fine(message: &Message) -> Known {
     Known::Accepted { count: message.count, cents: message.cents }
 }
 
+/// Whether a part is a tag.
 pub(crate) fn is_tag(part: &Part) -> bool {
     matches!(part.what, What::Start | What::End)
 }
 
+/// Whether a part is a value.
 pub(crate) fn is_value(part: &Part) -> bool {
     matches!(part.what, What::Value(_))
 }
 
+/// The kind of a part that is a value.
 pub(crate) fn kind_of(part: &Part) -> Kind {
     match part.what {
         What::Value(kind) => kind,
@@ -192,10 +198,12 @@ pub(crate) fn form_number(kind: Kind) -> u8 {
     }
 }
 
+/// One of these parts by chance; nothing where there is none.
 fn pick(parts: &[usize], random: &mut Random) -> Option<usize> {
     (!parts.is_empty()).then(|| parts[random.below(parts.len())])
 }
 
+/// The parts that are values of a kind.
 pub(crate) fn values_of(message: &Message, kind: Kind) -> Vec<usize> {
     message.parts_that(|part| part.what == What::Value(kind))
 }
@@ -217,22 +225,26 @@ pub(crate) fn cut_to(message: &Message, length: usize) -> (Vec<u8>, Known) {
     (bytes, known)
 }
 
+/// The message cut anywhere.
 fn cut(message: Message, random: &mut Random) -> Option<(Vec<u8>, Known)> {
     let length = random.between(0, message.bytes().len());
     Some(cut_to(&message, length))
 }
 
+/// The message cut between two parts.
 fn cut_at_part(message: Message, random: &mut Random) -> Option<(Vec<u8>, Known)> {
     let part = random.between(0, message.parts.len());
     Some(cut_to(&message, message.place(part)))
 }
 
+/// One edit of a byte anywhere.
 fn one_edit(message: Message, random: &mut Random) -> Option<(Vec<u8>, Known)> {
     let mut bytes = message.bytes();
     value::edit(&mut bytes, random);
     Some((bytes, Known::Nothing))
 }
 
+/// Two edits of bytes anywhere.
 fn two_edits(message: Message, random: &mut Random) -> Option<(Vec<u8>, Known)> {
     let mut bytes = message.bytes();
     value::edit(&mut bytes, random);
@@ -240,6 +252,7 @@ fn two_edits(message: Message, random: &mut Random) -> Option<(Vec<u8>, Known)> 
     Some((bytes, Known::Nothing))
 }
 
+/// One byte set to another.
 fn byte_changed(message: Message, random: &mut Random) -> Option<(Vec<u8>, Known)> {
     let mut bytes = message.bytes();
     let at = random.below(bytes.len());
@@ -247,18 +260,21 @@ fn byte_changed(message: Message, random: &mut Random) -> Option<(Vec<u8>, Known
     Some((bytes, Known::Nothing))
 }
 
+/// One byte taken out.
 fn byte_deleted(message: Message, random: &mut Random) -> Option<(Vec<u8>, Known)> {
     let mut bytes = message.bytes();
     bytes.remove(random.below(bytes.len()));
     Some((bytes, Known::Nothing))
 }
 
+/// One byte put in.
 fn byte_inserted(message: Message, random: &mut Random) -> Option<(Vec<u8>, Known)> {
     let mut bytes = message.bytes();
     bytes.insert(random.between(0, bytes.len()), value::foreign(random));
     Some((bytes, Known::Nothing))
 }
 
+/// One byte put in twice.
 fn byte_doubled(message: Message, random: &mut Random) -> Option<(Vec<u8>, Known)> {
     let mut bytes = message.bytes();
     let at = random.below(bytes.len());
@@ -266,18 +282,21 @@ fn byte_doubled(message: Message, random: &mut Random) -> Option<(Vec<u8>, Known
     Some((bytes, Known::Nothing))
 }
 
+/// One tag twice.
 fn tag_doubled(mut message: Message, random: &mut Random) -> Option<(Vec<u8>, Known)> {
     let at = pick(&message.parts_that(is_tag), random)?;
     message.parts.insert(at, message.parts[at].clone());
     Some((message.bytes(), Known::Bad))
 }
 
+/// One tag taken out.
 fn tag_dropped(mut message: Message, random: &mut Random) -> Option<(Vec<u8>, Known)> {
     let at = pick(&message.parts_that(is_tag), random)?;
     message.parts.remove(at);
     Some((message.bytes(), Known::Bad))
 }
 
+/// Two tags that follow each other, exchanged.
 fn tag_swapped(mut message: Message, random: &mut Random) -> Option<(Vec<u8>, Known)> {
     let tags = message.parts_that(is_tag);
     let at = random.below(tags.len() - 1);
@@ -316,6 +335,7 @@ pub(crate) fn malform(tag: &mut Vec<u8>, way: usize, random: &mut Random) {
     }
 }
 
+/// One tag that is no longer one.
 fn tag_malformed(mut message: Message, random: &mut Random) -> Option<(Vec<u8>, Known)> {
     let at = pick(&message.parts_that(is_tag), random)?;
     let way = random.below(MALFORMED);
@@ -323,6 +343,7 @@ fn tag_malformed(mut message: Message, random: &mut Random) -> Option<(Vec<u8>, 
     Some((message.bytes(), Known::Bad))
 }
 
+/// One tag with the text of another.
 fn tag_replaced(mut message: Message, random: &mut Random) -> Option<(Vec<u8>, Known)> {
     let tags = message.parts_that(is_tag);
     let (one, other) = (pick(&tags, random)?, pick(&tags, random)?);
@@ -333,6 +354,7 @@ fn tag_replaced(mut message: Message, random: &mut Random) -> Option<(Vec<u8>, K
     Some((message.bytes(), Known::Bad))
 }
 
+/// A `<` alone: in place of a tag, or put in anywhere.
 fn lone_bracket(mut message: Message, random: &mut Random) -> Option<(Vec<u8>, Known)> {
     if random.once_in(2) {
         let at = pick(&message.parts_that(is_tag), random)?;
@@ -361,11 +383,13 @@ pub(crate) fn element_at(message: &Message, start: usize) -> (usize, usize) {
     panic!("the start tag has an end tag")
 }
 
+/// The parts of one element by chance.
 fn any_element(message: &Message, random: &mut Random) -> (usize, usize) {
     let starts = message.parts_that(|part| part.what == What::Start);
     element_at(message, starts[random.below(starts.len())])
 }
 
+/// One element taken out; two of them may be missing.
 fn element_dropped(mut message: Message, random: &mut Random) -> Option<(Vec<u8>, Known)> {
     let (first, after) = any_element(&message, random);
     let known = match message.parts[first].name {
@@ -376,6 +400,7 @@ fn element_dropped(mut message: Message, random: &mut Random) -> Option<(Vec<u8>
     Some((message.bytes(), known))
 }
 
+/// One element twice.
 fn element_doubled(mut message: Message, random: &mut Random) -> Option<(Vec<u8>, Known)> {
     let (first, after) = any_element(&message, random);
     let copy = message.parts[first..after].to_vec();
@@ -383,6 +408,7 @@ fn element_doubled(mut message: Message, random: &mut Random) -> Option<(Vec<u8>
     Some((message.bytes(), Known::Bad))
 }
 
+/// Two elements that follow each other, exchanged.
 fn elements_swapped(mut message: Message, random: &mut Random) -> Option<(Vec<u8>, Known)> {
     let (first, after) = any_element(&message, random);
     let next = (after..message.parts.len()).find(|&at| message.parts[at].what != What::White)?;
@@ -399,6 +425,7 @@ fn elements_swapped(mut message: Message, random: &mut Random) -> Option<(Vec<u8
     Some((message.bytes(), known))
 }
 
+/// Something before a tag that the profile does not have.
 fn element_not_listed(mut message: Message, random: &mut Random) -> Option<(Vec<u8>, Known)> {
     let element = random.pick(&[
         "<CtrlSum>1</CtrlSum>",
@@ -436,6 +463,7 @@ fn another(number: u64, most: u64, random: &mut Random) -> u64 {
     }
 }
 
+/// Makes NbOfTxs another number: 14.
 fn set_count_off(message: &mut Message, random: &mut Random) -> Known {
     let part = message.header_value("NbOfTxs");
     let number = another(message.count, 999_999_999_999_999, random);
@@ -443,6 +471,7 @@ fn set_count_off(message: &mut Message, random: &mut Random) -> Known {
     Known::Refused { number: 14, place: message.place(part) }
 }
 
+/// Makes the total another amount: 15, or 9 for none.
 fn set_total_off(message: &mut Message, random: &mut Random) -> Known {
     let part = message.header_value("TtlIntrBkSttlmAmt");
     let cents = another(message.cents, value::HEADER_MOST, random);
@@ -450,16 +479,19 @@ fn set_total_off(message: &mut Message, random: &mut Random) -> Known {
     Known::Refused { number: if cents == 0 { 9 } else { 15 }, place: message.place(part) }
 }
 
+/// The count wrong.
 fn count_off(mut message: Message, random: &mut Random) -> Option<(Vec<u8>, Known)> {
     let known = set_count_off(&mut message, random);
     Some((message.bytes(), known))
 }
 
+/// The total wrong.
 fn total_off(mut message: Message, random: &mut Random) -> Option<(Vec<u8>, Known)> {
     let known = set_total_off(&mut message, random);
     Some((message.bytes(), known))
 }
 
+/// The count and the total wrong: 14, but a total of none is met first.
 fn both_off(mut message: Message, random: &mut Random) -> Option<(Vec<u8>, Known)> {
     let count = set_count_off(&mut message, random);
     let total = set_total_off(&mut message, random);
@@ -476,6 +508,7 @@ fn slip(message: &mut Message, kind: Kind, random: &mut Random) -> Option<usize>
     value::slip(kind, &mut message.parts[part].bytes, random).then_some(part)
 }
 
+/// A slip in a value with check digits: 8.
 fn check_digits_slip(
     mut message: Message,
     kind: Kind,
@@ -485,14 +518,17 @@ fn check_digits_slip(
     Some((message.bytes(), Known::Refused { number: 8, place: message.place(part) }))
 }
 
+/// A slip in an IBAN.
 fn slip_in_iban(message: Message, random: &mut Random) -> Option<(Vec<u8>, Known)> {
     check_digits_slip(message, Kind::Iban, random)
 }
 
+/// A slip in a creditor identifier.
 fn slip_in_identifier(message: Message, random: &mut Random) -> Option<(Vec<u8>, Known)> {
     check_digits_slip(message, Kind::CreditorId, random)
 }
 
+/// A slip in an item's amount: 15 at the total, or 9 where it leaves the range.
 fn slip_in_amount(mut message: Message, random: &mut Random) -> Option<(Vec<u8>, Known)> {
     let part = slip(&mut message, Kind::ItemAmount, random)?;
     let cents = value::cents_of(&message.parts[part].bytes);
@@ -503,17 +539,20 @@ fn slip_in_amount(mut message: Message, random: &mut Random) -> Option<(Vec<u8>,
     Some((message.bytes(), Known::Refused { number: known.0, place: message.place(known.1) }))
 }
 
+/// A slip in NbOfTxs: 14.
 fn slip_in_count(mut message: Message, random: &mut Random) -> Option<(Vec<u8>, Known)> {
     let part = slip(&mut message, Kind::Count, random)?;
     Some((message.bytes(), Known::Refused { number: 14, place: message.place(part) }))
 }
 
+/// A slip in the total: 15, or 9 for none.
 fn slip_in_total(mut message: Message, random: &mut Random) -> Option<(Vec<u8>, Known)> {
     let part = slip(&mut message, Kind::HeaderAmount, random)?;
     let number = if value::cents_of(&message.parts[part].bytes) == 0 { 9 } else { 15 };
     Some((message.bytes(), Known::Refused { number, place: message.place(part) }))
 }
 
+/// Check digits 00, 01 or 99 that leave the right rest: 8.
 fn alias(mut message: Message, random: &mut Random) -> Option<(Vec<u8>, Known)> {
     let kind = if random.once_in(2) { Kind::Iban } else { Kind::CreditorId };
     let part = pick(&values_of(&message, kind), random)?;
@@ -521,6 +560,7 @@ fn alias(mut message: Message, random: &mut Random) -> Option<(Vec<u8>, Known)> 
     Some((message.bytes(), Known::Refused { number: 8, place: message.place(part) }))
 }
 
+/// White space within a tag or the declaration.
 fn white_in_tag(mut message: Message, random: &mut Random) -> Option<(Vec<u8>, Known)> {
     let tags = message.parts_that(|part| is_tag(part) || part.what == What::Declaration);
     let part = pick(&tags, random)?;
@@ -532,6 +572,7 @@ fn white_in_tag(mut message: Message, random: &mut Random) -> Option<(Vec<u8>, K
     Some((message.bytes(), Known::Refused { number, place: message.place(part) }))
 }
 
+/// White space before the declaration: 2 at the declaration.
 fn white_before_declaration(message: Message, random: &mut Random) -> Option<(Vec<u8>, Known)> {
     if message.parts[0].what != What::Declaration {
         return None;
@@ -541,6 +582,7 @@ fn white_before_declaration(message: Message, random: &mut Random) -> Option<(Ve
     Some((bytes, Known::Refused { number: 2, place }))
 }
 
+/// White space before a value.
 fn white_before_value(mut message: Message, random: &mut Random) -> Option<(Vec<u8>, Known)> {
     let part = pick(&message.parts_that(is_value), random)?;
     message.parts[part].bytes.insert(0, random.of(WHITE));
@@ -548,6 +590,7 @@ fn white_before_value(mut message: Message, random: &mut Random) -> Option<(Vec<
     Some((message.bytes(), Known::Refused { number, place: message.place(part) }))
 }
 
+/// White space behind a value; a text may end with a space.
 fn white_behind_value(mut message: Message, random: &mut Random) -> Option<(Vec<u8>, Known)> {
     let part = pick(&message.parts_that(is_value), random)?;
     let white = random.of(WHITE);
@@ -562,6 +605,7 @@ fn white_behind_value(mut message: Message, random: &mut Random) -> Option<(Vec<
     Some((message.bytes(), known))
 }
 
+/// A byte that may stand nowhere.
 fn no_ascii(random: &mut Random) -> u8 {
     match random.below(3) {
         0 => 0,
@@ -570,6 +614,7 @@ fn no_ascii(random: &mut Random) -> u8 {
     }
 }
 
+/// One byte set to one that may stand nowhere.
 fn foreign_set(message: Message, random: &mut Random) -> Option<(Vec<u8>, Known)> {
     let mut bytes = message.bytes();
     let at = random.below(bytes.len());
@@ -577,12 +622,14 @@ fn foreign_set(message: Message, random: &mut Random) -> Option<(Vec<u8>, Known)
     Some((bytes, Known::Bad))
 }
 
+/// A byte put in that may stand nowhere.
 fn foreign_inserted(message: Message, random: &mut Random) -> Option<(Vec<u8>, Known)> {
     let mut bytes = message.bytes();
     bytes.insert(random.between(0, bytes.len()), no_ascii(random));
     Some((bytes, Known::Bad))
 }
 
+/// Another currency: 6 if it is three capitals, else 4 at the tag.
 fn currency(mut message: Message, random: &mut Random) -> Option<(Vec<u8>, Known)> {
     let amounts = message.parts_that(|part| {
         part.what == What::Start && matches!(part.name, "IntrBkSttlmAmt" | "TtlIntrBkSttlmAmt")
@@ -602,6 +649,7 @@ fn currency(mut message: Message, random: &mut Random) -> Option<(Vec<u8>, Known
     Some((message.bytes(), known))
 }
 
+/// One item of the other local instrument: 11.
 fn mixed(mut message: Message, random: &mut Random) -> Option<(Vec<u8>, Known)> {
     let instruments = values_of(&message, INSTRUMENTS);
     if instruments.len() < 2 {
@@ -617,6 +665,7 @@ fn mixed(mut message: Message, random: &mut Random) -> Option<(Vec<u8>, Known)> 
     Some((message.bytes(), Known::Refused { number: 11, place }))
 }
 
+/// A value taken out, its tags left.
 fn empty_value(mut message: Message, random: &mut Random) -> Option<(Vec<u8>, Known)> {
     let part = pick(&message.parts_that(is_value), random)?;
     message.parts[part].bytes.clear();
@@ -624,6 +673,7 @@ fn empty_value(mut message: Message, random: &mut Random) -> Option<(Vec<u8>, Kn
     Some((message.bytes(), Known::Refused { number, place: message.place(part) }))
 }
 
+/// One value replaced by what is made for its kind.
 fn replace_value(
     mut message: Message,
     random: &mut Random,
@@ -634,22 +684,27 @@ fn replace_value(
     Some((message.bytes(), Known::Nothing))
 }
 
+/// One value replaced by one that is nearly valid.
 fn near_value(message: Message, random: &mut Random) -> Option<(Vec<u8>, Known)> {
     replace_value(message, random, value::near)
 }
 
+/// One value replaced by a damaged one.
 fn damaged_value(message: Message, random: &mut Random) -> Option<(Vec<u8>, Known)> {
     replace_value(message, random, value::damaged)
 }
 
+/// One value replaced by random bytes.
 fn random_value(message: Message, random: &mut Random) -> Option<(Vec<u8>, Known)> {
     replace_value(message, random, value::random)
 }
 
+/// One value replaced by another valid one.
 fn other_value(message: Message, random: &mut Random) -> Option<(Vec<u8>, Known)> {
     replace_value(message, random, |kind, random| value::valid(kind, random).bytes)
 }
 
+/// One value nearly valid, then the message cut.
 fn near_value_cut(message: Message, random: &mut Random) -> Option<(Vec<u8>, Known)> {
     let (mut bytes, _) = near_value(message, random)?;
     bytes.truncate(random.below(bytes.len()));
@@ -666,10 +721,12 @@ fn texts_replaced(mut message: Message, random: &mut Random) -> Option<(Vec<u8>,
     Some((message.bytes(), fine(&message)))
 }
 
+/// The parts of one item by chance.
 fn any_item(message: &Message, random: &mut Random) -> (usize, usize) {
     message.items[random.below(message.items.len())]
 }
 
+/// One item twice, the header as it was: 14.
 fn item_doubled(mut message: Message, random: &mut Random) -> Option<(Vec<u8>, Known)> {
     let (first, after) = any_item(&message, random);
     let copy = message.parts[first..after].to_vec();
@@ -678,6 +735,7 @@ fn item_doubled(mut message: Message, random: &mut Random) -> Option<(Vec<u8>, K
     Some((message.bytes(), Known::Refused { number: 14, place }))
 }
 
+/// One item twice, and a header that fits: accepted.
 fn item_doubled_right(mut message: Message, random: &mut Random) -> Option<(Vec<u8>, Known)> {
     let (first, after) = any_item(&message, random);
     let copy = message.parts[first..after].to_vec();
@@ -692,6 +750,7 @@ fn item_doubled_right(mut message: Message, random: &mut Random) -> Option<(Vec<
     Some((message.bytes(), fine(&message)))
 }
 
+/// One item of several taken out: 14.
 fn item_dropped(mut message: Message, random: &mut Random) -> Option<(Vec<u8>, Known)> {
     if message.items.len() < 2 {
         return None;
@@ -715,6 +774,7 @@ fn no_item(mut message: Message, random: &mut Random) -> Option<(Vec<u8>, Known)
     Some((message.bytes(), Known::Refused { number: 4, place: message.place(close) }))
 }
 
+/// Something behind the end: 16 at its first byte that is not white.
 fn after_end(message: Message, random: &mut Random) -> Option<(Vec<u8>, Known)> {
     let mut bytes = message.bytes();
     let length = random.between(0, 3);
@@ -765,6 +825,7 @@ fn beginning(message: Message, random: &mut Random) -> Option<(Vec<u8>, Known)> 
     Some(([wrong.as_bytes(), &bytes].concat(), Known::Refused { number: 2, place: 0 }))
 }
 
+/// No message at all.
 fn random_bytes(_: Message, random: &mut Random) -> Option<(Vec<u8>, Known)> {
     let length = random.between(0, 120);
     let bytes = match random.below(3) {

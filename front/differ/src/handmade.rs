@@ -1,6 +1,6 @@
 //! Handmade values that stand beside the lines of a kind; some are valid.
 
-use crate::value::Kind;
+use crate::kind::Kind;
 
 /// The handmade values of a kind.
 pub fn handmade(kind: Kind) -> &'static [&'static str] {

@@ -1,6 +1,7 @@
 //! Values and messages made from a seed, what is known of them, and the judges that are asked.
 //!
 //! - [`random`]: a seeded generator of numbers.
+//! - [`kind`]: the kinds of value.
 //! - [`value`], [`handmade`]: values of each kind: valid, nearly valid, damaged, random.
 //! - [`message`]: accepted messages, with what is known of them.
 //! - [`damage`]: damaged messages, with what is known of their refusal.
@@ -19,6 +20,7 @@ pub mod bench;
 pub mod damage;
 pub mod face;
 pub mod handmade;
+pub mod kind;
 pub mod message;
 pub mod random;
 pub mod slips;

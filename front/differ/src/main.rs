@@ -21,13 +21,14 @@ differ slips N SEED           every slip of N messages
 differ records N SEED         N messages with record areas of all sizes
 differ limits                 messages at the limits of length and of items
 differ large N SEED           N messages of up to 10,000 items
-differ samples FOLDER         the sample messages, the October day among them
+differ samples FOLDER         the sample messages, and the October day with its own count
 differ again RUN SEED NUMBER  one case of a run again, with every question
 differ show RUN SEED NUMBER   the bytes of one case to standard output
 differ file FILE              every question about the bytes of a file
 differ bench OUT PROCESSOR KERNEL RUST DAY   the stopwatch; the table goes to OUT
 Exit status: 0 no difference, 1 a difference, 2 bad usage.";
 
+/// Runs what the words ask for, or tells the usage.
 fn main() -> ExitCode {
     let words: Vec<String> = std::env::args().skip(1).collect();
     let words: Vec<&str> = words.iter().map(String::as_str).collect();
@@ -58,6 +59,7 @@ fn main() -> ExitCode {
     })
 }
 
+/// Two words as numbers.
 fn numbers(one: &str, other: &str) -> Option<(u64, u64)> {
     Some((one.parse().ok()?, other.parse().ok()?))
 }
@@ -101,6 +103,7 @@ fn all(times: u64) -> ExitCode {
     ExitCode::from(u8::from(failed))
 }
 
+/// Values beside each other, of every kind.
 fn value_sweep(seed: u64) -> ExitCode {
     let mut asker = Asker::new(format!("value-sweep {seed}"));
     value::sweep(seed, |number, case| {
@@ -109,6 +112,7 @@ fn value_sweep(seed: u64) -> ExitCode {
     asker.tally.end()
 }
 
+/// So many values, valid, damaged and random.
 fn values(n: u64, seed: u64) -> ExitCode {
     let mut asker = Asker::new(format!("values {n} {seed}"));
     for number in 0..n {
@@ -132,6 +136,7 @@ fn message_sweep(seed: u64) -> ExitCode {
     asker.tally.end()
 }
 
+/// So many messages, accepted and damaged, each with every question but the records.
 fn messages(n: u64, seed: u64) -> ExitCode {
     let mut asker = Asker::new(format!("messages {n} {seed}"));
     for number in 0..n {
@@ -141,6 +146,7 @@ fn messages(n: u64, seed: u64) -> ExitCode {
     asker.tally.end()
 }
 
+/// Every slip of so many messages.
 fn slipped(n: u64, seed: u64) -> ExitCode {
     let mut asker = Asker::new(format!("slips {n} {seed}"));
     for message in 0..n {
@@ -161,6 +167,7 @@ fn areas(seed: u64, number: u64, case: &Case) -> Vec<usize> {
     area_lengths(items, random)
 }
 
+/// So many messages, each with areas of all sizes.
 fn records(n: u64, seed: u64) -> ExitCode {
     let mut asker = Asker::new(format!("records {n} {seed}"));
     for number in 0..n {
@@ -172,40 +179,45 @@ fn records(n: u64, seed: u64) -> ExitCode {
     asker.tally.end()
 }
 
+/// Messages at the limits, with an area of just the room that the most items take.
 fn limits() -> ExitCode {
     let mut asker = Asker::new("limits".into());
     sweep::limits(|number, case| {
         let name = Name { run: "limits", seed: 0, number, sort: case.damage };
         asker.message(&name, &case);
-        let exact = 256 * damage::MOST_ITEMS;
-        let lengths = [exact, exact - 1, exact + 300, 0, 256];
+        let exact = face::RECORD * damage::MOST_ITEMS;
+        let lengths = [exact, exact - 1, exact + 300, 0, face::RECORD];
         let asked = if case.damage == "none" { 5 } else { 1 };
         asker.records(&name, &case, &lengths[..asked]);
     });
     asker.tally.end()
 }
 
+/// So many messages of thousands of items, with an area of one byte too few and one too many.
 fn large(n: u64, seed: u64) -> ExitCode {
     let mut asker = Asker::new(format!("large {n} {seed}"));
     for number in 0..n {
         let case = damage::large(seed, number);
         let name = Name { run: "large", seed, number, sort: case.damage };
         asker.message(&name, &case);
-        let exact = 256 * face::judge(&case.bytes)[1].min(damage::MOST_ITEMS as u64) as usize;
+        let items = face::judge(&case.bytes)[1].min(damage::MOST_ITEMS as u64) as usize;
+        let exact = face::RECORD * items;
         asker.records(&name, &case, &[exact.saturating_sub(1), exact + 1]);
     }
     asker.tally.end()
 }
 
 /// A sample, and what its verdict must be.
-const SAMPLES: [(&str, Known); 3] = [
+const SAMPLES: [(&str, Known); 5] = [
     ("evening.xml", Known::Accepted { count: 5, cents: 202_490 }),
     ("evening-indented.xml", Known::Accepted { count: 5, cents: 202_490 }),
     ("october.xml", Known::Refused { number: 14, place: 252 }),
+    ("doubled.xml", Known::Accepted { count: 6, cents: 286_990 }),
+    ("example.xml", Known::Accepted { count: 1, cents: 1234 }),
 ];
 
-/// The samples. The October day: refused with 14; accepted as soon as the count is that of its items,
-/// so nothing but the count tells it.
+/// The samples. The October day: refused with 14; accepted as soon as the count is that of its
+/// items, so nothing but the count tells it.
 fn samples(folder: &str) -> ExitCode {
     let mut asker = Asker::new("samples".into());
     let mut ask = |number: u64, sort: &'static str, bytes: Vec<u8>, known: Known| {
@@ -227,6 +239,7 @@ fn samples(folder: &str) -> ExitCode {
     asker.tally.end()
 }
 
+/// The bytes of a file; where it cannot be read that is told.
 fn read(file: &str) -> Option<Vec<u8>> {
     match std::fs::read(file) {
         Ok(bytes) => Some(bytes),
@@ -246,6 +259,7 @@ fn file_asked(file: &str) -> ExitCode {
     every_question(&name, &case)
 }
 
+/// The judge, the items, the laws and the records of one case.
 fn every_question(name: &Name, case: &Case) -> ExitCode {
     let mut asker = Asker::new(format!("{} {} {}", name.run, name.seed, name.number));
     asker.message(name, case);
@@ -278,6 +292,7 @@ fn one(
     found
 }
 
+/// Finds one message of a run and hands it on.
 fn one_message(run: &str, seed: u64, number: u64, of_message: OneMessage) -> Option<ExitCode> {
     let mut found = None;
     let mut message = |at: u64, case: Case| {
@@ -296,6 +311,7 @@ fn one_message(run: &str, seed: u64, number: u64, of_message: OneMessage) -> Opt
     found
 }
 
+/// Asks for a value again, and shows it.
 fn again_value(name: &Name, case: &value::Case) -> ExitCode {
     println!("{:?} b\"{}\"", case.kind, case.bytes.escape_ascii());
     let mut asker = Asker::new(format!("{} {} {}", name.run, name.seed, name.number));
@@ -303,18 +319,22 @@ fn again_value(name: &Name, case: &value::Case) -> ExitCode {
     asker.tally.end()
 }
 
+/// Asks every question about a message again.
 fn again_message(name: &Name, case: &Case) -> ExitCode {
     every_question(name, case)
 }
 
+/// The bytes of a value.
 fn show_value(_: &Name, case: &value::Case) -> ExitCode {
     show(&case.bytes)
 }
 
+/// The bytes of a message.
 fn show_message(_: &Name, case: &Case) -> ExitCode {
     show(&case.bytes)
 }
 
+/// Bytes to standard output.
 fn show(bytes: &[u8]) -> ExitCode {
     use std::io::Write;
     match std::io::stdout().write_all(bytes) {

@@ -1,7 +1,9 @@
 //! Accepted messages, in parts that a damage can take hold of, with what is known of them.
 
+use crate::face::RECORD;
+use crate::kind::Kind;
 use crate::random::Random;
-use crate::value::{self, Kind, WHITE};
+use crate::value::{self, WHITE};
 
 #[derive(Clone, Copy, Debug, PartialEq, Eq)]
 pub enum What {
@@ -93,10 +95,12 @@ struct Writer<'r> {
 }
 
 impl Writer<'_> {
+    /// Adds a part.
     fn part(&mut self, what: What, name: &'static str, bytes: Vec<u8>) {
         self.parts.push(Part { what, name, bytes });
     }
 
+    /// White space, as the plan has it.
     fn white(&mut self) {
         let bytes = match self.spacing {
             Spacing::None => return,
@@ -110,18 +114,21 @@ impl Writer<'_> {
         self.part(What::White, "", bytes);
     }
 
+    /// A group's start tag.
     fn open(&mut self, name: &'static str) {
         self.white();
         self.depth += 1;
         self.part(What::Start, name, format!("<{name}>").into_bytes());
     }
 
+    /// A group's end tag.
     fn close(&mut self, name: &'static str) {
         self.depth -= 1;
         self.white();
         self.part(What::End, name, format!("</{name}>").into_bytes());
     }
 
+    /// A group with what is written inside.
     fn group(&mut self, name: &'static str, inside: impl FnOnce(&mut Self)) {
         self.open(name);
         inside(self);
@@ -150,6 +157,7 @@ impl Writer<'_> {
         bytes
     }
 
+    /// An agent; answers its BIC.
     fn agent(&mut self, name: &'static str) -> Vec<u8> {
         self.open(name);
         self.open("FinInstnId");
@@ -159,6 +167,7 @@ impl Writer<'_> {
         bic
     }
 
+    /// An account; answers its IBAN.
     fn account(&mut self, name: &'static str) -> Vec<u8> {
         self.open(name);
         self.open("Id");
@@ -168,6 +177,7 @@ impl Writer<'_> {
         iban
     }
 
+    /// A group with one code.
     fn code(&mut self, name: &'static str, kind: Kind, bytes: &[u8]) {
         self.group(name, |w| w.given("Cd", kind, bytes));
     }
@@ -272,7 +282,7 @@ impl Writer<'_> {
 
 /// A record: each field filled with spaces to its width, and LF.
 fn record(fields: &[(Vec<u8>, usize)]) -> Vec<u8> {
-    let mut record = Vec::with_capacity(256);
+    let mut record = Vec::with_capacity(RECORD);
     for (field, width) in fields {
         let end = record.len() + width;
         record.extend(field);
@@ -332,6 +342,7 @@ pub fn accepted(plan: &Plan, random: &mut Random) -> Message {
 }
 
 impl Message {
+    /// The whole message.
     pub fn bytes(&self) -> Vec<u8> {
         concat(&self.parts)
     }
@@ -361,6 +372,7 @@ impl Message {
     }
 }
 
+/// The bytes of parts.
 pub fn concat(parts: &[Part]) -> Vec<u8> {
     parts.iter().flat_map(|part| part.bytes.iter().copied()).collect()
 }

@@ -3,6 +3,7 @@
 /// A xorshift generator.
 pub struct Random(u64);
 
+/// One step of splitmix64.
 fn mix(number: u64) -> u64 {
     let mut z = number.wrapping_add(0x9E37_79B9_7F4A_7C15);
     z = (z ^ (z >> 30)).wrapping_mul(0xBF58_476D_1CE4_E5B9);
@@ -46,6 +47,7 @@ impl Random {
         self.below(n) == 0
     }
 
+    /// One of a list.
     pub fn pick<'a, T: ?Sized>(&mut self, list: &[&'a T]) -> &'a T {
         list[self.below(list.len())]
     }

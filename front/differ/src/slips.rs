@@ -3,9 +3,10 @@
 //! to 7; an item left out; an item doubled. Each must be refused, and it is known how.
 
 use crate::damage::{Case, Known};
+use crate::kind::Kind;
 use crate::message::{accepted, concat, Message, Plan, What};
 use crate::random::Random;
-use crate::value::{self, Kind};
+use crate::value;
 
 /// So many slips of one message have a number of their own.
 pub const NUMBERS: u64 = 100_000;
@@ -35,6 +36,7 @@ fn counts(kind: Kind, at: usize) -> bool {
     kind != Kind::CreditorId || !(4..7).contains(&at)
 }
 
+/// Every slip of every count, amount, IBAN and identifier.
 fn in_values(message: &Message, give: Give) {
     for part in 0..message.parts.len() {
         let What::Value(kind) = message.parts[part].what else { continue };

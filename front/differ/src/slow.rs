@@ -2,7 +2,7 @@
 //! read as text, every tag is a pattern, and every kind is judged by templates and wide numbers.
 //! `plain` is held against it.
 
-use crate::value::Kind;
+use crate::kind::Kind;
 
 /// The paper's indented order. `?` 0 or 1, `+` 1 or more; `=` and the kind for a value.
 const TABLE: &str = "
@@ -80,6 +80,7 @@ pub struct Slow {
     top: Vec<Node>,
 }
 
+/// The elements of the table from here on that stand at this depth.
 fn nodes(lines: &mut std::iter::Peekable<std::str::Lines<'static>>, depth: usize) -> Vec<Node> {
     let mut nodes = Vec::new();
     while let Some(line) = lines.peek() {
@@ -104,6 +105,7 @@ fn nodes(lines: &mut std::iter::Peekable<std::str::Lines<'static>>, depth: usize
     nodes
 }
 
+/// The elements below one that is a group; a value has none.
 fn nodes_below(
     lines: &mut std::iter::Peekable<std::str::Lines<'static>>,
     depth: usize,
@@ -154,12 +156,14 @@ impl Run<'_> {
         Err(if ends { (3, self.message.len()) } else { (number, self.at) })
     }
 
+    /// Goes past white space.
     fn white(&mut self) {
         while self.at < self.message.len() && b" \t\r\n".contains(&self.message[self.at]) {
             self.at += 1;
         }
     }
 
+    /// The children of a group and its end tag, in the order of the table.
     fn children(&mut self, children: &[Node], end_tag: &str) -> Result<(), Refusal> {
         let mut had = vec![0usize; children.len()];
         let mut child = 0;
@@ -219,6 +223,7 @@ impl Run<'_> {
         Ok(())
     }
 
+    /// A value, by its kind or its codes, and its end tag.
     fn value(&mut self, node: &Node, kind: &str) -> Result<(), Refusal> {
         let place = self.at;
         let Some(length) = self.message[place..].iter().position(|&b| b == b'<') else {
@@ -253,6 +258,7 @@ impl Run<'_> {
     }
 }
 
+/// A start tag as a pattern: that of an amount has any currency.
 fn start_tag(name: &str, value: Option<&str>) -> String {
     match value {
         Some("item-amount" | "header-amount") => format!("<{name} Ccy=\"^^^\">"),
@@ -264,12 +270,14 @@ fn start_tag(name: &str, value: Option<&str>) -> String {
 pub type Answer = Result<(u64, u64, Vec<(usize, usize)>), Refusal>;
 
 impl Default for Slow {
+    /// As [`Slow::new`].
     fn default() -> Self {
         Slow::new()
     }
 }
 
 impl Slow {
+    /// Reads the table.
     pub fn new() -> Slow {
         let mut lines = TABLE.trim_matches('\n').lines().peekable();
         let top = nodes(&mut lines, 0);
@@ -277,6 +285,7 @@ impl Slow {
         Slow { top }
     }
 
+    /// Judges a message.
     pub fn judge(&self, message: &[u8]) -> Answer {
         if message.len() > 16 << 20 {
             return Err((1, 0));
@@ -314,6 +323,7 @@ impl Slow {
 
 type Checker = fn(&[u8]) -> Result<u64, u8>;
 
+/// The checker of a kind, by its name in the table; a list of codes has none.
 fn checker(kind: &str) -> Option<Checker> {
     Some(match kind {
         "reference" => reference,
@@ -382,10 +392,12 @@ fn like(value: &[u8], template: &str) -> bool {
     at == value.len()
 }
 
+/// What digits write.
 fn number(digits: &[u8]) -> u128 {
     std::str::from_utf8(digits).unwrap().parse().unwrap()
 }
 
+/// 1 to 35 of the set, no `/` first or last, no `//`.
 fn reference(value: &[u8]) -> Result<u64, u8> {
     let holds = (1..=35).contains(&value.len())
         && like(value, &"r".repeat(value.len()))
@@ -395,6 +407,7 @@ fn reference(value: &[u8]) -> Result<u64, u8> {
     holds.then_some(0).ok_or(7)
 }
 
+/// The set and spaces, but no space first.
 fn text(value: &[u8], longest: usize) -> Result<u64, u8> {
     if value.is_empty() || value.len() > longest || value[0] == 32 {
         return Err(7);
@@ -430,6 +443,7 @@ fn date(value: &[u8]) -> bool {
     (year_back, month_back, day) == (y, m, d)
 }
 
+/// A date, a time of day and a zone, by all their templates.
 fn time(value: &[u8]) -> Result<u64, u8> {
     for fraction in ["", ".999"] {
         for zone in ["", "Z", "+99:99", "-99:99"] {
@@ -449,6 +463,7 @@ fn time(value: &[u8]) -> Result<u64, u8> {
     Err(7)
 }
 
+/// 1 to 15 digits; answers the number.
 fn count(value: &[u8]) -> Result<u64, u8> {
     if value.is_empty() || value.len() > 15 || !like(value, &"9".repeat(value.len())) {
         return Err(7);
@@ -456,6 +471,7 @@ fn count(value: &[u8]) -> Result<u64, u8> {
     Ok(number(value) as u64)
 }
 
+/// Digits before and behind the point, by all their templates; answers the cents.
 fn amount(value: &[u8], most: u128) -> Result<u64, u8> {
     for whole in 1..=15 {
         for (fraction, times) in [("", 100), (".9", 10), (".99", 1)] {
@@ -469,6 +485,7 @@ fn amount(value: &[u8], most: u128) -> Result<u64, u8> {
     Err(7)
 }
 
+/// Eight or eleven, by the two templates.
 fn bic(value: &[u8]) -> Result<u64, u8> {
     (like(value, "AAAAAATL") || like(value, "AAAAAATLXXX")).then_some(0).ok_or(7)
 }
@@ -490,12 +507,14 @@ fn leaves_one(written: &[u8]) -> bool {
     rest == 1
 }
 
+/// Check digits of 02 to 98 that leave 1.
 fn checked(start: &[u8], body: &[u8]) -> Result<u64, u8> {
     let two = number(&start[2..4]);
     let written = [body, start].concat();
     ((2..=98).contains(&two) && leaves_one(&written)).then_some(0).ok_or(8)
 }
 
+/// 15 to 34 of the template, and the check digits.
 fn iban(value: &[u8]) -> Result<u64, u8> {
     if !(15..=34).contains(&value.len())
         || !like(value, &format!("AA99{}", "X".repeat(value.len() - 4)))
@@ -505,6 +524,7 @@ fn iban(value: &[u8]) -> Result<u64, u8> {
     checked(&value[..4], &value[4..])
 }
 
+/// 8 to 35 of the template, not signs alone, and the check digits.
 fn creditor_id(value: &[u8]) -> Result<u64, u8> {
     if !(8..=35).contains(&value.len())
         || !like(value, &format!("AA99xxx{}", "r".repeat(value.len() - 7)))

@@ -6,9 +6,10 @@ use crate::damage::{
     LONGEST, MALFORMED, MOST_ITEMS,
 };
 use crate::handmade::handmade;
+use crate::kind::Kind;
 use crate::message::{accepted, concat, Message, Part, Plan, Spacing, What};
 use crate::random::Random;
-use crate::value::{self, Kind, WHITE};
+use crate::value::{self, WHITE};
 
 type Give<'a> = &'a mut dyn FnMut(Vec<u8>, &'static str, Known);
 
@@ -278,6 +279,7 @@ pub fn limits(mut each: impl FnMut(u64, Case)) {
     most_items(&most, &mut |bytes, damage, known| give(Case::new(bytes, damage, known)));
 }
 
+/// A plan for so many short items.
 fn compact(items: usize) -> Plan {
     Plan { items, spacing: Spacing::None, small: true, declaration: true, optional: Some(false) }
 }

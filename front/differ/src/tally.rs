@@ -34,6 +34,7 @@ pub struct Tally {
 }
 
 impl Tally {
+    /// A tally of a run that has begun.
     pub fn new(what: String) -> Tally {
         Tally {
             what,
@@ -90,6 +91,7 @@ impl Tally {
         }
     }
 
+    /// Tells a difference: the case, both answers, a file with its bytes, and how to run it again.
     fn differ(
         &mut self,
         name: &Name,
@@ -150,7 +152,7 @@ fn introduce(name: &Name, bytes: &[u8]) {
 
 /// Leaves the bytes of a case in a file.
 fn keep(name: &Name, bytes: &[u8]) -> std::io::Result<PathBuf> {
-    let folder = PathBuf::from(env!("DIFFERENCES"));
+    let folder = PathBuf::from(face::FOLDER).join("differences");
     std::fs::create_dir_all(&folder)?;
     let file = folder.join(format!("{}-{}-{}", name.run, name.seed, name.number));
     std::fs::write(&file, bytes)?;

@@ -30,10 +30,12 @@ const NAMES: [&str; 5] =
     ["Erika Mustermann", "Max Mustermann", "J. van der Berg", "Hafenkontor Nord KG", "A. Schmidt"];
 const BICS: [&str; 4] = ["SPUEDE2UXXX", "BANKDEFFXXX", "COBADEHH", "ABNANL2AXXX"];
 
+/// Cents as an amount.
 fn euros(cents: u64) -> String {
     format!("{}.{:02}", cents / 100, cents % 100)
 }
 
+/// One item as banks write it.
 fn item(number: usize, cents: u64, random: &mut Random) -> String {
     let body = random.bytes(DIGITS, 18);
     let account = [b"DE".to_vec(), check_digits(b"DE", &body), body].concat();
@@ -63,6 +65,7 @@ pub fn usual(items: usize, indented: bool) -> Vec<u8> {
     }
 }
 
+/// The parts, which `|` ends, each on a line of its own.
 fn indent(text: &str) -> Vec<u8> {
     let mut out = Vec::with_capacity(2 * text.len());
     let mut depth = 0;

@@ -1,6 +1,7 @@
 //! Values of each kind.
 
 use crate::handmade::handmade;
+use crate::kind::{Kind, CHECKED};
 use crate::random::Random;
 
 pub const CAPITALS: &[u8] = b"ABCDEFGHIJKLMNOPQRSTUVWXYZ";
@@ -13,38 +14,6 @@ pub const REFERENCE_SET: &[u8] =
 const PLAIN_SET: &[u8] = b"ABCDEFGHIJKLMNOPQRSTUVWXYZabcdefghijklmnopqrstuvwxyz0123456789-?:().,'+";
 pub const WHITE: &[u8] = b" \t\r\n";
 
-#[derive(Clone, Copy, Debug, PartialEq, Eq)]
-pub enum Kind {
-    Iban,
-    CreditorId,
-    Bic,
-    Date,
-    Time,
-    Reference,
-    Text70,
-    Text140,
-    Count,
-    ItemAmount,
-    HeaderAmount,
-    /// A code, with those listed for it.
-    Code(&'static [&'static str]),
-}
-
-/// The kinds that have a single checker.
-pub const CHECKED: [Kind; 11] = [
-    Kind::Iban,
-    Kind::CreditorId,
-    Kind::Bic,
-    Kind::Date,
-    Kind::Time,
-    Kind::Reference,
-    Kind::Text70,
-    Kind::Text140,
-    Kind::Count,
-    Kind::ItemAmount,
-    Kind::HeaderAmount,
-];
-
 pub const ITEM_MOST: u64 = 99_999_999_999;
 pub const HEADER_MOST: u64 = 99_999_999_999_999_999;
 
@@ -54,6 +23,7 @@ pub struct Valid {
     pub worth: u64,
 }
 
+/// A valid value that is worth no number.
 fn yes(bytes: Vec<u8>) -> Valid {
     Valid { bytes, worth: 0 }
 }
@@ -155,6 +125,7 @@ pub fn check_digits(country: &[u8], body: &[u8]) -> Vec<u8> {
     format!("{:02}", 98 - rest).into_bytes()
 }
 
+/// A published IBAN, or one made with its check digits.
 fn iban(random: &mut Random) -> Vec<u8> {
     if random.once_in(8) {
         let published: [&str; 8] = [
@@ -192,6 +163,7 @@ pub fn alias(kind: Kind, random: &mut Random) -> Vec<u8> {
     }
 }
 
+/// A published identifier, or one made with its check digits.
 fn creditor_id(random: &mut Random) -> Vec<u8> {
     if random.once_in(8) {
         return random.pick(&["DE98ZZZ09999999999", "DE98ABC09999999999"]).as_bytes().to_vec();
@@ -212,6 +184,7 @@ fn creditor_id(random: &mut Random) -> Vec<u8> {
     [country, check, business, national].concat()
 }
 
+/// A BIC of eight or eleven.
 fn bic(random: &mut Random) -> Vec<u8> {
     let mut bytes = random.bytes(CAPITALS, 6);
     bytes.push(random.of(b"ABCDEFGHIJKLMNOPQRSTUVWXYZ23456789"));
@@ -222,11 +195,13 @@ fn bic(random: &mut Random) -> Vec<u8> {
     bytes
 }
 
+/// The days of a month.
 fn days(year: usize, month: usize) -> usize {
     let leap = year % 400 == 0 || (year % 4 == 0 && year % 100 != 0);
     [31, if leap { 29 } else { 28 }, 31, 30, 31, 30, 31, 31, 30, 31, 30, 31][month - 1]
 }
 
+/// A day of any year, often at an edge.
 fn date(random: &mut Random) -> Vec<u8> {
     let year = match random.below(8) {
         0 => 1,
@@ -241,6 +216,7 @@ fn date(random: &mut Random) -> Vec<u8> {
     format!("{year:04}-{month:02}-{day:02}").into_bytes()
 }
 
+/// A time, with and without parts of a second and a zone.
 fn time(random: &mut Random) -> Vec<u8> {
     let (hour, minute, second) = (random.length(0, 23), random.length(0, 59), random.length(0, 59));
     let mut bytes = date(random);
@@ -261,6 +237,7 @@ fn time(random: &mut Random) -> Vec<u8> {
     bytes
 }
 
+/// A reference, often full of signs and slashes.
 fn reference(random: &mut Random) -> Vec<u8> {
     let length = random.length(1, 35);
     let set =
@@ -274,6 +251,7 @@ fn reference(random: &mut Random) -> Vec<u8> {
     bytes
 }
 
+/// A text of up to this length.
 fn text(random: &mut Random, longest: usize) -> Vec<u8> {
     let length = random.length(1, longest);
     text_of_length(random, length)
@@ -345,6 +323,7 @@ fn near_letters(kind: Kind, random: &mut Random) -> Vec<u8> {
     [country, check, business, body].concat()
 }
 
+/// Bytes of a set, of a length within these.
 fn edge(random: &mut Random, set: &[u8], least: usize, most: usize) -> Vec<u8> {
     let length = random.between(least, most);
     random.bytes(set, length)
@@ -440,6 +419,7 @@ fn random_account(kind: Kind, random: &mut Random) -> Vec<u8> {
     [head, business, random.bytes(set, length)].concat()
 }
 
+/// One of the sets, by the length.
 fn random_set<'a>(sets: &[&'a [u8]], length: usize) -> &'a [u8] {
     sets[length % sets.len()]
 }
@@ -531,6 +511,7 @@ fn sweep_places(value: &[u8], mut give: impl FnMut(Vec<u8>, &'static str)) {
     }
 }
 
+/// The end of February of all years, and all months and days of two digits in some.
 fn sweep_days(give: &mut impl FnMut(Kind, Vec<u8>, &'static str)) {
     let mut day = |year: usize, month: usize, day: usize| {
         let text = format!("{year:04}-{month:02}-{day:02}");
@@ -548,6 +529,7 @@ fn sweep_days(give: &mut impl FnMut(Kind, Vec<u8>, &'static str)) {
     }
 }
 
+/// Every hour, minute and second of two digits, and every zone.
 fn sweep_times(mut give: impl FnMut(Vec<u8>)) {
     for two in 0..100 {
         give(format!("2010-12-01T{two:02}:00:00").into_bytes());

@@ -1,8 +1,9 @@
 //! The generator makes what it promises: without these a run without differences would say little.
 
 use differ::damage::{self, Known};
+use differ::kind::Kind;
 use differ::message::{Message, What};
-use differ::value::{Kind, WHITE};
+use differ::value::WHITE;
 use differ::{slips, sweep};
 use std::collections::{BTreeMap, BTreeSet};
 

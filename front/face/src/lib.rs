@@ -1,8 +1,17 @@
-//! The C face of the proved library. The only crate with unsafe code; its functions are safe: each
-//! lends a slice for the call, and three words for the answer.
+//! The C face of the proved library: the only unsafe code towards it. (The command has some of its
+//! own towards the system, front/bulk/src/system.rs.) The functions here are safe: each lends a slice
+//! for the call, and three words for the answer.
+
+use std::io::Write;
 
 /// The three words of an answer: `0` and two values, or a refusal number, its place, and 0.
 pub type Words = [u64; 3];
+
+/// The bytes of one posting record, with its LF.
+pub const RECORD: usize = 256;
+
+/// The folder that the library was linked from. What tests leave behind lies beside it.
+pub const FOLDER: &str = env!("BULK_FOLDER");
 
 /// The kinds of value that have a single checker.
 #[derive(Clone, Copy, Debug, PartialEq, Eq)]
@@ -20,6 +29,7 @@ pub enum Kind {
     Text140,
 }
 
+/// A single checker, as the library exports it.
 type Checker = unsafe extern "C" fn(*const u8, usize, *mut u64);
 
 extern "C" {
@@ -45,20 +55,33 @@ extern "C" {
     );
 }
 
-/// What the three words hold before the call, and the words beside them before and after it. No
-/// answer has it.
+/// What the three words hold before the call, and the guard words beside them before and after it.
+/// No answer has it.
 const UNWRITTEN: u64 = u64::MAX - 1;
-/// Stands for an answer where a word beside the three was written. No answer is it.
-const WRITTEN_BESIDE: Words = [u64::MAX; 3];
 
-/// Lends three words between two others and answers them. The others must stay.
+/// Lends three words between two guards and answers them. Where a guard was overwritten, or a word
+/// left unwritten, it ends the program: what the memory holds then cannot be believed.
 fn answered(call: impl FnOnce(*mut u64)) -> Words {
     let mut words = [UNWRITTEN; 5];
-    call(words[1..4].as_mut_ptr());
-    match words {
-        [UNWRITTEN, first, second, third, UNWRITTEN] => [first, second, third],
-        _ => WRITTEN_BESIDE,
+    // A pointer into all five, so that a write beside the three is seen and not reasoned away.
+    call(words.as_mut_ptr().wrapping_add(1));
+    let [before, answer @ .., after] = words;
+    if before != UNWRITTEN || after != UNWRITTEN {
+        end("it wrote beside the answer");
     }
+    if answer.contains(&UNWRITTEN) {
+        end("it wrote no whole answer");
+    }
+    answer
+}
+
+/// Ends the program at once, with a message: nothing is unwound, nothing more is written.
+fn end(why: &str) -> ! {
+    let told =
+        writeln!(std::io::stderr(), "bulk: The library failed: {why}. The program is ended.");
+    // Where the message cannot be written either, the program ends all the same.
+    drop(told);
+    std::process::abort()
 }
 
 /// The single checker of a kind: `0, number or cents, 0`, or `number, 0, 0`.
@@ -100,3 +123,6 @@ pub fn records(message: &[u8], area: &mut [u8]) -> Words {
         bulk_records(message.as_ptr(), message.len(), lent, length, answer)
     })
 }
+
+#[cfg(test)]
+mod tests;

@@ -72,6 +72,7 @@ pub fn records(message: &[u8], area: &mut [u8]) -> Verdict {
     }))
 }
 
+/// What was read, as a verdict.
 fn verdict(read: Result<(u64, u64), Refusal>) -> Verdict {
     match read {
         Ok((count, cents)) => Verdict::Accepted { count, cents },

@@ -97,6 +97,7 @@ struct Cursor<'m, const ACCEPTED: bool> {
 
 /// Bytes, tags and values.
 impl<'m, const ACCEPTED: bool> Cursor<'m, ACCEPTED> {
+    /// The place where reading stands.
     #[inline]
     fn place(&self) -> usize {
         self.length - self.rest.len()

@@ -2,7 +2,7 @@
 
 use crate::message::Item;
 
-/// The bytes of one record.
+/// The bytes of one record. The other crates have it from `face`; this one takes nothing from there.
 pub const LENGTH: usize = 256;
 
 /// Writes one record: "TxId 35, EndToEndId 35, MndtId 35, debtor IBAN 34, creditor IBAN 34, debtor
@@ -25,11 +25,13 @@ pub fn write(record: &mut [u8], item: &Item) {
     record[255] = b'\n';
 }
 
+/// A field, from its offset on.
 #[inline]
 fn put(record: &mut [u8], at: usize, value: &[u8]) {
     record[at..at + value.len()].copy_from_slice(value);
 }
 
+/// "item cents as 11 digits"
 #[inline]
 fn put_cents(field: &mut [u8], mut cents: u64) {
     for digit in field.iter_mut().rev() {

@@ -6,42 +6,36 @@ use super::*;
 const DECLARATION: &str = r#"<?xml version="1.0" encoding="UTF-8"?>"#;
 const ROOT: &str = r#"<Document xmlns="urn:iso:std:iso:20022:tech:xsd:pacs.003.001.02">"#;
 
-fn header(count: &str, total: &str) -> String {
-    format!(
-        "<FIToFICstmrDrctDbt><GrpHdr><MsgId>MSG/1</MsgId><CreDtTm>2010-12-01T09:30:00</CreDtTm>\
-         <NbOfTxs>{count}</NbOfTxs><TtlIntrBkSttlmAmt Ccy=\"EUR\">{total}</TtlIntrBkSttlmAmt>\
-         <IntrBkSttlmDt>2010-12-03</IntrBkSttlmDt><SttlmInf><SttlmMtd>CLRG</SttlmMtd></SttlmInf>\
-         <InstgAgt><FinInstnId><BIC>BANKDEFF</BIC></FinInstnId></InstgAgt></GrpHdr>"
-    )
+/// The message of the paper's whole example, in one line.
+const EXAMPLE: &str = include_str!("../../../samples/example.xml");
+/// Its record: "`T1` and 33 spaces, `E1` and 33, `M1` and 33, `DE21500500009876543210` and 12, .."
+const RECORD: &str = include_str!("../../../samples/example.record");
+
+/// What stands in the example from this tag to before that one.
+fn part(from: &str, to: &str) -> &'static str {
+    &EXAMPLE[place_of(EXAMPLE, from)..place_of(EXAMPLE, to)]
 }
 
-/// The item of the paper's whole example, with this amount and this local instrument.
+/// The example's header, with this count and this total.
+fn header(count: &str, total: &str) -> String {
+    part("<FIToFICstmrDrctDbt>", "<DrctDbtTxInf>")
+        .replacen("<NbOfTxs>1<", &format!("<NbOfTxs>{count}<"), 1)
+        .replacen("12.34", total, 1)
+}
+
+/// The example's item, with this amount and this local instrument.
 fn one_item(amount: &str, instrument: &str) -> String {
-    format!(
-        "<DrctDbtTxInf><PmtId><InstrId>I1</InstrId><EndToEndId>E1</EndToEndId><TxId>T1</TxId></PmtId>\
-         <PmtTpInf><SvcLvl><Cd>SEPA</Cd></SvcLvl><LclInstrm><Cd>{instrument}</Cd></LclInstrm>\
-         <SeqTp>RCUR</SeqTp></PmtTpInf><IntrBkSttlmAmt Ccy=\"EUR\">{amount}</IntrBkSttlmAmt>\
-         <ChrgBr>SLEV</ChrgBr><ReqdColltnDt>2010-12-03</ReqdColltnDt><DrctDbtTx><MndtRltdInf>\
-         <MndtId>M1</MndtId><DtOfSgntr>2010-11-20</DtOfSgntr></MndtRltdInf><CdtrSchmeId><Id><PrvtId>\
-         <Othr><Id>DE98ZZZ09999999999</Id><SchmeNm><Prtry>SEPA</Prtry></SchmeNm></Othr></PrvtId></Id>\
-         </CdtrSchmeId></DrctDbtTx><Cdtr><Nm>Creditor</Nm></Cdtr><CdtrAcct><Id>\
-         <IBAN>DE87200500001234567890</IBAN></Id></CdtrAcct><CdtrAgt><FinInstnId><BIC>BANKDEFFXXX\
-         </BIC></FinInstnId></CdtrAgt><Dbtr><Nm>Debtor</Nm></Dbtr><DbtrAcct><Id>\
-         <IBAN>DE21500500009876543210</IBAN></Id></DbtrAcct><DbtrAgt><FinInstnId><BIC>SPUEDE2UXXX\
-         </BIC></FinInstnId></DbtrAgt><RmtInf><Ustrd>Invoice 1</Ustrd></RmtInf></DrctDbtTxInf>"
-    )
+    part("<DrctDbtTxInf>", CLOSE).replacen("12.34", amount, 1).replacen("CORE", instrument, 1)
 }
 
 const CLOSE: &str = "</FIToFICstmrDrctDbt></Document>";
 
+/// A message of these items.
 fn whole(count: &str, total: &str, items: &[String]) -> String {
     format!("{ROOT}{}{}{CLOSE}", header(count, total), items.concat())
 }
 
-fn sample() -> String {
-    whole("1", "12.34", &[one_item("12.34", "CORE")])
-}
-
+/// The number and the place of a message that must be refused.
 fn refused(message: &str) -> (u8, usize) {
     match judge(message.as_bytes()) {
         Verdict::Refused { number, place } => (number, place),
@@ -49,20 +43,21 @@ fn refused(message: &str) -> (u8, usize) {
     }
 }
 
+/// Where this part first stands.
 fn place_of(message: &str, part: &str) -> usize {
     message.find(part).expect("the part stands in the message")
 }
 
-/// The sample with its first `old` replaced: refused with this number, where the replacement lies
+/// The example with its first `old` replaced: refused with this number, where the replacement lies
 /// and `further` bytes on.
 fn refuses(old: &str, new: &str, number: u8, further: usize) {
-    let sample = sample();
-    let place = place_of(&sample, old) + further;
-    assert_eq!(refused(&sample.replacen(old, new, 1)), (number, place), "{old} -> {new}");
+    let place = place_of(EXAMPLE, old) + further;
+    assert_eq!(refused(&EXAMPLE.replacen(old, new, 1)), (number, place), "{old} -> {new}");
 }
 
+/// The example with its first `old` replaced: still accepted.
 fn accepts(old: &str, new: &str) {
-    let changed = sample().replacen(old, new, 1);
+    let changed = EXAMPLE.replacen(old, new, 1);
     let accepted = Verdict::Accepted { count: 1, cents: 1234 };
     assert_eq!(judge(changed.as_bytes()), accepted, "{old} -> {new}");
 }
@@ -320,12 +315,11 @@ fn beginnings() {
 #[test]
 fn accepted_with_and_without_declaration_and_white_space() {
     let accepted = Verdict::Accepted { count: 1, cents: 1234 };
-    let sample = sample();
-    assert_eq!(judge(sample.as_bytes()), accepted);
+    assert_eq!(judge(EXAMPLE.as_bytes()), accepted);
     for spaced in [
-        format!("{DECLARATION}{sample}"),
-        format!("{DECLARATION} \t\r\n{sample} \t\r\n"),
-        format!("\n{sample}"),
+        format!("{DECLARATION}{EXAMPLE}"),
+        format!("{DECLARATION} \t\r\n{EXAMPLE} \t\r\n"),
+        format!("\n{EXAMPLE}"),
     ] {
         assert_eq!(judge(spaced.as_bytes()), accepted, "{spaced}");
     }
@@ -341,8 +335,24 @@ fn accepted_with_and_without_declaration_and_white_space() {
 }
 
 #[test]
+fn white_space_of_every_length() {
+    for spaces in (0..40).map(|length| " ".repeat(length)) {
+        for line_end in ["", "\n", "\r\n", "\n\t", "\t", "\n\n"] {
+            accepts("<TxId>", &format!("{line_end}{spaces}<TxId>"));
+            accepts("<TxId>", &format!("{spaces}{line_end}<TxId>"));
+            refuses(
+                "<TxId>",
+                &format!("{line_end}{spaces}<TxID>"),
+                4,
+                line_end.len() + spaces.len(),
+            );
+        }
+    }
+}
+
+#[test]
 fn cut_anywhere_is_3() {
-    let message = format!("{DECLARATION}\n{}", sample());
+    let message = format!("{DECLARATION}\n{EXAMPLE}");
     for length in 0..message.len() {
         assert_eq!(refused(&message[..length]), (3, length), "{length}");
     }
@@ -382,7 +392,7 @@ fn values_in_place() {
     refuses("12.34</Intr", "0.00</Intr", 9, 0);
     refuses(">1</NbOfTxs>", ">0</NbOfTxs>", 14, 1);
     refuses(">12.34</Ttl", ">12.33</Ttl", 15, 1);
-    let opened = &sample()[..place_of(&sample(), "MSG/1")];
+    let opened = &EXAMPLE[..place_of(EXAMPLE, "MSG/1")];
     assert_eq!(refused(&format!("{opened}_")), (3, opened.len() + 1));
     assert_eq!(refused(&format!("{opened}_<")), (7, opened.len()));
     assert_eq!(refused(&format!("{opened}A<")), (3, opened.len() + 2));
@@ -393,7 +403,7 @@ fn values_in_place() {
 #[test]
 fn currencies() {
     let tag = "<TtlIntrBkSttlmAmt Ccy=\"";
-    let opened = &sample()[..place_of(&sample(), tag)];
+    let opened = &EXAMPLE[..place_of(EXAMPLE, tag)];
     let capital = opened.len() + tag.len();
     for (after, number, place) in [
         ("EU", 3, capital + 2),
@@ -447,39 +457,12 @@ fn item_places() {
     assert_eq!(item(&message.as_bytes()[..message.len() - 1], 7), Err((3, message.len() - 1)));
 }
 
-fn whole_example() -> String {
-    let spaces = |n: usize| " ".repeat(n);
-    let record = [
-        "T1",
-        &spaces(33),
-        "E1",
-        &spaces(33),
-        "M1",
-        &spaces(33),
-        "DE21500500009876543210",
-        &spaces(12),
-        "DE87200500001234567890",
-        &spaces(12),
-        "SPUEDE2UXXX",
-        "00000001234",
-        "2010-12-03",
-        "RCUR",
-        "DE98ZZZ09999999999",
-        &spaces(17),
-        "BANKDEFFXXX",
-        "\n",
-    ]
-    .concat();
-    assert_eq!(record.len(), 256);
-    record
-}
-
 #[test]
 fn record_of_the_whole_example() {
     let mut area = [0xAA; 300];
-    let verdict = records(sample().as_bytes(), &mut area);
+    let verdict = records(EXAMPLE.as_bytes(), &mut area);
     assert_eq!(verdict, Verdict::Accepted { count: 1, cents: 1234 });
-    assert_eq!(&area[..256], whole_example().as_bytes());
+    assert_eq!(&area[..256], RECORD.as_bytes());
     assert_eq!(area[256..], [0xAA; 44]);
 }
 
@@ -494,7 +477,7 @@ fn record_areas() {
     }
     let mut area = [7; 512];
     assert_eq!(records(two.as_bytes(), &mut area), Verdict::Accepted { count: 2, cents: 2468 });
-    assert_eq!(area.as_slice(), whole_example().repeat(2).as_bytes());
+    assert_eq!(area.as_slice(), RECORD.repeat(2).as_bytes());
     // Refused at the end only: no record is written.
     let mut area = [7; 512];
     assert_eq!(
@@ -507,7 +490,7 @@ fn record_areas() {
 #[test]
 fn limits() {
     // The longest message: white space up to 16,777,216 bytes.
-    let mut longest = sample().into_bytes();
+    let mut longest = EXAMPLE.as_bytes().to_vec();
     longest.resize(16_777_216, b' ');
     assert_eq!(judge(&longest), Verdict::Accepted { count: 1, cents: 1234 });
     longest.push(b' ');

@@ -74,6 +74,7 @@ fn in_text_set(byte: u8) -> bool {
     in_reference_set(byte) || byte == b' '
 }
 
+/// One byte of `A-Z 0-9`.
 #[inline]
 fn is_capital_or_digit(byte: &u8) -> bool {
     byte.is_ascii_uppercase() || byte.is_ascii_digit()
@@ -132,6 +133,7 @@ pub fn date(value: &[u8]) -> Result<u64, u8> {
     form(is_date(value).unwrap_or(false))
 }
 
+/// Whether it is a date; nothing where a digit or a `-` is missing.
 #[inline]
 fn is_date(value: &[u8]) -> Option<bool> {
     let &[y1, y2, y3, y4, b'-', m1, m2, b'-', d1, d2] = value else {
@@ -162,6 +164,7 @@ pub fn time(value: &[u8]) -> Result<u64, u8> {
     form(is_time(value).unwrap_or(false))
 }
 
+/// Whether it is a time; nothing where a part is missing.
 #[inline]
 fn is_time(value: &[u8]) -> Option<bool> {
     let (day, after) = value.split_first_chunk::<10>()?;
@@ -332,6 +335,7 @@ fn append(number: u64, byte: &u8) -> u64 {
 pub mod code {
     use super::CODE;
 
+    /// 10 for a code that is not on the list.
     #[inline]
     fn listed(is: bool) -> Result<u64, u8> {
         if is {

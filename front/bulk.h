@@ -1,0 +1,59 @@
+/*
+ * The C face of the proved library libbulk.a, which judges one SEPA direct-debit bulk (a pacs.003 message).
+ * docs/FACE.md tells how to link it, docs/REFUSALS.md what each refusal number means, docs/PROMISES.md what is proved.
+ *
+ * Each function takes any bytes, always ends, and writes all three words of the answer:
+ *
+ *     0, and two values          it holds
+ *     number, place, 0           it is refused
+ *
+ * The caller lends the bytes, the area and the answer for the call. No pointer is null, also where its length is 0, and what is
+ * written overlaps nothing else that is lent. The library keeps nothing, allocates nothing and has no state, so that calls may
+ * run beside each other. Of other libraries it needs memcpy alone.
+ */
+#ifndef BULK_H
+#define BULK_H
+
+#include <stddef.h>
+#include <stdint.h>
+
+#ifdef __cplusplus
+extern "C" {
+#endif
+
+/* The words of an answer. */
+#define BULK_ANSWER 3
+
+/* The bytes of one posting record. */
+#define BULK_RECORD 256
+
+/* A message: 0, its count, its cents; or number, place, 0. */
+void bulk_judge(const uint8_t *message, size_t length, uint64_t answer[BULK_ANSWER]);
+
+/* Where item i lies, from 0: 0, the place of its `<`, the place behind its `>`; or number, place, 0. It judges the whole message. */
+void bulk_item(const uint8_t *message, size_t length, uint64_t i, uint64_t answer[BULK_ANSWER]);
+
+/* The posting records: 0, count, cents, and the area begins with the records, one for each item in order; or number, place, 0, and
+ * the area is as lent. Bytes behind the last record are as lent. */
+void bulk_records(const uint8_t *message, size_t length, uint8_t *area, size_t area_length, uint64_t answer[BULK_ANSWER]);
+
+/* One value: 0, 0, 0; or number, 0, 0. */
+void bulk_iban(const uint8_t *value, size_t length, uint64_t answer[BULK_ANSWER]);
+void bulk_creditor_id(const uint8_t *value, size_t length, uint64_t answer[BULK_ANSWER]);
+void bulk_bic(const uint8_t *value, size_t length, uint64_t answer[BULK_ANSWER]);
+void bulk_date(const uint8_t *value, size_t length, uint64_t answer[BULK_ANSWER]);
+void bulk_time(const uint8_t *value, size_t length, uint64_t answer[BULK_ANSWER]);
+void bulk_reference(const uint8_t *value, size_t length, uint64_t answer[BULK_ANSWER]);
+void bulk_text70(const uint8_t *value, size_t length, uint64_t answer[BULK_ANSWER]);
+void bulk_text140(const uint8_t *value, size_t length, uint64_t answer[BULK_ANSWER]);
+
+/* One value: 0, the number or the cents, 0; or number, 0, 0. */
+void bulk_count(const uint8_t *value, size_t length, uint64_t answer[BULK_ANSWER]);
+void bulk_item_amount(const uint8_t *value, size_t length, uint64_t answer[BULK_ANSWER]);
+void bulk_header_amount(const uint8_t *value, size_t length, uint64_t answer[BULK_ANSWER]);
+
+#ifdef __cplusplus
+}
+#endif
+
+#endif

@@ -1,0 +1,78 @@
+//! The help page and the version.
+
+use crate::language::Language;
+
+/// The page on how to call the command.
+pub fn page(language: Language) -> &'static str {
+    language.say(ENGLISH, GERMAN)
+}
+
+pub const VERSION: &str = concat!("bulk ", env!("CARGO_PKG_VERSION"), "\n");
+
+const ENGLISH: &str = "\
+bulk judges a SEPA direct-debit bulk (pacs.003.001.02) before it is signed.
+
+  bulk judge FILE..       one line per file: accepted with count and total, or
+                          refused with number, place, value found and why;
+                          warnings below it. In short: bulk FILE..
+  bulk items FILE         table of the items, doubled ones marked
+  bulk records FILE OUT   write the posting records to OUT, whole or not at all
+  bulk check KIND VALUE   one value; KIND is iban, creditor-id, bic, count,
+                          item-amount, header-amount, date, time, reference,
+                          text70 (a name) or text140 (a remittance text)
+  bulk explain [N]        what refusal N means, its causes, what to do
+
+A FILE or VALUE of - is standard input, an OUT of - standard output; a folder
+means its .xml files. Places count bytes from 0; lines, columns, items from 1.
+
+  --de, --en   German or English; else LC_ALL, LC_MESSAGES or LANG decides
+  --plain      for scripts: `accepted COUNT CENTS` or `refused NUMBER PLACE`,
+               of several files with a tab and the name; items with tabs
+  --json       for programs: one object per file or item (front/bulk/README.md)
+  --csv        items for a spreadsheet, with semicolons
+  --help       this page, also bulk help; --version; -- ends the options
+
+Exit status: 0 all accepted, 1 something refused, 2 could not do its work.
+";
+
+const GERMAN: &str = "\
+bulk prüft einen SEPA-Lastschrift-Bulk (Sammler), pacs.003.001.02, vor Freigabe.
+
+  bulk judge DATEI..       je Datei eine Zeile: angenommen mit Anzahl und Summe
+                           oder abgelehnt mit Nummer, Stelle, Wert und Grund;
+                           darunter Warnungen. Kurz: bulk DATEI..
+  bulk items DATEI         Tabelle der Posten, doppelte markiert
+  bulk records DATEI ZIEL  Buchungssätze nach ZIEL, ganz oder gar nicht
+  bulk check ART WERT      ein Wert; ART ist iban, bic, count, date, time,
+                           creditor-id (Gläubiger-ID), item-amount (Betrag),
+                           header-amount (Gesamtsumme), reference, text70 (Name)
+                           oder text140 (Verwendungszweck)
+  bulk explain [N]         Bedeutung von Ablehnung N, Ursachen, was zu tun ist
+
+- ist die Standardeingabe, als ZIEL die Standardausgabe. Ein Ordner meint seine
+.xml-Dateien. Stellen zählen Bytes ab 0; Zeilen, Spalten und Posten ab 1.
+
+  --de, --en   Deutsch oder Englisch; sonst nach LC_ALL, LC_MESSAGES oder LANG
+  --plain      für Skripte: `accepted ANZAHL CENT` oder `refused NUMMER STELLE`,
+               bei mehreren Dateien Tabulator und Name; Posten mit Tabulatoren
+  --json       für Programme: ein Objekt je Datei/Posten (front/bulk/README.md)
+  --csv        Posten für die Tabellenkalkulation, mit Semikolons
+  --help       diese Seite, auch bulk help; --version; -- beendet die Optionen
+
+Exit-Status: 0 alles angenommen, 1 etwas abgelehnt, 2 Fehler bei der Ausführung.
+";
+
+#[cfg(test)]
+mod tests {
+    use super::*;
+
+    #[test]
+    fn help_fits_a_screen() {
+        for help in [ENGLISH, GERMAN] {
+            assert!(help.lines().count() <= 24, "{} lines", help.lines().count());
+            for line in help.lines() {
+                assert!(line.chars().count() <= 80, "{line}");
+            }
+        }
+    }
+}

@@ -1,0 +1,174 @@
+//! What the header and the items of a message say, found by their tags. Nothing is judged here: it is
+//! asked for as far as the judge found the message in order.
+
+use crate::tags::{until, Open, Tags, ITEM};
+use face::Kind;
+
+/// What the header says. A value that was not read is empty; no legal one is.
+#[derive(Clone, Debug, Default, PartialEq, Eq)]
+pub struct Header<'a> {
+    pub msg_id: &'a [u8],
+    pub settlement_date: &'a [u8],
+}
+
+/// What an item says. A value that was not read is empty.
+#[derive(Clone, Debug, Default, PartialEq, Eq)]
+pub struct Item<'a> {
+    /// Where its `<` stands.
+    pub place: usize,
+    pub tx_id: &'a [u8],
+    pub end_to_end_id: &'a [u8],
+    pub instrument: &'a [u8],
+    pub sequence: &'a [u8],
+    pub cents: Option<u64>,
+    pub collection_date: &'a [u8],
+    pub mandate: &'a [u8],
+    pub mandate_date: &'a [u8],
+    pub debtor: &'a [u8],
+    pub debtor_iban: &'a [u8],
+}
+
+/// The header and the items of a message.
+#[derive(Debug, Default)]
+pub struct Contents<'a> {
+    pub header: Header<'a>,
+    pub items: Vec<Item<'a>>,
+}
+
+/// Reads the values that begin before a place. At a refused value that place is its first byte, so
+/// every value that is read here was in order.
+pub fn read(message: &[u8], place: usize) -> Contents<'_> {
+    let mut contents = Contents::default();
+    let mut open = Open::default();
+    for tag in Tags::of(message).take_while(|tag| tag.place < place) {
+        if !open.step(&tag) {
+            continue;
+        }
+        let value = until(&message[tag.end..], b'<');
+        let is_closed = tag.end + value.len() < message.len();
+        if open.name(0) == ITEM {
+            contents.items.push(Item { place: tag.place, ..Item::default() });
+        } else if tag.end < place && is_closed {
+            contents.note(&open, value);
+        }
+    }
+    contents
+}
+
+impl<'a> Contents<'a> {
+    /// Notes the value of the innermost element, if it is one of those that are asked for.
+    fn note(&mut self, open: &Open, value: &'a [u8]) {
+        match (open.name(1), open.name(0), self.items.last_mut()) {
+            (b"GrpHdr", b"MsgId", None) => self.header.msg_id = value,
+            (b"GrpHdr", b"IntrBkSttlmDt", None) => self.header.settlement_date = value,
+            (_, _, None) => {}
+            (_, name, Some(item)) => item.note(open, name, value),
+        }
+    }
+
+    /// The cents of the items added up; none if an amount was not read.
+    pub fn cents(&self) -> Option<u64> {
+        self.items.iter().try_fold(0_u64, |sum, item| sum.checked_add(item.cents?))
+    }
+
+    /// CORE or B2B: every item has that of the first.
+    pub fn instrument(&self) -> &'a [u8] {
+        self.items.first().map_or(b"", |item| item.instrument)
+    }
+}
+
+impl<'a> Item<'a> {
+    /// Notes a value of the item by the name of its element.
+    fn note(&mut self, open: &Open, name: &[u8], value: &'a [u8]) {
+        match name {
+            b"TxId" => self.tx_id = value,
+            b"EndToEndId" => self.end_to_end_id = value,
+            b"Cd" if open.name(1) == b"LclInstrm" => self.instrument = value,
+            b"SeqTp" => self.sequence = value,
+            b"IntrBkSttlmAmt" => self.cents = worth(Kind::ItemAmount, value),
+            b"ReqdColltnDt" => self.collection_date = value,
+            b"MndtId" => self.mandate = value,
+            b"DtOfSgntr" => self.mandate_date = value,
+            b"Nm" if open.name(1) == b"Dbtr" => self.debtor = value,
+            b"IBAN" if open.name(2) == b"DbtrAcct" => self.debtor_iban = value,
+            _ => {}
+        }
+    }
+}
+
+/// What a count or an amount is worth, by the library's own checker.
+pub fn worth(kind: Kind, value: &[u8]) -> Option<u64> {
+    match face::check(kind, value) {
+        [0, worth, _] => Some(worth),
+        _ => None,
+    }
+}
+
+#[cfg(test)]
+mod tests {
+    use super::*;
+
+    const EVENING: &[u8] = include_bytes!("../../../samples/evening-indented.xml");
+
+    /// Where this text stands in the evening.
+    fn at(text: &str) -> usize {
+        (0..EVENING.len()).find(|&at| EVENING[at..].starts_with(text.as_bytes())).unwrap()
+    }
+
+    #[test]
+    fn what_the_evening_says() {
+        let evening = read(EVENING, EVENING.len());
+        assert_eq!(evening.header.msg_id, b"BULK-2026-10-28-EVENING");
+        assert_eq!(evening.header.settlement_date, b"2026-10-30");
+        assert_eq!((evening.items.len(), evening.cents()), (5, Some(202_490)));
+        let item = &evening.items[1];
+        assert_eq!(item.tx_id, b"TX-20261028-0002");
+        assert_eq!(item.end_to_end_id, b"BUSY-2026-10-LP017");
+        assert_eq!((item.instrument, item.sequence), (&b"CORE"[..], &b"FRST"[..]));
+        assert_eq!((item.cents, item.collection_date), (Some(3780), &b"2026-10-30"[..]));
+        assert_eq!(item.mandate, b"CHARGE-2026-0342");
+        assert_eq!(item.mandate_date, b"2026-09-30");
+        assert_eq!(item.debtor, b"Kurierdienst Blitz und Sohn");
+        assert_eq!(item.debtor_iban, b"DE11700997001203344556");
+        assert!(EVENING[item.place..].starts_with(b"<DrctDbtTxInf>"));
+    }
+
+    /// Each item of the sample is what the library writes into its record.
+    #[test]
+    fn the_items_are_those_of_the_records() {
+        let evening = read(EVENING, EVENING.len());
+        let mut area = vec![0; face::RECORD * evening.items.len()];
+        assert_eq!(face::records(EVENING, &mut area), [0, 5, 202_490]);
+        let text = |bytes: &[u8]| String::from_utf8(bytes.to_vec()).unwrap();
+        for (item, record) in evening.items.iter().zip(area.chunks(face::RECORD)) {
+            let cents = format!("{:011}", item.cents.unwrap());
+            let [tx_id, end_to_end_id, mandate, iban, date, sequence] = [
+                item.tx_id,
+                item.end_to_end_id,
+                item.mandate,
+                item.debtor_iban,
+                item.collection_date,
+                item.sequence,
+            ]
+            .map(text);
+            let front = format!("{tx_id:35}{end_to_end_id:35}{mandate:35}{iban:34}");
+            let back = format!("{cents}{date}{sequence}");
+            assert_eq!((text(&record[..139]), text(&record[184..209])), (front, back));
+        }
+    }
+
+    #[test]
+    fn only_what_lies_before_the_place() {
+        let upto = |text: &str| read(EVENING, at(text));
+        assert_eq!(upto("BULK-").header, Header::default());
+        assert_eq!(upto("</MsgId>").header.msg_id, b"BULK-2026-10-28-EVENING");
+        assert_eq!(upto("1120.50").items[2].cents, None);
+        assert_eq!(upto("</IntrBkSttlmAmt>").items[0].cents, Some(84500));
+        assert_eq!(upto("DE36370998000008812345").items[0].debtor, b"Anna Gluehbirne");
+        assert_eq!(upto("DE36370998000008812345").items[0].debtor_iban, b"");
+        // A value that the message cuts was not read.
+        let cut = &EVENING[..at("TX-20261028-0001") + 3];
+        assert_eq!(read(cut, cut.len()).items[0].tx_id, b"");
+        assert_eq!(read(b"", 0).items.len(), 0);
+    }
+}

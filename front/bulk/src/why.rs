@@ -1,0 +1,353 @@
+//! Why a value was refused: the character, the length, the form. The library judges; this only puts
+//! its answer into words, and the tests hold it against the library.
+
+use crate::language::Language;
+use crate::show::{characters, shown};
+use face::Kind;
+
+#[derive(Clone, Debug, PartialEq, Eq)]
+pub enum Why<'a> {
+    Empty,
+    /// The character of this number, from 1, may not stand there.
+    Character(usize, &'a [u8]),
+    AtMost {
+        length: usize,
+        most: usize,
+    },
+    AtLeast {
+        length: usize,
+        least: usize,
+    },
+    EightOrEleven(usize),
+    SpaceFirst,
+    SlashFirst,
+    SlashLast,
+    TwoSlashes,
+    WrittenAsDate,
+    WrittenAsTime,
+    NoSuchDay,
+    NoSuchTime,
+    /// An identifier that has no letter or digit behind position 7.
+    NoLetterOrDigit,
+    TwoPoints,
+    NoDigitBefore,
+    NoDigitBehind,
+    ManyDigitsBefore(usize),
+    ManyDigitsBehind(usize),
+    /// An amount under or over its range, with the cents of its limit.
+    LeastCents(u64),
+    MostCents(u64),
+    /// The codes that the element may have.
+    Codes(&'static [&'static str]),
+    /// What the first item has.
+    FirstHas(&'a [u8]),
+    /// The tags that may come.
+    Expected(Vec<String>),
+    ByteOrderMark,
+}
+
+/// Why a value is not of its kind's form; none if it is.
+pub fn why(kind: Kind, value: &[u8]) -> Option<Why<'_>> {
+    if value.is_empty() {
+        return Some(Why::Empty);
+    }
+    match kind {
+        Kind::Date => date(value),
+        Kind::Time => time(value),
+        _ => character(kind, value).or_else(|| length(kind, value)).or_else(|| rule(kind, value)),
+    }
+}
+
+/// The first character that may not stand where it does.
+fn character(kind: Kind, value: &[u8]) -> Option<Why<'_>> {
+    let may_stand = |at: usize, character: &[u8]| match character {
+        [byte] => may_stand(kind, at, *byte),
+        _ => false,
+    };
+    let mut all = characters(value).enumerate();
+    let (at, character) = all.find(|(at, character)| !may_stand(*at, character))?;
+    Some(Why::Character(at + 1, character))
+}
+
+/// Whether a byte may stand at a position, from 0.
+fn may_stand(kind: Kind, at: usize, byte: u8) -> bool {
+    let capital_or_digit = byte.is_ascii_uppercase() || byte.is_ascii_digit();
+    let in_reference = byte.is_ascii_alphanumeric() || b"/-?:().,'+".contains(&byte);
+    match (kind, at) {
+        (Kind::Count, _) => byte.is_ascii_digit(),
+        (Kind::ItemAmount | Kind::HeaderAmount, _) => byte.is_ascii_digit() || byte == b'.',
+        (Kind::Iban | Kind::CreditorId, 0..=1) | (Kind::Bic, 0..=5) => byte.is_ascii_uppercase(),
+        (Kind::Iban | Kind::CreditorId, 2..=3) => byte.is_ascii_digit(),
+        (Kind::CreditorId, 4..=6) => byte.is_ascii_alphanumeric(),
+        (Kind::Bic, 6) => capital_or_digit && !b"01".contains(&byte),
+        (Kind::Bic, 7) => capital_or_digit && byte != b'O',
+        (Kind::Iban | Kind::Bic, _) => capital_or_digit,
+        (Kind::Text70 | Kind::Text140, _) => in_reference || byte == b' ',
+        _ => in_reference,
+    }
+}
+
+/// A length outside that of the kind.
+fn length(kind: Kind, value: &[u8]) -> Option<Why<'static>> {
+    let (least, most) = match kind {
+        Kind::Bic if ![8, 11].contains(&value.len()) => {
+            return Some(Why::EightOrEleven(value.len()))
+        }
+        Kind::Iban => (15, 34),
+        Kind::CreditorId => (8, 35),
+        Kind::Count => (1, 15),
+        Kind::Reference => (1, 35),
+        Kind::Text70 => (1, 70),
+        Kind::Text140 => (1, 140),
+        _ => return None,
+    };
+    match value.len() {
+        length if length > most => Some(Why::AtMost { length, most }),
+        length if length < least => Some(Why::AtLeast { length, least }),
+        _ => None,
+    }
+}
+
+/// What else a kind asks of a value whose characters and length are right.
+fn rule(kind: Kind, value: &[u8]) -> Option<Why<'static>> {
+    match kind {
+        Kind::Reference if value.starts_with(b"/") => Some(Why::SlashFirst),
+        Kind::Reference if value.ends_with(b"/") => Some(Why::SlashLast),
+        Kind::Reference if value.windows(2).any(|pair| pair == b"//") => Some(Why::TwoSlashes),
+        Kind::Text70 | Kind::Text140 if value.starts_with(b" ") => Some(Why::SpaceFirst),
+        Kind::CreditorId if !value[7..].iter().any(u8::is_ascii_alphanumeric) => {
+            Some(Why::NoLetterOrDigit)
+        }
+        Kind::ItemAmount | Kind::HeaderAmount => amount(value),
+        _ => None,
+    }
+}
+
+/// Digits and points: 1 to 15 digits, then perhaps a point and one or two digits.
+fn amount(value: &[u8]) -> Option<Why<'static>> {
+    let mut parts = value.split(|&byte| byte == b'.').map(<[u8]>::len);
+    match (parts.next().unwrap_or(0), parts.next(), parts.next()) {
+        (_, _, Some(_)) => Some(Why::TwoPoints),
+        (0, ..) => Some(Why::NoDigitBefore),
+        (digits, ..) if digits > 15 => Some(Why::ManyDigitsBefore(digits)),
+        (_, Some(0), _) => Some(Why::NoDigitBehind),
+        (_, Some(digits), _) if digits > 2 => Some(Why::ManyDigitsBehind(digits)),
+        _ => None,
+    }
+}
+
+/// Whether the bytes are written as a pattern, in which 0 stands for any digit.
+fn is_written(value: &[u8], pattern: &[u8]) -> bool {
+    let fits = |(byte, due): (&u8, &u8)| match due {
+        b'0' => byte.is_ascii_digit(),
+        _ => byte == due,
+    };
+    value.len() == pattern.len() && value.iter().zip(pattern).all(fits)
+}
+
+/// A date: its form, then the day.
+fn date(value: &[u8]) -> Option<Why<'static>> {
+    match face::check(Kind::Date, value)[0] {
+        0 => None,
+        _ if is_written(value, b"0000-00-00") => Some(Why::NoSuchDay),
+        _ => Some(Why::WrittenAsDate),
+    }
+}
+
+/// A time: its form, then the day, then the clock.
+fn time(value: &[u8]) -> Option<Why<'static>> {
+    let zones: [&[u8]; 4] = [b"", b"Z", b"+00:00", b"-00:00"];
+    let mut patterns = [&b"0000-00-00T00:00:00"[..], b"0000-00-00T00:00:00.000"]
+        .into_iter()
+        .flat_map(|time| zones.map(|zone| [time, zone].concat()));
+    if face::check(Kind::Time, value)[0] == 0 {
+        return None;
+    }
+    match patterns.any(|pattern| is_written(value, &pattern)) {
+        false => Some(Why::WrittenAsTime),
+        true => Some(date(&value[..10]).unwrap_or(Why::NoSuchTime)),
+    }
+}
+
+impl Why<'_> {
+    /// Whether it tells the value's length already.
+    pub fn tells_length(&self) -> bool {
+        matches!(self, Why::AtMost { .. } | Why::AtLeast { .. } | Why::EightOrEleven(_))
+    }
+
+    /// In words, as a part of a sentence.
+    pub fn words(&self, language: Language) -> String {
+        match self {
+            Why::Character(number, bytes) => {
+                let character = language.quoted(&shown(bytes));
+                language.say(
+                    format!("character {number}, {character}, is not allowed"),
+                    format!("das {number}. Zeichen, {character}, ist nicht zulässig"),
+                )
+            }
+            Why::LeastCents(_) | Why::MostCents(_) | Why::Codes(_) | Why::Expected(_) => {
+                self.limits(language)
+            }
+            Why::FirstHas(code) => {
+                let code = shown(code);
+                language.say(
+                    format!("the first item has {code}"),
+                    format!("der erste Posten hat {code}"),
+                )
+            }
+            _ => self.lengths(language).unwrap_or_else(|| {
+                let (english, german) = self.fixed();
+                language.say(english, german).to_string()
+            }),
+        }
+    }
+
+    /// What would be allowed.
+    fn limits(&self, language: Language) -> String {
+        let texts = |codes: &[&str]| codes.iter().map(|code| code.to_string()).collect::<Vec<_>>();
+        match self {
+            Why::LeastCents(cents) => {
+                let euros = language.euros((*cents).into());
+                language.say(format!("at least {euros}"), format!("mindestens {euros}"))
+            }
+            Why::MostCents(cents) => {
+                let euros = language.euros((*cents).into());
+                language.say(format!("at most {euros}"), format!("höchstens {euros}"))
+            }
+            Why::Codes(codes) => {
+                let codes = language.one_of(&texts(codes));
+                language.say(format!("allowed: {codes}"), format!("zulässig: {codes}"))
+            }
+            Why::Expected(tags) => {
+                let tags = language.one_of(tags);
+                language.say(format!("expected: {tags}"), format!("erwartet: {tags}"))
+            }
+            _ => String::new(),
+        }
+    }
+
+    /// A length, and what it may be.
+    fn lengths(&self, language: Language) -> Option<String> {
+        let (characters, at_most, at_least, eight) = language.say(
+            ("characters", "at most", "at least", "8 or 11 are allowed"),
+            ("Zeichen", "höchstens", "mindestens", "zulässig sind 8 oder 11"),
+        );
+        Some(match self {
+            Why::AtMost { length, most } => format!("{length} {characters}, {at_most} {most}"),
+            Why::AtLeast { length, least } => format!("{length} {characters}, {at_least} {least}"),
+            Why::EightOrEleven(length) => format!("{length} {characters}, {eight}"),
+            Why::ManyDigitsBefore(digits) => language.say(
+                format!("{digits} digits before the point, at most 15"),
+                format!("{digits} Stellen vor dem Punkt, höchstens 15"),
+            ),
+            Why::ManyDigitsBehind(digits) => language.say(
+                format!("{digits} digits after the point, at most 2"),
+                format!("{digits} Stellen nach dem Punkt, höchstens 2"),
+            ),
+            _ => return None,
+        })
+    }
+
+    /// The reasons that need no number, in English and German.
+    fn fixed(&self) -> (&'static str, &'static str) {
+        match self {
+            Why::Empty => ("the value is empty", "der Wert ist leer"),
+            Why::SpaceFirst => ("it begins with a space", "er beginnt mit einem Leerzeichen"),
+            Why::SlashFirst => ("it begins with a slash", "er beginnt mit einem Schrägstrich"),
+            Why::SlashLast => ("it ends with a slash", "er endet mit einem Schrägstrich"),
+            Why::TwoSlashes => ("two slashes in a row", "zwei Schrägstriche hintereinander"),
+            Why::WrittenAsDate => ("expected: YYYY-MM-DD", "erwartet: JJJJ-MM-TT"),
+            Why::WrittenAsTime => (
+                "expected: YYYY-MM-DDThh:mm:ss, then perhaps .sss, then perhaps Z or +hh:mm",
+                "erwartet: JJJJ-MM-TTThh:mm:ss, danach eventuell .sss, dann eventuell Z oder +hh:mm",
+            ),
+            Why::NoSuchDay => ("there is no such day", "diesen Tag gibt es nicht"),
+            Why::NoSuchTime => ("there is no such time", "diese Uhrzeit gibt es nicht"),
+            Why::NoLetterOrDigit => (
+                "no letter or digit after character 7",
+                "kein Buchstabe und keine Ziffer nach dem 7. Zeichen",
+            ),
+            Why::TwoPoints => ("more than one point", "mehr als ein Punkt"),
+            Why::NoDigitBefore => ("no digit before the point", "keine Ziffer vor dem Punkt"),
+            Why::NoDigitBehind => ("no digit after the point", "keine Ziffer nach dem Punkt"),
+            Why::ByteOrderMark => ("a byte order mark (BOM)", "eine Byte Order Mark (BOM)"),
+            _ => ("", ""),
+        }
+    }
+}
+
+#[cfg(test)]
+mod tests {
+    use super::*;
+
+    const KINDS: [(Kind, &[&str]); 11] = [
+        (Kind::Iban, &["DE87200500001234567890", "NL96TULP0417164300", "AA111111111111"]),
+        (Kind::CreditorId, &["DE98ZZZ09999999999", "DE98ZZZ-", "DE98ZZZ(+)"]),
+        (Kind::Bic, &["BANKDEFF", "BANKDEFFXXX", "BANKDEFFXX"]),
+        (Kind::Count, &["5", "000000000000007", "0000000000000007"]),
+        (Kind::ItemAmount, &["5.3", "12.65", "1000000000", "0.00", "0000000000000005.1"]),
+        (Kind::HeaderAmount, &["2024.90", "0", "999999999999999.99", "."]),
+        (Kind::Date, &["2000-02-29", "0000-01-01", "1900-02-29", "31.12.2026"]),
+        (
+            Kind::Time,
+            &["2026-10-28T18:42:07+01:00", "2026-10-28T18:42:07.123Z", "2026-02-30T00:00:00"],
+        ),
+        (Kind::Reference, &["A", "A/B", "0123456789012345678901234567890123A"]),
+        (Kind::Text70, &["Anna Gluehbirne", "B "]),
+        (Kind::Text140, &["Rent November 2026, flat 4B, Kabelweg 12"]),
+    ];
+
+    /// A reason is told exactly when the library answers 7.
+    fn agrees(kind: Kind, value: &[u8]) {
+        let refused = face::check(kind, value)[0] == 7;
+        let told = why(kind, value);
+        assert_eq!(told.is_some(), refused, "{kind:?} {}: {told:?}", shown(value));
+        for language in [Language::English, Language::German] {
+            assert!(told.iter().all(|why| why.words(language).len() > 5), "{told:?}");
+        }
+    }
+
+    #[test]
+    fn a_reason_for_every_7_and_for_nothing_else() {
+        for (kind, values) in KINDS {
+            for value in values.iter().map(|value| value.as_bytes()) {
+                agrees(kind, value);
+                for at in 0..=value.len() {
+                    // Cut, lengthened, and every byte at every position.
+                    agrees(kind, &value[..at]);
+                    agrees(kind, &value[at..]);
+                    for byte in 0..=255 {
+                        agrees(kind, &[&value[..at], &[byte], &value[at..]].concat());
+                        if at < value.len() {
+                            agrees(kind, &[&value[..at], &[byte], &value[at + 1..]].concat());
+                        }
+                    }
+                }
+            }
+            for length in 0..150 {
+                agrees(kind, "A".repeat(length).as_bytes());
+                agrees(kind, "7".repeat(length).as_bytes());
+                agrees(kind, &[b"DE00ZZZ", "7".repeat(length).as_bytes()].concat());
+            }
+        }
+    }
+
+    #[test]
+    fn reasons_in_words() {
+        let told =
+            |kind, value: &str| why(kind, value.as_bytes()).unwrap().words(Language::English);
+        assert_eq!(told(Kind::Text70, "Anna Glühbirne"), "character 8, “ü”, is not allowed");
+        assert_eq!(told(Kind::Text140, &"A".repeat(141)), "141 characters, at most 140");
+        assert_eq!(told(Kind::Iban, "DE87 2005"), "character 5, “ ”, is not allowed");
+        assert_eq!(told(Kind::Bic, "BANKDEFFXX"), "10 characters, 8 or 11 are allowed");
+        assert_eq!(told(Kind::ItemAmount, "12.345"), "3 digits after the point, at most 2");
+        assert_eq!(told(Kind::Date, "31.12.2026"), "expected: YYYY-MM-DD");
+        let german = |kind, value: &[u8]| why(kind, value).unwrap().words(Language::German);
+        assert_eq!(
+            german(Kind::Text70, b"M\xfcller"),
+            "das 2. Zeichen, „\\xfc“, ist nicht zulässig"
+        );
+        assert_eq!(german(Kind::Count, &[b'1'; 16]), "16 Zeichen, höchstens 15");
+        assert_eq!(german(Kind::Date, b"2026-02-29"), "diesen Tag gibt es nicht");
+    }
+}

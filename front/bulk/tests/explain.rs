@@ -1,0 +1,106 @@
+//! `explain`: the pages of docs/REFUSALS.md.
+
+mod common;
+
+use common::*;
+
+/// The texts of a number in English and in German: its sentence, its labels and its rows.
+fn texts(number: u64) -> [Vec<String>; 2] {
+    let body = PAGES.split(&format!("\n## {number}\n")).nth(1).unwrap();
+    let body = body.split("\n## ").next().unwrap();
+    let rows: Vec<Vec<String>> =
+        body.lines().filter(|line| line.contains(" · ")).map(cells).collect();
+    assert_eq!(rows.len(), 4, "page {number}");
+    [0, 1].map(|of| {
+        let label = |row: &Vec<String>| row[0].split(" · ").nth(of).unwrap().to_string();
+        let rows = rows.iter().flat_map(|row| [label(row), row[of + 1].clone()]);
+        [overview(number)[of].clone()].into_iter().chain(rows).collect()
+    })
+}
+
+#[test]
+fn every_page_is_told_whole_in_both_languages() {
+    for number in 1..=18 {
+        let both = flat(&bulk(&["explain", &number.to_string()]).done(0));
+        let [english, german] = texts(number);
+        for text in english.iter().chain(&german) {
+            assert!(text.len() > 2, "page {number} has an empty text");
+            assert!(both.contains(text), "page {number}: {text}\n{both}");
+        }
+        assert!(both.starts_with(&format!("{number} {}", english[0])), "{both}");
+    }
+}
+
+#[test]
+fn a_chosen_language_is_the_only_one() {
+    for number in 1..=18 {
+        let number_text = number.to_string();
+        let [english, german] = texts(number);
+        let said = flat(&bulk(&["--en", "explain", &number_text]).done(0));
+        assert!(english.iter().all(|text| said.contains(text)), "{said}");
+        assert!(!said.contains("Bedeutung") && !said.contains(&german[0]), "{said}");
+        let said = flat(&bulk(&["explain", &number_text, "--de"]).done(0));
+        assert!(german.iter().all(|text| said.contains(text)), "{said}");
+        assert!(!said.contains("What it means") && !said.contains(&english[0]), "{said}");
+    }
+    // The locale is no choice: both, the locale's first.
+    let said = command(&["explain", "14"]).env("LANG", "de_DE.UTF-8").output().unwrap();
+    let said = Said::from(said).done(0);
+    let places = (said.find("Bedeutung").unwrap(), said.find("What it means").unwrap());
+    assert!(places.0 < places.1, "{said}");
+}
+
+#[test]
+fn the_list_of_numbers() {
+    let both = flat(&bulk(&["explain"]).done(0));
+    let german = flat(&bulk(&["--de", "explain"]).done(0));
+    for number in 1..=18 {
+        let sentences = overview(number);
+        assert!(both.contains(&format!("{number} {} {}", sentences[0], sentences[1])), "{both}");
+        assert!(german.contains(&format!("{number} {}", sentences[1])), "{german}");
+        assert!(!german.contains(&sentences[0]), "{german}");
+    }
+    for wrong in ["0", "19", "fourteen", "1.4"] {
+        let said = bulk(&["explain", wrong]).trouble();
+        assert!(said.contains(&format!("There is no refusal “{wrong}”")), "{said}");
+    }
+    bulk(&["explain", ""]).trouble();
+}
+
+/// The words that the office asked for.
+#[test]
+fn the_texts_as_an_office_writes_them() {
+    for (number, english, german) in [
+        (3, "The message is incomplete.", "Die Nachricht ist unvollständig."),
+        (4, "", "An dieser Stelle nicht zulässig, oder davor fehlt ein Element."),
+        (
+            7,
+            "The value is not in the required format.",
+            "Der Wert entspricht nicht dem vorgeschriebenen Format.",
+        ),
+        (9, "", "Der Betrag liegt außerhalb des zulässigen Bereichs."),
+        (10, "This code is not allowed here.", "Dieser Code ist hier nicht zulässig."),
+        (12, "More than 10,000 items.", "Mehr als 10.000 Posten."),
+        (16, "More data follows </Document>.", "Nach </Document> folgen weitere Daten."),
+        (17, "", "Der Speicherbereich für die Buchungssätze ist zu klein."),
+    ] {
+        let [told, told_german] = overview(number);
+        assert!(english.is_empty() || told == english, "{told}");
+        assert_eq!(told_german, german);
+    }
+    for (number, words) in [
+        (2, &["Byte Order Mark (BOM)"][..]),
+        (7, &["Mandatsreferenz (MndtId)"]),
+        (8, &["Tippfehler", "Zahlendreher", "typing error"]),
+        (11, &["Basis- (CORE) und Firmenlastschriften (B2B)"]),
+        (14, &["Each item by itself", "Bedeutung", "Häufige Ursachen", "Was tun?"]),
+    ] {
+        let said = flat(&bulk(&["explain", &number.to_string()]).done(0));
+        words.iter().for_each(|words| assert!(said.contains(words), "{words}\n{said}"));
+    }
+    for gone in
+        ["anew", "slip of the pen", "verb", "Bytereihenfolge", "Satzbereich", "Schreibfehler"]
+    {
+        assert!(!PAGES.contains(gone), "{gone}");
+    }
+}

@@ -1,0 +1,203 @@
+//! `--json`: one object per file, item or value, always with the same keys, and the keys documented.
+
+mod common;
+
+use common::*;
+use std::collections::BTreeMap;
+
+/// A small reader of JSON, enough to hold the command to it.
+#[derive(Clone, Debug, PartialEq)]
+enum Json {
+    Null,
+    Number(u64),
+    Text(String),
+    List(Vec<Json>),
+    Object(Vec<(String, Json)>),
+}
+
+struct Reader<'a> {
+    rest: &'a str,
+}
+
+impl Reader<'_> {
+    /// Takes this text, if it comes next.
+    fn takes(&mut self, text: &str) -> bool {
+        let rest = self.rest.strip_prefix(text);
+        self.rest = rest.unwrap_or(self.rest);
+        rest.is_some()
+    }
+
+    /// Takes a value.
+    fn value(&mut self) -> Json {
+        if self.takes("null") {
+            Json::Null
+        } else if self.takes("[") {
+            let mut list = Vec::new();
+            while !self.takes("]") {
+                assert!(list.is_empty() || self.takes(","), "{}", self.rest);
+                list.push(self.value());
+            }
+            Json::List(list)
+        } else if self.takes("{") {
+            let mut object = Vec::new();
+            while !self.takes("}") {
+                assert!(object.is_empty() || self.takes(","), "{}", self.rest);
+                let key = self.text();
+                assert!(self.takes(":"), "{}", self.rest);
+                object.push((key, self.value()));
+            }
+            Json::Object(object)
+        } else if self.rest.starts_with('"') {
+            Json::Text(self.text())
+        } else {
+            let end = self.rest.find(|digit: char| !digit.is_ascii_digit()).unwrap();
+            let (number, rest) = self.rest.split_at(end);
+            self.rest = rest;
+            Json::Number(number.parse().unwrap())
+        }
+    }
+
+    /// Takes a text in quotation marks.
+    fn text(&mut self) -> String {
+        assert!(self.takes("\""), "{}", self.rest);
+        let mut units = Vec::new();
+        while !self.takes("\"") {
+            if self.takes("\\u") {
+                units.push(u16::from_str_radix(&self.rest[..4], 16).unwrap());
+                self.rest = &self.rest[4..];
+            } else {
+                self.takes("\\");
+                let letter = self.rest.chars().next().unwrap();
+                assert!(!letter.is_control());
+                units.extend(letter.encode_utf16(&mut [0; 2]).iter());
+                self.rest = &self.rest[letter.len_utf8()..];
+            }
+        }
+        String::from_utf16(&units).unwrap()
+    }
+}
+
+/// The objects of the lines.
+fn objects(lines: &str) -> Vec<BTreeMap<String, Json>> {
+    let object = |line: &str| {
+        let mut reader = Reader { rest: line };
+        let Json::Object(pairs) = reader.value() else { panic!("{line}") };
+        assert_eq!(reader.rest, "");
+        let object: BTreeMap<String, Json> = pairs.iter().cloned().collect();
+        assert_eq!(object.len(), pairs.len(), "a key stands twice");
+        object
+    };
+    lines.lines().map(object).collect()
+}
+
+/// A text as a value.
+fn string(text: &str) -> Json {
+    Json::Text(text.to_string())
+}
+
+#[test]
+fn one_object_per_file() {
+    let none = sample("none.xml");
+    let (good, bad) = (sample("evening.xml"), sample("october.xml"));
+    let said = bulk(&["--json", "judge", text(&good), text(&bad), text(&none)]);
+    let objects = objects(&said.out);
+    assert_eq!((said.status, objects.len()), (2, 3));
+    let keys = |at: usize| objects[at].keys().collect::<Vec<_>>();
+    assert!(keys(0) == keys(1) && keys(0) == keys(2));
+
+    let first = &objects[0];
+    assert_eq!(first["verdict"], string("accepted"));
+    assert_eq!((&first["count"], &first["cents"]), (&Json::Number(5), &Json::Number(202_490)));
+    assert_eq!(first["msg_id"], string("BULK-2026-10-28-EVENING"));
+    assert_eq!(first["settlement_date"], string("2026-10-30"));
+    assert_eq!((&first["instrument"], &first["number"]), (&string("CORE"), &Json::Null));
+    let second = &objects[1];
+    assert_eq!((&second["number"], &second["place"]), (&Json::Number(14), &Json::Number(252)));
+    assert_eq!((&second["header"], &second["items"]), (&string("9"), &string("7")));
+    assert_eq!(second["same_msg_id"], string(text(&good)));
+    let Json::List(doubled) = &second["doubled"] else { panic!() };
+    let pair = Json::Object(vec![
+        ("tx_id".into(), string("TX-20261028-0002")),
+        ("items".into(), Json::List(vec![Json::Number(2), Json::Number(3)])),
+    ]);
+    assert_eq!((doubled.len(), &doubled[0]), (2, &pair));
+    assert_eq!(objects[2]["verdict"], string("unread"));
+    assert!(matches!(&objects[2]["error"], Json::Text(text) if text.contains("no such file")));
+}
+
+#[test]
+fn a_refusal_in_an_item_of_a_file_with_an_odd_name() {
+    let folder = Folder::new();
+    let odd = folder.put("\u{202e}\"\\\n.xml", damaged("Gluehbirne", "Glühbirne"));
+    let said = bulk(&["--json", "judge", text(&odd)]).done(1);
+    assert!(!said.contains('\u{202e}'));
+    let object = &objects(&said)[0];
+    assert_eq!(object["file"], string(text(&odd)));
+    assert_eq!(object["found"], string("Anna Glühbirne"));
+    assert_eq!(object["why"], string("character 8, “ü”, is not allowed"));
+    assert_eq!((&object["item"], &object["item_cents"]), (&Json::Number(1), &Json::Number(84_500)));
+    assert_eq!((&object["tx_id"], &object["debtor"]), (&string("TX-20261028-0001"), &Json::Null));
+}
+
+#[test]
+fn one_object_per_item() {
+    let said = bulk(&["--json", "items", text(&sample("evening.xml"))]).done(0);
+    let items = objects(&said);
+    assert_eq!(items.len(), 5);
+    let item = &items[2];
+    assert_eq!((&item["item"], &item["cents"]), (&Json::Number(3), &Json::Number(112_050)));
+    assert_eq!((&item["euros"], &item["sequence"]), (&string("1120.50"), &string("RCUR")));
+    assert_eq!(item["mandate"], string("LEASE-2023-0208"));
+    assert_eq!(item["mandate_date"], string("2023-02-14"));
+    assert_eq!(item["doubled"], Json::Null);
+    // A bulk whose count is wrong has items too; the refusal is on standard error.
+    let said = bulk(&["--json", "items", text(&sample("october.xml"))]);
+    assert_eq!(said.status, 1);
+    let items = objects(&said.out);
+    assert_eq!(items.len(), 7);
+    assert_eq!((&items[1]["doubled"], &items[2]["doubled"]), (&Json::Number(3), &Json::Number(2)));
+    assert_eq!(objects(&said.err)[0]["number"], Json::Number(14));
+}
+
+#[test]
+fn one_object_for_records_and_for_a_value() {
+    let folder = Folder::new();
+    let (file, out) = (sample("evening.xml"), folder.path("out"));
+    let said = objects(&bulk(&["--json", "records", text(&file), text(&out)]).done(0));
+    assert_eq!(
+        (&said[0]["records"], &said[0]["cents"]),
+        (&string(text(&out)), &Json::Number(202_490))
+    );
+    let said = objects(&bulk(&["--json", "check", "item-amount", "5.3"]).done(0));
+    assert_eq!((&said[0]["worth"], &said[0]["number"]), (&Json::Number(530), &Json::Null));
+    let said = objects(&bulk(&["--json", "check", "bic", "X\u{1b}"]).done(1));
+    assert_eq!((&said[0]["value"], &said[0]["number"]), (&string("X\u{1b}"), &Json::Number(7)));
+}
+
+#[test]
+fn a_total_is_never_rounded() {
+    // Too large for a float to tell it from its neighbours.
+    let said = piped(&["--json", "judge", "-"], damaged("2024.90", "999999999999999.99")).done(1);
+    let said = objects(&said);
+    assert_eq!(said[0]["header"], string("999999999999999.99"));
+    assert_eq!(said[0]["items"], string("2024.90"));
+}
+
+#[test]
+fn every_key_is_documented() {
+    let readme = include_str!("../README.md");
+    let folder = Folder::new();
+    let (file, out) = (sample("october.xml"), folder.path("out"));
+    for words in [
+        &["judge", text(&file)][..],
+        &["items", text(&file)],
+        &["records", text(&sample("evening.xml")), text(&out)],
+        &["check", "iban", "x"],
+    ] {
+        for object in objects(&bulk(&[&["--json"], words].concat()).out) {
+            for key in object.keys() {
+                assert!(readme.contains(&format!("| `{key}` |")), "{key}");
+            }
+        }
+    }
+}
