@@ -3,9 +3,9 @@ use Prim.Native.Nat.{ℕ}
 use mathlib.Core.Bool.{Bool, true, false}
 use mathlib.Core.List.{List, [], _∷_}
 use Rattle.answers.specs.declared.Answer.{Answer}
-use Rattle.answers.specs.declared.Answer.the-variants.{Yes, Worth, Form, CheckDigits, Range}
+use Rattle.answers.specs.declared.Answer.the-variants.{Yes, Worth, Form, CheckDigits, Range, Unlisted}
 
--- what is given: yes; a number or cents; or a refusal, by its number
+-- what is given: yes; a number, cents or a place in a list; or a refusal, by its number
 pub data Given : Type 0 where
   yes : Given
   worth : ℕ → Given
@@ -18,6 +18,7 @@ given (Worth n) = worth n
 given Form = refused 7
 given CheckDigits = refused 8
 given Range = refused 9
+given Unlisted = refused 10
 
 abbrev pub numberOf : Given → ℕ
 numberOf yes = 0

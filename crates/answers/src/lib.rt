@@ -4,11 +4,12 @@ ghost use Rattle.answers.specs.Given.{given, numberOf, valueOf};
 
 pub enum Answer {
     Yes,
-    // The count's number, or the amount's cents.
+    // The count's number, the amount's cents, or a code's place in its list.
     Worth(u64),
     Form,
     CheckDigits,
     Range,
+    Unlisted,
 }
 
 // The refusal number, and 0 for an answer that accepts.
@@ -21,10 +22,11 @@ pub fn number(a: Answer) -> u8
         Answer::Form => 7,
         Answer::CheckDigits => 8,
         Answer::Range => 9,
+        Answer::Unlisted => 10,
     }
 }
 
-// The count's number or the amount's cents, and 0 where there is neither.
+// What an accepted value is worth, and 0 where nothing is said of it.
 pub fn value(a: Answer) -> u64
     ensures { λ r. ⌜ r ≡ valueOf (given a) ⌝ }
 {
@@ -34,5 +36,6 @@ pub fn value(a: Answer) -> u64
         Answer::Form => 0,
         Answer::CheckDigits => 0,
         Answer::Range => 0,
+        Answer::Unlisted => 0,
     }
 }

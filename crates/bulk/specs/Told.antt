@@ -7,7 +7,7 @@
 use Prim.Native.Nat.{ℕ}
 use mathlib.Core.List.{List, [], _∷_}
 use Rattle.answers.specs.Given.{Given, yes, worth, refused}
-use Rattle.judge.specs.Verdict.{Judged, accepted, refused as denied, Located, lies, fault}
+use Rattle.reading.specs.Verdict.{Judged, accepted, refused as denied, Located, lies, notThere}
 
 abbrev pub told : Given → List ℕ
 told yes = 0 ∷ 0 ∷ 0 ∷ []
@@ -20,4 +20,4 @@ toldVerdict (denied number place) = number ∷ place ∷ 0 ∷ []
 
 abbrev pub toldExtent : Located → List ℕ
 toldExtent (lies from to) = 0 ∷ from ∷ to ∷ []
-toldExtent (fault number place) = number ∷ place ∷ 0 ∷ []
+toldExtent (notThere number place) = number ∷ place ∷ 0 ∷ []

@@ -18,9 +18,9 @@ ghost use Rattle.accounts.specs.Identifier.{identifierGiven};
 ghost use Rattle.accounts.specs.Bic.{bicGiven};
 ghost use Rattle.bulk.specs.Told.{told, toldVerdict, toldExtent};
 ghost use Rattle.judge.specs.Verdict.{meant, located};
-ghost use Rattle.judge.specs.Message.{judged};
-ghost use Rattle.judge.specs.Items.{item as itemOf};
-ghost use Rattle.records.specs.Area.{recorded};
+ghost use Rattle.reading.specs.Judged.{judged};
+ghost use Rattle.reading.specs.Items.{item as itemOf};
+ghost use Rattle.postings.specs.Area.{recorded};
 
 // Writes the three words.
 fn tell(a: Answer, answer: &mut [u64; 3])

@@ -5,10 +5,9 @@ use Prim.Native.String.{String}
 use mathlib.Core.Bool.{Bool, true, false}
 use mathlib.Core.List.{List, [], _∷_}
 use Rattle.text.specs.Quoted.{is}
+use Rattle.answers.specs.Given.{Given, worth, refused}
 use Rattle.codes.specs.declared.Element.{Element}
 use Rattle.codes.specs.declared.Element.the-variants.{SttlmMtd, SvcLvl, LclInstrm, SeqTp, ChrgBr, Prtry}
-use Rattle.codes.specs.declared.Found.{Found}
-use Rattle.codes.specs.declared.Found.the-variants.{Listed, Unlisted}
 
 abbrev pub codesOf : Element → List String
 codesOf SttlmMtd = "CLRG" ∷ []
@@ -18,18 +17,9 @@ codesOf SeqTp = "FRST" ∷ "RCUR" ∷ "FNAL" ∷ "OOFF" ∷ []
 codesOf ChrgBr = "SLEV" ∷ []
 codesOf Prtry = "SEPA" ∷ []
 
--- what is given: the code's place in its list, counted from 0; or a refusal, by its number
-pub data Given : Type 0 where
-  which : ℕ → Given
-  refused : ℕ → Given
-
--- this paper's number and value for each case
-abbrev pub given : Found → Given
-given (Listed i) = which i
-given Unlisted = refused 10
-
+-- what is given: a code's worth is its place in its list, counted from 0
 abbrev pub orElse : Bool → ℕ → Given → Given
-orElse true i g = which i
+orElse true i g = worth i
 orElse false i g = g
 
 -- the first code of the list that s is, counted from i

@@ -1,7 +1,9 @@
 // The code lists, by the element that takes them. Codes are exact bytes.
+use answers::Answer;
 ghost use mathlib.Core.Path.{_≡_};
+ghost use Rattle.answers.specs.Given.{refused, given};
 ghost use Rattle.text.specs.Quoted.{alike};
-ghost use Rattle.codes.specs.Listed.{refused, given, orElse, place, codesOf, codeGiven};
+ghost use Rattle.codes.specs.Listed.{orElse, place, codesOf, codeGiven};
 
 pub enum Element {
     SttlmMtd,
@@ -12,54 +14,50 @@ pub enum Element {
     Prtry,
 }
 
-// A code's place in its element's list, counted from 0.
-pub enum Found {
-    Listed(u8),
-    Unlisted,
-}
-
 // A list of one code.
-fn only(t: &[u8], s: &[u8]) -> Found
+fn only(t: &[u8], s: &[u8]) -> Answer
     ensures { λ r. ⌜ given r ≡ orElse (alike (now (t .entry)) (now (s .entry))) 0 (refused 10) ⌝ }
 {
     if text::same(t, s) {
-        return Found::Listed(0);
+        return Answer::Worth(0);
     }
-    Found::Unlisted
+    Answer::Unlisted
 }
 
-fn instrument(s: &[u8]) -> Found
+// The code of LclInstrm.
+fn instrument(s: &[u8]) -> Answer
     ensures { λ r. ⌜ given r ≡ place 0 (codesOf Element.LclInstrm) (now (s .entry)) ⌝ }
 {
     if text::same(b"CORE", s) {
-        return Found::Listed(0);
+        return Answer::Worth(0);
     }
     if text::same(b"B2B", s) {
-        return Found::Listed(1);
+        return Answer::Worth(1);
     }
-    Found::Unlisted
+    Answer::Unlisted
 }
 
-fn sequence(s: &[u8]) -> Found
+// The code of SeqTp.
+fn sequence(s: &[u8]) -> Answer
     ensures { λ r. ⌜ given r ≡ place 0 (codesOf Element.SeqTp) (now (s .entry)) ⌝ }
 {
     if text::same(b"FRST", s) {
-        return Found::Listed(0);
+        return Answer::Worth(0);
     }
     if text::same(b"RCUR", s) {
-        return Found::Listed(1);
+        return Answer::Worth(1);
     }
     if text::same(b"FNAL", s) {
-        return Found::Listed(2);
+        return Answer::Worth(2);
     }
     if text::same(b"OOFF", s) {
-        return Found::Listed(3);
+        return Answer::Worth(3);
     }
-    Found::Unlisted
+    Answer::Unlisted
 }
 
 // The code's place in its element's list, or 10.
-pub fn code(e: Element, s: &[u8]) -> Found
+pub fn code(e: Element, s: &[u8]) -> Answer
     ensures { λ r. ⌜ given r ≡ codeGiven e (now (s .entry)) ⌝ }
 {
     match e {

@@ -1,4 +1,4 @@
--- What holds of each of a list, and of its parts. Assumes nothing.
+-- What holds of each of a list, and of its parts.
 use mathlib.Core.List.{List, [], _∷_, _++_}
 use Rattle.documents.specs.Document.{Each}
 

@@ -9,7 +9,9 @@ use Rattle.text.specs.Truth.{every, pick}
 use Rattle.text.specs.Quoted.{bytes}
 use Rattle.profile.specs.declared.Kind.{Kind}
 use Rattle.profile.specs.Tree.{Occ, once, optional, many, more, Shape, end, leaf, group}
-use Rattle.profile.specs.Tags.{white, inValue, endTag, plainTag, amountTag, isAmount}
+use Rattle.tags.specs.Tags.{white, endTag, plainTag, amountTag}
+use Rattle.tags.specs.Values.{inValue}
+use Rattle.profile.specs.Kinds.{isAmount}
 
 -- an element as it stands: the white space before its start tag, and what it holds
 pub record Led (A : Type 0) : Type 0 where
@@ -24,7 +26,7 @@ pub record Row (A B : Type 0) : Type 0 where
 -- what stands up to the end of a group. An element of a value holds the value; an end tag has only white space before it
 abbrev pub Doc : Shape → Type 0
 Doc (end n) = List ℕ
-Doc (leaf o n k slot rest) = Row (List ℕ) (Doc rest)
+Doc (leaf o n k f rest) = Row (List ℕ) (Doc rest)
 Doc (group o n inner rest) = Row (Doc inner) (Doc rest)
 
 -- ---- its text
@@ -41,7 +43,7 @@ texts f (e ∷ l) = f e ++ texts f l
 
 abbrev pub text : (sh : Shape) → Doc sh → List ℕ
 text (end n) w = w ++ endTag n
-text (leaf o n k slot rest) d = texts (ledText (opening k n) (λ v. v ++ endTag n)) (d .all) ++ text rest (d .others)
+text (leaf o n k f rest) d = texts (ledText (opening k n) (λ v. v ++ endTag n)) (d .all) ++ text rest (d .others)
 text (group o n inner rest) d = texts (ledText (plainTag n) (text inner)) (d .all) ++ text rest (d .others)
 
 -- ---- what may stand in it
@@ -69,5 +71,5 @@ LedBy P e = White (e .blank) × P (e .held)
 
 abbrev pub Proper : (sh : Shape) → Doc sh → Type 0
 Proper (end n) w = White w
-Proper (leaf o n k slot rest) d = Often o (length (d .all)) × Each (LedBy Tagless) (d .all) × Proper rest (d .others)
+Proper (leaf o n k f rest) d = Often o (length (d .all)) × Each (LedBy Tagless) (d .all) × Proper rest (d .others)
 Proper (group o n inner rest) d = Often o (length (d .all)) × Each (LedBy (Proper inner)) (d .all) × Proper rest (d .others)

@@ -1,5 +1,5 @@
 pub mod Document
-pub mod Entries
+pub mod Said
 pub mod Message
 pub mod Holds
-pub mod Bulk
+pub mod Standing

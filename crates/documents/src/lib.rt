@@ -1,1 +1,1 @@
-// Laws only: a message is accepted exactly when it is the text of a document that the profile allows.
+// No code: a message is accepted exactly when it is the text of a document of which the profile holds.

@@ -1,119 +1,180 @@
--- What stands behind a refusal: a message too long, a fault met while reading, or one behind `</Document>`. Assumes nothing.
-use mathlib.Core.Path.{_≡_, refl, _∙_}
+-- What stands behind a refusal: a message too long, a fault met while reading, or one behind `</Document>`.
+use mathlib.Core.Path.{_≡_, refl, sym, _∙_}
 use mathlib.Core.Bool.{Bool, true, false}
-use mathlib.Core.List.{List}
-use Prim.Native.Nat.{ℕ, _≤_, _<_}
+use mathlib.Core.List.{List, [], _∷_, _++_}
+use mathlib.Core.Logic.{_⊎_, inl, inr}
+use Prim.Native.Nat.{ℕ, _+_, _≤_, _<_}
 use native.Mathlib.Omega.{arith}
 use borrow.Author.Tests.{ltb-true, ltb-false, le-ltb, eqb-true, eqb-false}
 use lib.Dec.{ltb, eqb}
 use lib.ListN.{length}
 use Rattle.text.specs.Truth.{pick}
-use Rattle.notes.specs.declared.State.{State}
-use Rattle.notes.specs.Reading.{Reading, on, stop}
-use Rattle.reader.specs.Reader.{skipped}
-use Rattle.judge.specs.Verdict.{accepted, refused}
-use Rattle.judge.specs.Message.{compared, finished, concluded, readThrough, judged}
-use Rattle.faults.specs.Refusals.{Behind, left, count, total}
-use Rattle.faults.proofs.Parts.{itself}
-use Rattle.faults.proofs.Told.{Met, opening, order, inside, In}
-use Rattle.faults.proofs.Crops.{Cropped, same, past, ended, before}
-use Rattle.faults.proofs.Through.{through-crop}
+use Rattle.text.specs.Quoted.{decimal}
+use Rattle.answers.specs.Given.{Given, yes, worth, refused as no}
+use Rattle.money.specs.Amount.{cents}
+use Rattle.tags.specs.Tags.{skipped}
+use Rattle.profile.specs.declared.Kind.{Kind}
+use Rattle.profile.specs.declared.Kind.the-variants.{Count, Total}
+use Rattle.profile.specs.Limits.{mostBytes}
+use Rattle.reading.specs.Trace.{Entry, Trace, met, upTo, fault, andThen, Opened, from, faulty, opened, behindAll, inside, message}
+use Rattle.reading.specs.Noted.{Reading, on, stop, onward, Ended, noted}
+use Rattle.reading.specs.Rules.{itemsIn, centsIn, ofKind, weighed}
+use Rattle.reading.specs.Verdict.{Judged, accepted, refused}
+use Rattle.reading.specs.Judged.{whats, onlyOf, orRefused, listed, placeIn, placeOf, compared, verdict, judged}
+use Rattle.reading.proofs.Lists.{place-append}
+use Rattle.reading.proofs.Flat.{never, Whole, split, noted-then}
+use Rattle.faults.specs.Refusals.{_among_, ofForm, ofWhatIsSaid, whileReading, afterTheEnd, inDocument, ReadTo, NoneLeft, Behind, left, count, total}
+use Rattle.faults.proofs.Numbers.{among-left, among-right, not-among}
+use Rattle.faults.proofs.Extends.{needs, Placed, Extends, also, done, wrong, ended}
+use Rattle.faults.proofs.Begins.{document-ext}
+use Rattle.faults.proofs.Weighs.{Said, weighed-said, weighed-there}
 
-pub refuses : (m : List ℕ) (n p : ℕ) → length m ≤ 16777216 → readThrough m ≡ stop n p → judged m ≡ refused n p
-unfolding judged
-refuses m n p h e = rw (le-ltb 16777216 (length m) h, e)
+-- ---- the header's values lie within
+abbrev Reached : ℕ → List Entry → Type 0
+Reached l es = (k : Kind) → placeOf k es ≤ l
 
+reached-more : (l : ℕ) (e : Entry) (es : List Entry) → Placed l e → Reached l es → Reached l (es ++ (e ∷ []))
+reached-more l e es h r k = rw (place-append k es (e ∷ []) 0) (go (ofKind k (e .what)) (r k))
+  where
+    go : (vs : List (List ℕ)) → placeOf k es ≤ l → placeIn vs (e .place) (placeOf k es) ≤ l
+    go [] g = g
+    go (v ∷ vs) g = omega arith
+
+-- ---- noting what stands in a message of l bytes, beside the same continued: both are read through; both are refused, before the end; or the first is refused 3 at its end
+pub data Both (l : ℕ) : Reading (Ended (List Entry)) → Reading (Ended (List Entry)) → Type 0 where
+  through : (r : Ended (List Entry)) → Reached l (r .notes) → Both l (on r) (on r)
+  before : (n p : ℕ) → n among whileReading → (n ≡ 3 → ⊥) → p < l → Both l (stop n p) (stop n p)
+  ends : {y : Reading (Ended (List Entry))} → Both l (stop 3 l) y
+
+noted-both : {l a : ℕ} {t u : Trace} → Extends l a t u → (es : List Entry) → Reached l es → Both l (noted listed t es) (noted listed u es)
+noted-both (done p h g) es r = through (record { at = p; notes = es }) r
+noted-both (wrong n q f z h) es r = before n q (among-left n ofForm ofWhatIsSaid f) z h
+noted-both ended es r = ends
+noted-both {l} (also e {s} {t} h x) es r =
+    go (weighed (whats es) (e .what)) (weighed-said (whats es) (e .what)) (weighed-there (whats es) (e .what)) (noted-both x (es ++ (e ∷ [])) (reached-more l e es h r))
+  where
+    go : (g : Given) → Said g → ((n : ℕ) → g ≡ no n → 0 < needs (e .what)) → Both l (noted listed s (es ++ (e ∷ []))) (noted listed t (es ++ (e ∷ [])))
+        → Both l (onward (orRefused g (e .place) (es ++ (e ∷ []))) (noted listed s)) (onward (orRefused g (e .place) (es ++ (e ∷ []))) (noted listed t))
+    go yes a b c = c
+    go (worth v) a b c = c
+    go (no n) a b c = before n (e .place) (among-right n ofForm ofWhatIsSaid a) (not-among 3 ofWhatIsSaid n refl a) (omega (arith, b n refl))
+
+abbrev pub documentRead : List ℕ → Reading (Ended (List Entry))
+documentRead m = noted listed (inDocument m (opened m)) []
+
+pub document-both : (m x : List ℕ) → Both (length m) (documentRead m) (documentRead (m ++ x))
+document-both m x = noted-both (document-ext m x) [] (λ k. omega arith)
+
+-- what stops is refused for what is said, or by the fault that ends the trace
+abbrev pub Breaks : ℕ → Trace → Type 0
+Breaks n (met e t) = Breaks n t
+Breaks n (upTo p) = ⊥
+Breaks n (fault k q) = k ≡ n
+
+pub noted-stops : (t : Trace) (es : List Entry) (n p : ℕ) → noted listed t es ≡ stop n p → n among ofWhatIsSaid ⊎ Breaks n t
+noted-stops (upTo r) es n p e = never (cc)
+noted-stops (fault k r) es n p e = inr (cc)
+noted-stops (met x t) es n p e = go (weighed (whats es) (x .what)) (weighed-said (whats es) (x .what)) (noted-stops t (es ++ (x ∷ [])) n p) e
+  where
+    go : (g : Given) → Said g → (noted listed t (es ++ (x ∷ [])) ≡ stop n p → n among ofWhatIsSaid ⊎ Breaks n t)
+        → onward (orRefused g (x .place) (es ++ (x ∷ []))) (noted listed t) ≡ stop n p → n among ofWhatIsSaid ⊎ Breaks n t
+    go yes s k e = k e
+    go (worth v) s k e = k e
+    go (no i) s k e = let z : i ≡ n = cc in inl (rw z at s)
+
+whole-unbroken : (t : Trace) (q n : ℕ) → Whole t q → Breaks n t → ⊥
+whole-unbroken (met e t) q n w b = whole-unbroken t q n w b
+whole-unbroken (upTo p) q n w b = b
+whole-unbroken (fault k p) q n w b = w
+
+-- what is so of one refusal is so of the same
+of-same : (P : ℕ → ℕ → Type 0) (k q n p : ℕ) → P k q → refused k q ≡ refused n p → P n p
+of-same P k q n p h e =
+    let a : k ≡ n = cc in
+    let b : q ≡ p = cc in
+    rw a at (rw b at h)
+
+-- ---- the judge, once the message is not too long
 module _ (m : List ℕ) where
-  -- a fault met while reading: 3 at the end of the message, or another number before it
-  pub record Fault (n p : ℕ) : Type 0 where
-    pub from : 2 ≤ n
-    pub to : n ≤ 13
-    pub unused : n ≡ 5 → ⊥
-    pub within : p ≤ length m
-    pub at-end : n ≡ 3 → p ≡ length m
+  abbrev concluded : Reading (Ended (List Entry)) → Judged
+  concluded x = verdict (onward x (λ r. noted listed (behindAll m (r .at)) (r .notes)))
 
-  met-fault : (n p : ℕ) → Met n → p < length m → Fault n p
-  met-fault n p opening h = record { from = omega arith; to = omega arith; unused = λ e. omega arith; within = omega arith; at-end = λ e. omega arith }
-  met-fault n p order h = record { from = omega arith; to = omega arith; unused = λ e. omega arith; within = omega arith; at-end = λ e. omega arith }
-  met-fault n p (inside f g) h = record { from = omega arith; to = omega arith; unused = λ e. omega arith; within = omega arith; at-end = λ e. omega arith }
+  pub as-parts : (o : Opened) → inside m o ≡ andThen (inDocument m o) (behindAll m)
+  as-parts (from v p) = refl
+  as-parts (faulty n q) = refl
 
-  pub stopped : (n p : ℕ) → readThrough m ≡ stop n p → Fault n p
-  stopped n p e = go (readThrough m) (readThrough m) (through-crop (itself m)) e e
+  judged-as : length m ≤ mostBytes → judged m ≡ concluded (documentRead m)
+  unfolding judged message
+  judged-as h = rw (le-ltb mostBytes (length m) h, as-parts (opened m), noted-then listed (inDocument m (opened m)) (behindAll m) [])
+
+  -- a message that breaks off nowhere is refused for what it says alone
+  pub whole-said : (q : ℕ) → Whole (message m) q → (n p : ℕ) → documentRead m ≡ stop n p → n among ofWhatIsSaid
+  unfolding message
+  whole-said q w n p = go (ltb mostBytes (length m)) w
     where
-      go : (x y : Reading) → Cropped m m 0 x y → x ≡ stop n p → y ≡ stop n p → Fault n p
-      go x y (same h i) f g = absurd (let z : _≡_ {A = ℕ} 0 1 = cc in omega arith)
-      go x y (past h i) f g = absurd (let z : _≡_ {A = ℕ} 0 1 = cc in omega arith)
-      go x y ended f g =
-          let a : n ≡ 3 = cc in
-          let b : p ≡ length m = cc in
-          record { from = omega arith; to = omega arith; unused = λ z. omega arith; within = omega arith; at-end = λ z. b }
-      go x y (before {n = k} {q} r h) f g =
-          let a : k ≡ n = cc in
-          let b : q ≡ p = cc in
-          rw a at (rw b at (met-fault k q r h))
+      go : (b : Bool) → Whole (pick b (fault 1 0) (inside m (opened m))) q → documentRead m ≡ stop n p → n among ofWhatIsSaid
+      go true w e = absurd w
+      go false w e =
+          let s = split (inDocument m (opened m)) (behindAll m) q (rw (as-parts (opened m)) at w) in
+          elim (noted-stops (inDocument m (opened m)) [] n p e) [
+            | inl a ↦ a
+            | inr b ↦ absurd (whole-unbroken (inDocument m (opened m)) (s .mid) n (s .first) b)
+          ]
 
-  gone-through : (t : State) → readThrough m ≡ on t → In m t
-  gone-through t e = go (readThrough m) (readThrough m) (through-crop (itself m)) e
+  pub refuses : (n p : ℕ) → length m ≤ mostBytes → documentRead m ≡ stop n p → judged m ≡ refused n p
+  refuses n p h e = judged-as h ∙ rw e
+
+  -- ---- behind `</Document>`
+  module _ (r : Ended (List Entry)) (n p : ℕ) where
+    compares : NoneLeft m (r .at) → compared (r .notes) ≡ refused n p → Behind m r n p
+    unfolding compared
+    compares h = go (eqb (decimal (onlyOf Count es)) (itemsIn (whats es))) (eqb (cents (onlyOf Total es)) (centsIn (whats es))) refl refl
+      where
+        es : List Entry
+        es = r .notes
+
+        go : (b c : Bool) → eqb (decimal (onlyOf Count es)) (itemsIn (whats es)) ≡ b → eqb (cents (onlyOf Total es)) (centsIn (whats es)) ≡ c
+            → pick b (pick c (accepted (itemsIn (whats es)) (centsIn (whats es))) (refused 15 (placeOf Total es))) (refused 14 (placeOf Count es)) ≡ refused n p → Behind m r n p
+        go true true f g = λ e. never (cc)
+        go true false f g =
+            of-same (Behind m r) 15 (placeOf Total es) n p
+            (total h (eqb-true (decimal (onlyOf Count es)) (itemsIn (whats es)) f) (eqb-false (cents (onlyOf Total es)) (centsIn (whats es)) g))
+        go false c f g = of-same (Behind m r) 14 (placeOf Count es) n p (count h (eqb-false (decimal (onlyOf Count es)) (itemsIn (whats es)) f))
+
+    behind : concluded (on r) ≡ refused n p → Behind m r n p
+    unfolding behindAll
+    behind = go (ltb (skipped m (r .at)) (length m)) refl
+      where
+        go : (a : Bool) → ltb (skipped m (r .at)) (length m) ≡ a
+            → verdict (noted listed (pick a (fault 16 (skipped m (r .at))) (upTo (skipped m (r .at)))) (r .notes)) ≡ refused n p → Behind m r n p
+        go true e = of-same (Behind m r) 16 (skipped m (r .at)) n p (left (ltb-true (skipped m (r .at)) (length m) e))
+        go false e = compares (ltb-false (skipped m (r .at)) (length m) e)
+
+  -- ---- the three ways to a refusal, with their numbers and places: too long; 3 at the message's end, or another fault met while reading before it; behind `</Document>`
+  pub data Cause (n p : ℕ) : Type 0 where
+    long : mostBytes < length m → n ≡ 1 → p ≡ 0 → Cause n p
+    reading : length m ≤ mostBytes → documentRead m ≡ stop n p → n among whileReading → p ≤ length m → (n ≡ 3 → p ≡ length m) → Cause n p
+    after : (r : Ended (List Entry)) → ReadTo m r → Behind m r n p → n among afterTheEnd → p ≤ length m → Cause n p
+
+  behind-last : (r : Ended (List Entry)) → Reached (length m) (r .notes) → {n p : ℕ} → Behind m r n p → n among afterTheEnd × (p ≤ length m)
+  behind-last r h (left g) = (refl, omega arith)
+  behind-last r h (count g f) = (refl, h Count)
+  behind-last r h (total g f z) = (refl, h Total)
+
+  pub cause : (n p : ℕ) → judged m ≡ refused n p → Cause n p
+  unfolding judged message
+  cause n p e = go (ltb mostBytes (length m)) refl e
     where
-      go : (x y : Reading) → Cropped m m 0 x y → x ≡ on t → In m t
-      go x y (same {t = u} h i) f = let a : u ≡ t = cc in rw a at i
-      go x y (past {t = u} h i) f = let a : u ≡ t = cc in rw a at i
-      go x y ended f = absurd (let z : _≡_ {A = ℕ} 0 1 = cc in omega arith)
-      go x y (before r h) f = absurd (let z : _≡_ {A = ℕ} 0 1 = cc in omega arith)
+      read : length m ≤ mostBytes → (x y : Reading (Ended (List Entry))) → Both (length m) x y → documentRead m ≡ x → concluded x ≡ refused n p → Cause n p
+      read w x y (through r h) f g =
+          let b = behind r n p g in
+          let l = behind-last r h b in
+          after r f b (l .0) (l .1)
+      read w x y (before k q i z h) f g = of-same Cause k q n p (reading w f i (omega arith) (λ a. absurd (z a))) g
+      read w x y ends f g = of-same Cause 3 (length m) n p (reading w f refl (omega arith) (λ a. refl)) g
 
-  -- ---- one found behind `</Document>`, when all was read
-  module _ (t : State) (n p : ℕ) where
-    told : (k q : ℕ) → Behind m t k q → refused k q ≡ refused n p → Behind m t n p
-    told k q b e =
-        let f : k ≡ n = cc in
-        let g : q ≡ p = cc in
-        rw f at (rw g at b)
-
-    finished-behind : finished m (skipped m t) ≡ refused n p → Behind m t n p
-    unfolding finished compared
-    finished-behind = go (ltb (skipped m t .at) (length m)) (eqb (t .notes .nb) (t .notes .count)) (eqb (t .notes .total) (t .notes .sum)) refl refl refl
-      where
-        go : (a b c : Bool) → ltb (skipped m t .at) (length m) ≡ a → eqb (t .notes .nb) (t .notes .count) ≡ b → eqb (t .notes .total) (t .notes .sum) ≡ c
-            → pick a (refused 16 (skipped m t .at))
-            (pick b (pick c (accepted (t .notes .count) (t .notes .sum)) (refused 15 (t .notes .totalat))) (refused 14 (t .notes .nbat)))
-            ≡ refused n p
-            → Behind m t n p
-        go true b c e f g = told 16 (skipped m t .at) (left (ltb-true (skipped m t .at) (length m) e))
-        go false true true e f g = λ h. absurd (let z : _≡_ {A = ℕ} 0 1 = cc in omega arith)
-        go false true false e f g =
-            told 15 (t .notes .totalat)
-            (total (ltb-false (skipped m t .at) (length m) e) (eqb-true (t .notes .nb) (t .notes .count) f) (eqb-false (t .notes .total) (t .notes .sum) g))
-        go false false c e f g =
-            told 14 (t .notes .nbat) (count (ltb-false (skipped m t .at) (length m) e) (eqb-false (t .notes .nb) (t .notes .count) f))
-
-  pub record Last (n p : ℕ) : Type 0 where
-    pub from : 14 ≤ n
-    pub to : n ≤ 16
-    pub within : p ≤ length m
-
-  last : (t : State) (n p : ℕ) → In m t → Behind m t n p → Last n p
-  last t n p i (left h) = record { from = omega arith; to = omega arith; within = omega arith }
-  last t n p i (count h f) = record { from = omega arith; to = omega arith; within = omega (arith, i .nb, i .within) }
-  last t n p i (total h f g) = record { from = omega arith; to = omega arith; within = omega (arith, i .total, i .within) }
-
-  -- ---- the three ways to a refusal
-  module _ (n p : ℕ) where
-    pub data Cause : Type 0 where
-      long : 16777216 < length m → n ≡ 1 → p ≡ 0 → Cause
-      met : length m ≤ 16777216 → readThrough m ≡ stop n p → Cause
-      after : (t : State) → readThrough m ≡ on t → Behind m t n p → Last n p → Cause
-
-    pub cause : judged m ≡ refused n p → Cause
-    unfolding judged
-    cause e = go (ltb 16777216 (length m)) refl e
-      where
-        read : length m ≤ 16777216 → (x : Reading) → readThrough m ≡ x → concluded m x ≡ refused n p → Cause
-        read h (on t) f g = let b = finished-behind t n p g in after t f b (last t n p (gone-through t f) b)
-        read h (stop k q) f g =
-            let a : k ≡ n = cc in
-            let b : q ≡ p = cc in
-            met h (f ∙ rw (a, b))
-
-        go : (b : Bool) → ltb 16777216 (length m) ≡ b → pick b (refused 1 0) (concluded m (readThrough m)) ≡ refused n p → Cause
-        go true h f = long (ltb-true 16777216 (length m) h) (cc) (cc)
-        go false h f = read (ltb-false 16777216 (length m) h) (readThrough m) refl f
+      go : (b : Bool) → ltb mostBytes (length m) ≡ b → verdict (noted listed (pick b (fault 1 0) (inside m (opened m))) []) ≡ refused n p → Cause n p
+      go true h f = long (ltb-true mostBytes (length m) h) (cc) (cc)
+      go false h f =
+          let w : length m ≤ mostBytes = ltb-false mostBytes (length m) h in
+          read w (documentRead m) (documentRead (m ++ [])) (document-both m []) refl (sym (judged-as w) ∙ e)

@@ -1,7 +1,11 @@
-pub mod Parts
-pub mod Told
-pub mod Crops
-pub mod Apart
-pub mod Through
+pub mod Fronts
+pub mod Extends
+pub mod Begins
+pub mod Weighs
+pub mod Numbers
 pub mod Causes
 pub mod Faults
+pub mod Fills
+pub mod Made
+pub mod Completes
+pub mod Three

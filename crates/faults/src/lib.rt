@@ -1,1 +1,1 @@
-// A refusal is the first fault in the written order: laws only.
+// No code: a refusal is the first fault in the written order.

@@ -1,5 +1,7 @@
-pub mod Along
-pub mod Steady
-pub mod Like
-pub mod Walk
+pub mod Anew
+pub mod Parts
+pub mod Inner
+pub mod Stands
+pub mod Chains
 pub mod Accepted
+pub mod Places

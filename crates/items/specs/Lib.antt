@@ -1,2 +1,5 @@
+pub mod Alone
+pub mod Walk
+pub mod Sure
 pub mod Chain
-pub mod Inside
+pub mod Places

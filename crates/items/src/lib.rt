@@ -1,1 +1,1 @@
-// The items of an accepted message, one behind the other: laws only.
+// No code: the items of an accepted message stand one behind the other, and each can be read again alone.

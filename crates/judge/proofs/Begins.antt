@@ -1,87 +1,94 @@
--- The beginning of a message, as the code reads it. Assumes nothing.
+-- The beginning of a message, as the code reads it, and what stands behind it.
 use mathlib.Core.Path.{_≡_, sym, ap, _∙_}
 use mathlib.Core.Bool.{true, false}
 use mathlib.Core.List.{List}
-use Prim.Native.Nat.{ℕ, _+_, _-_, _≤_}
+use Prim.Native.Nat.{ℕ, _+_, _-_, _≤_, _<_}
 use native.Mathlib.Omega.{arith}
 use borrow.Author.Tests.{le-leb}
-use lib.ListN.{length, take, drop, length-drop, length-take}
+use lib.ListN.{length, take, drop, length-drop, length-take, drop-of-length-le}
 use Rattle.text.specs.Truth.{lead}
 use Rattle.text.proofs.Scan.{rest-of, lead-le}
-use Rattle.profile.specs.declared.Look.{Look}
-use Rattle.profile.specs.declared.Look.the-variants.{Whole, Cut, Other}
-use Rattle.profile.specs.Tags.{white, look, exactly, startsQuestion, declaration, root}
-use Rattle.profile.proofs.Looks.{text-fits}
-use Rattle.notes.specs.Reading.{Reading, stop, Fine}
+use Rattle.tags.specs.declared.Look.{Look}
+use Rattle.tags.specs.declared.Look.the-variants.{Whole, Cut, Other}
+use Rattle.tags.specs.Tags.{white, skipped, look, exactly, startsQuestion, declaration}
+use Rattle.tags.proofs.Looks.{text-fits}
+use Rattle.profile.specs.Version.{v02, versions, root}
+use Rattle.profile.specs.Limits.{mostBytes}
+use Rattle.reading.specs.Trace.{Opened, from, faulty, rooted, opened}
+use Rattle.reading.specs.Noted.{Reading, stop, Ended}
+use Rattle.notes.specs.declared.Notes.{Notes}
+use Rattle.notes.specs.Steps.{Fine}
 use Rattle.reader.specs.Reader.{messageAt}
-use Rattle.judge.specs.declared.Opened.{Opened}
-use Rattle.judge.specs.declared.Opened.the-variants.{From, Faulty}
-use Rattle.judge.specs.Message.{declared, rooted, opened, readThrough, Within}
+use Rattle.judge.specs.Engine.{Within, throughIn}
 
 -- what is shown of an opening
 abbrev pub Opens : List ℕ → Opened → Opened → Type 0
 Opens m r s = (r ≡ s) × Within m r
 
 module _ (m : List ℕ) where
-  pub no-declaration : startsQuestion m ≡ false → Opens m (From 0) (declared m)
-  unfolding declared
-  no-declaration e = (rw e, omega arith)
-
-  module _ (q : startsQuestion m ≡ true) (l : Look) (e : l ≡ look (exactly declaration) m) where
-    pub declaration-whole : l ≡ Whole → Opens m (From 38) (declared m)
-    unfolding declared
-    declaration-whole h = (rw (q, ← e, h), text-fits declaration m (sym e ∙ h))
-
-    pub declaration-cut : l ≡ Cut → Opens m (Faulty 3 (length m)) (declared m)
-    unfolding declared
-    declaration-cut h = (rw (q, ← e, h), omega arith)
-
-    pub declaration-other : l ≡ Other → Opens m (Faulty 2 0) (declared m)
-    unfolding declared
-    declaration-other h = (rw (q, ← e, h), omega arith)
-
-  module _ (p : ℕ) (in-it : p ≤ length m) (l : Look) (e : l ≡ look (exactly root) (take (length m - p) (drop p m))) where
-    looked : look (exactly root) (drop p m) ≡ l
-    looked = ap (look (exactly root)) (sym (rest-of p m)) ∙ sym e
-
-    pub root-fits : l ≡ Whole → p + 65 ≤ length m
-    root-fits h = omega (arith, text-fits root (drop p m) (looked ∙ h), length-drop p m)
-
-    pub root-whole : l ≡ Whole → Opens m (From (p + 65)) (rooted m p)
-    unfolding rooted
-    root-whole h = (rw (looked, h), root-fits h)
-
-    pub root-cut : l ≡ Cut → Opens m (Faulty 3 (length m)) (rooted m p)
-    unfolding rooted
-    root-cut h = (rw (looked, h), omega arith)
-
-    pub root-other : l ≡ Other → Opens m (Faulty 2 p) (rooted m p)
-    unfolding rooted
-    root-other h = (rw (looked, h), in-it)
-
-  -- ---- both, one behind the other
-  module _ (d : Opened) (e : d ≡ declared m) (w : Within m d) where
-    pub place-within : (p : ℕ) → d ≡ From p → p ≤ length m
-    place-within p f = rw f at w
-
-    pub opened-root : (p n : ℕ) → d ≡ From p → n ≡ lead white (take (length m - p) (drop p m)) → (r : Opened) → r ≡ rooted m (p + n) → r ≡ opened m
-    unfolding opened
-    opened-root p n f k r g = g ∙ rw (← e, f, k, rest-of p m)
-
-    pub opened-faulty : (n q : ℕ) → d ≡ Faulty n q → Opens m (Faulty n q) (opened m)
-    unfolding opened
-    opened-faulty n q f = (rw (← e, f), (let z : Within m (Faulty n q) = rw f at w in z))
-
+  -- ---- white space
   pub spaces-within : (p n : ℕ) → p ≤ length m → n ≡ lead white (take (length m - p) (drop p m)) → p + n ≤ length m
   spaces-within p n h e = omega (arith, lead-le white (take (length m - p) (drop p m)), length-take (length m - p) (drop p m), length-drop p m)
 
+  pub skipped-is : (p n : ℕ) → n ≡ lead white (take (length m - p) (drop p m)) → p + n ≡ skipped m p
+  skipped-is p n e = ap (λ (k : ℕ). p + k) (e ∙ ap (lead white) (rest-of p m))
+
+  pub past-end : (p : ℕ) → length m < p → p ≡ skipped m p
+  past-end p h =
+      let g : length m ≤ p = omega arith in
+      rw (drop-of-length-le m g) (omega arith)
+
+  -- ---- the root tag, due after white space from a place on
+  module _ (p n : ℕ) (in-it : p ≤ length m) (skips : n ≡ lead white (take (length m - p) (drop p m))) (l : Look)
+      (e : l ≡ look (exactly (root v02)) (take (length m - (p + n)) (drop (p + n) m))) where
+    looked : look (exactly (root v02)) (drop (skipped m p) m) ≡ l
+    looked = rw (← skipped-is p n skips) (ap (look (exactly (root v02))) (sym (rest-of (p + n) m)) ∙ sym e)
+
+    pub root-fits : l ≡ Whole → p + n + length (root v02) ≤ length m
+    root-fits h = omega (arith, text-fits (root v02) (drop (skipped m p) m) (looked ∙ h), length-drop (skipped m p) m, skipped-is p n skips)
+
+    abbrev pub Rooted : Opened → Type 0
+    Rooted r = Opens m r (rooted versions m (skipped m p))
+
+    pub root-whole : l ≡ Whole → Rooted (from v02 (p + n + length (root v02)))
+    root-whole h = (rw (looked, h, skipped-is p n skips), root-fits h)
+
+    pub root-cut : l ≡ Cut → Rooted (faulty 3 (length m))
+    root-cut h = (rw (looked, h), omega arith)
+
+    pub root-other : l ≡ Other → Rooted (faulty 2 (p + n))
+    root-other h = (rw (looked, h, skipped-is p n skips), spaces-within p n in-it skips)
+
+  -- ---- the declaration, and the root tag
+  pub no-declaration : startsQuestion m ≡ false → (r : Opened) → r ≡ rooted versions m (skipped m 0) → r ≡ opened m
+  unfolding opened
+  no-declaration q r f = f ∙ rw q
+
+  module _ (q : startsQuestion m ≡ true) (l : Look) (e : l ≡ look (exactly declaration) m) where
+    pub declaration-fits : l ≡ Whole → length declaration ≤ length m
+    declaration-fits h = text-fits declaration m (sym e ∙ h)
+
+    pub declaration-whole : l ≡ Whole → (r : Opened) → r ≡ rooted versions m (skipped m (length declaration)) → r ≡ opened m
+    unfolding opened
+    declaration-whole h r f = f ∙ rw (q, ← e, h)
+
+    pub declaration-cut : l ≡ Cut → Opens m (faulty 3 (length m)) (opened m)
+    unfolding opened
+    declaration-cut h = (rw (q, ← e, h), omega arith)
+
+    pub declaration-other : l ≡ Other → Opens m (faulty 2 0) (opened m)
+    unfolding opened
+    declaration-other h = (rw (q, ← e, h), omega arith)
+
   -- ---- and what stands behind it
-  module _ (small : length m ≤ 16777216) (o : Opened) (e : o ≡ opened m) (w : Within m o) where
-    pub through-from : (p : ℕ) → o ≡ From p → (x : Reading) → x ≡ messageAt m p → x ≡ readThrough m
+  module _ (small : length m ≤ mostBytes) (o : Opened) (e : o ≡ opened m) (w : Within m o) where
+    pub through-from : (p : ℕ) → from v02 p ≡ o → (x : Reading (Ended Notes)) → x ≡ messageAt v02 m p → x ≡ throughIn m (opened m)
     unfolding messageAt
     through-from p f x g =
-        let h : p ≤ length m = rw f at w in
-        g ∙ rw (← e, f, le-leb (length m) 16777216 small, le-leb p (length m) h)
+        let h : p ≤ length m = rw (sym f) at w in
+        g ∙ rw (← e, ← f, le-leb (length m) mostBytes small, le-leb p (length m) h)
 
-    pub through-faulty : (n q : ℕ) → o ≡ Faulty n q → (x : Reading) → x ≡ stop n q → (x ≡ readThrough m) × Fine m 0 x
-    through-faulty n q f x g = (g ∙ rw (← e, f), rw g (let z : Within m (Faulty n q) = rw f at w in z))
+    pub through-faulty : (n q : ℕ) → faulty n q ≡ o → (x : Reading (Ended Notes)) → x ≡ stop n q → (x ≡ throughIn m (opened m)) × Fine m 0 x
+    through-faulty n q f x g =
+        let h : q ≤ length m = rw (sym f) at w in
+        (g ∙ rw (← e, ← f), rw g h)

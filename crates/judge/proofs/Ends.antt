@@ -1,61 +1,53 @@
--- The end of a message, as the code reads it. Assumes nothing.
-use mathlib.Core.Path.{_≡_, sym, ap, _∙_}
-use mathlib.Core.Bool.{true, false}
+-- The end of a message, as the code reads it.
+use mathlib.Core.Path.{_≡_, refl, sym, ap, _∙_}
+use mathlib.Core.Bool.{Bool, true, false, not}
 use mathlib.Core.List.{List}
-use Prim.Native.Nat.{ℕ, _+_, _-_, _≤_, _<_}
+use Prim.Native.Nat.{ℕ, _+_, _≤_, _<_}
+use native.Mathlib.Omega.{arith}
 use borrow.Author.Tests.{lt-ltb, le-ltb}
-use lib.Dec.{eqb}
-use lib.ListN.{length, take, drop}
-use Rattle.text.specs.Truth.{lead}
-use Rattle.text.proofs.Scan.{rest-of}
-use Rattle.profile.specs.Tags.{white}
-use Rattle.notes.specs.declared.State.{State}
-use Rattle.notes.specs.Reading.{on, stop, moved}
-use Rattle.reader.specs.Reader.{skipped}
-use Rattle.judge.specs.Verdict.{accepted, refused}
-use Rattle.judge.specs.Message.{compared, finished, readThrough, judged}
+use lib.Dec.{eqb, ltb}
+use lib.ListN.{length}
+use Rattle.reading.proofs.Flat.{never}
+use Rattle.tags.specs.Tags.{skipped}
+use Rattle.reading.specs.Noted.{Reading, on, stop, Ended}
+use Rattle.reading.specs.Verdict.{accepted}
+use Rattle.notes.specs.declared.Notes.{Notes}
+use Rattle.notes.specs.Steps.{Fine}
+use Rattle.judge.specs.Found.{Found, denied}
+use Rattle.judge.specs.Engine.{comparedIn, finishedIn, concludedIn}
 
-module _ (st : State) where
-  pub count-wrong : eqb (st .notes .nb) (st .notes .count) ≡ false → refused 14 (st .notes .nbat) ≡ compared st
-  unfolding compared
-  count-wrong h = rw h
+-- a test that was asked the other way round
+not-yes : (b a : Bool) → a ≡ not b → a ≡ true → b ≡ false
+not-yes true a e h = never (cc)
+not-yes false a e h = refl
 
-  pub total-wrong : eqb (st .notes .nb) (st .notes .count) ≡ true → eqb (st .notes .total) (st .notes .sum) ≡ false → refused 15 (st .notes .totalat) ≡ compared st
-  unfolding compared
-  total-wrong h g = rw (h, g)
+not-no : (b a : Bool) → a ≡ not b → a ≡ false → b ≡ true
+not-no true a e h = refl
+not-no false a e h = never (cc)
 
-  pub both-right : eqb (st .notes .nb) (st .notes .count) ≡ true → eqb (st .notes .total) (st .notes .sum) ≡ true → accepted (st .notes .count) (st .notes .sum) ≡ compared st
-  unfolding compared
-  both-right h g = rw (h, g)
+module _ (n : Notes) (a : Bool) (e : a ≡ not (eqb (n .number) (n .count))) where
+  pub count-other : a ≡ true → denied 14 (n .numberat) ≡ comparedIn n
+  unfolding comparedIn
+  count-other h = rw (not-yes (eqb (n .number) (n .count)) a e h)
 
-module _ (m : List ℕ) (st : State) (n : ℕ) (e : n ≡ lead white (take (length m - st .at) (drop (st .at) m))) where
-  skips-to : skipped m st ≡ moved st (st .at + n)
-  skips-to = ap (λ (k : ℕ). moved st (st .at + k)) (sym (e ∙ ap (lead white) (rest-of (st .at) m)))
+  module _ (h : a ≡ false) (b : Bool) (f : b ≡ not (eqb (n .total) (n .sum))) where
+    pub total-other : b ≡ true → denied 15 (n .totalat) ≡ comparedIn n
+    unfolding comparedIn
+    total-other g = rw (not-no (eqb (n .number) (n .count)) a e h, not-yes (eqb (n .total) (n .sum)) b f g)
 
-  left-here : st .at + n < length m → refused 16 (st .at + n) ≡ finished m (moved st (st .at + n))
-  unfolding finished
-  left-here h = rw (lt-ltb (st .at + n) (length m) h)
+    pub all-right : b ≡ false → record { verdict = accepted (n .count) (n .sum); first = n .first } ≡ comparedIn n
+    unfolding comparedIn
+    all-right g = rw (not-no (eqb (n .number) (n .count)) a e h, not-no (eqb (n .total) (n .sum)) b f g)
 
-  pub bytes-left : st .at + n < length m → refused 16 (st .at + n) ≡ finished m (skipped m st)
-  bytes-left h = left-here h ∙ ap (finished m) (sym skips-to)
+module _ (m : List ℕ) (s : Ended Notes) (q : ℕ) (at : q ≡ skipped m (s .at)) where
+  pub bytes-left : q < length m → denied 16 q ≡ finishedIn m s
+  unfolding finishedIn
+  bytes-left h = rw (← at, lt-ltb q (length m) h)
 
-  none-here : length m ≤ st .at + n → compared st ≡ finished m (moved st (st .at + n))
-  unfolding finished compared
-  none-here h = rw (le-ltb (st .at + n) (length m) h)
+  pub none-left : length m ≤ q → comparedIn (s .notes) ≡ finishedIn m s
+  unfolding finishedIn
+  none-left h = rw (← at, le-ltb q (length m) h)
 
-  pub nothing-left : length m ≤ st .at + n → compared st ≡ finished m (skipped m st)
-  nothing-left h = none-here h ∙ ap (finished m) (sym skips-to)
-
-module _ (m : List ℕ) where
-  pub too-long : 16777216 < length m → refused 1 0 ≡ judged m
-  unfolding judged
-  too-long h = rw (lt-ltb 16777216 (length m) h)
-
-  module _ (small : length m ≤ 16777216) where
-    pub judged-on : (t : State) → on t ≡ readThrough m → finished m (skipped m t) ≡ judged m
-    unfolding judged
-    judged-on t e = rw (le-ltb 16777216 (length m) small, ← e)
-
-    pub judged-stop : (n p : ℕ) → stop n p ≡ readThrough m → refused n p ≡ judged m
-    unfolding judged
-    judged-stop n p e = rw (le-ltb 16777216 (length m) small, ← e)
+-- a reading that went through
+pub fine-at : (m : List ℕ) (s : Ended Notes) (x : Reading (Ended Notes)) → on s ≡ x → Fine m 0 x → s .at ≤ length m
+fine-at m s x e f = (rw (sym e) at f) .0 .within

@@ -1,4 +1,6 @@
+pub mod One
+pub mod Judges
 pub mod Begins
 pub mod Ends
+pub mod Alone
 pub mod Walks
-pub mod One

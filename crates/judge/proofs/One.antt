@@ -1,10 +1,14 @@
--- Two verdicts of one meaning are one, and so are two extents: so two answers that one contract allows are equal. Assumes nothing.
+-- Two verdicts of one meaning are one, and so are two extents and two findings: so two answers that one contract allows are equal.
 use mathlib.Core.Path.{_≡_, refl, ap, sym, _∙_}
 use Rattle.judge.specs.declared.Verdict.{Verdict}
 use Rattle.judge.specs.declared.Verdict.the-variants.{Accepted, Refused}
 use Rattle.judge.specs.declared.Extent.{Extent}
 use Rattle.judge.specs.declared.Extent.the-variants.{Lies, NotThere}
-use Rattle.judge.specs.Verdict.{Judged, accepted, refused, meant, Located, lies, fault, located}
+use Prim.Native.Nat.{ℕ}
+use Rattle.reading.specs.Verdict.{Judged, accepted, refused, Located, lies, notThere}
+use Rattle.judge.specs.declared.Finding.{Finding}
+use Rattle.judge.specs.Verdict.{meant, located}
+use Rattle.judge.specs.Found.{Found, foundAs}
 
 verdict-of : Judged → Verdict
 verdict-of (accepted count cents) = Accepted count cents
@@ -20,7 +24,7 @@ one-verdict v w j e f = sym (back v) ∙ ap verdict-of (e ∙ sym f) ∙ back w
 
 extent-of : Located → Extent
 extent-of (lies from to) = Lies from to
-extent-of (fault number place) = NotThere number place
+extent-of (notThere number place) = NotThere number place
 
 back′ : (x : Extent) → extent-of (located x) ≡ x
 unfolding extent-of
@@ -29,3 +33,10 @@ back′ (NotThere number place) = refl
 
 pub one-extent : (x y : Extent) (l : Located) → located x ≡ l → located y ≡ l → x ≡ y
 one-extent x y l e f = sym (back′ x) ∙ ap extent-of (e ∙ sym f) ∙ back′ y
+
+-- a finding
+pub one-finding : (a b : Finding) (f : Found) → foundAs a ≡ f → foundAs b ≡ f → a ≡ b
+one-finding a b f d e =
+    let v : a .verdict ≡ b .verdict = one-verdict (a .verdict) (b .verdict) (f .verdict) (ap (λ (x : Found). x .verdict) d) (ap (λ (x : Found). x .verdict) e) in
+    let p : a .first ≡ b .first = ap (λ (x : Found). x .first) (d ∙ sym e) in
+    ap (λ (w : Verdict). record { verdict = w; first = a .first }) v ∙ ap (λ (n : ℕ). record { verdict = b .verdict; first = n }) p

@@ -1,82 +1,98 @@
--- Where the first item begins, and the walk from one item to the next. Assumes nothing.
-use mathlib.Core.Path.{_≡_, refl, ap, _∙_}
-use mathlib.Core.List.{List}
-use Prim.Native.Nat.{ℕ, zero, suc, _+_, _-_, _≤_, _<_}
+-- From item to item: what the code asks for is what the list says.
+use mathlib.Core.Path.{_≡_, refl, sym, ap, _∙_}
+use mathlib.Core.Bool.{Bool, true, false}
+use mathlib.Core.List.{List, []}
+use Prim.Native.Nat.{ℕ, zero, suc, _-_, _≤_, _<_}
 use native.Mathlib.Omega.{arith}
-use borrow.Author.Tests.{lt-ltb, le-ltb}
-use lib.ListN.{length, take, drop, drop-of-length-le, length-drop}
-use Rattle.text.specs.Truth.{lead}
-use Rattle.text.proofs.Scan.{rest-of, lead-le}
-use Rattle.profile.specs.Tags.{white}
-use Rattle.notes.specs.declared.State.{State}
-use Rattle.notes.specs.Reading.{Reading, on, stop}
+use lib.ListN.{length}
+use Rattle.tags.specs.Tags.{skipped}
+use Rattle.profile.specs.Version.{Version, v02}
+use Rattle.profile.specs.Limits.{mostBytes}
+use Rattle.reading.specs.Trace.{Entry, message}
+use Rattle.reading.specs.Noted.{Reading, on, stop, Ended, noted}
+use Rattle.reading.specs.Verdict.{Judged, accepted, refused, Located, lies, notThere}
+use Rattle.reading.specs.Judged.{listed, verdict, judged}
+use Rattle.reading.specs.Items.{Item, notesOf, itemFrom, theItems, item}
+use Rattle.items.specs.Alone.{firstIn}
+use Rattle.items.specs.Chain.{Chained, none, next, Itemized}
+use Rattle.items.proofs.Accepted.{accepted-chained, item-asked, item-past}
+use Rattle.notes.specs.declared.Notes.{Notes}
 use Rattle.reader.specs.Reader.{itemAt}
-use Rattle.judge.specs.declared.Verdict.{Verdict}
-use Rattle.judge.specs.declared.Verdict.the-variants.{Accepted, Refused}
-use Rattle.judge.specs.Verdict.{meant, lies, fault}
-use Rattle.judge.specs.Message.{readThrough, judged}
-use Rattle.judge.specs.Items.{extent, behind, itemFrom, firstItem, item}
+use Rattle.judge.specs.Found.{Found, foundIn, foundBy, found}
+use Rattle.judge.specs.Engine.{behindIn, walkedIn}
+use Rattle.judge.proofs.Alone.{stands-again}
 
--- ---- the first item
-module _ (m : List ℕ) where
-  pub first-none : 16777216 < length m → 0 ≡ firstItem m
-  unfolding firstItem
-  first-none h = rw (lt-ltb 16777216 (length m) h)
+-- ---- the verdict in what is found
+pub found-verdict : (m : List ℕ) → found m .verdict ≡ judged m
+unfolding found judged
+found-verdict m = go (verdict (noted listed (message m) []))
+  where
+    go : (j : Judged) → foundIn j (notesOf (noted listed (message m) [])) .verdict ≡ j
+    go (accepted n c) = refl
+    go (refused n p) = refl
 
-  module _ (small : length m ≤ 16777216) where
-    pub first-on : (t : State) → on t ≡ readThrough m → t .notes .first ≡ firstItem m
-    unfolding firstItem
-    first-on t e = rw (le-ltb 16777216 (length m) small, ← e)
+pub found-first : (m : List ℕ) (n c : ℕ) → judged m ≡ accepted n c → found m .first ≡ firstIn (notesOf (noted listed (message m) []))
+unfolding found judged
+found-first m n c e = rw e
 
-    pub first-stop : (n p : ℕ) → stop n p ≡ readThrough m → 0 ≡ firstItem m
-    unfolding firstItem
-    first-stop n p e = rw (le-ltb 16777216 (length m) small, ← e)
+-- ---- from item to item, as the code goes: what is asked at the start is what is asked here
+module _ (v : Version) (m : List ℕ) (i first left at : ℕ) (same : walkedIn left v m at ≡ walkedIn i v m first) where
+  pub walk-stops : (n q : ℕ) → stop n q ≡ itemAt v m at → notThere n q ≡ walkedIn i v m first
+  walk-stops n q e = go left same
+    where
+      go : (k : ℕ) → walkedIn k v m at ≡ walkedIn i v m first → notThere n q ≡ walkedIn i v m first
+      go zero f = ap (λ (r : Reading (Ended Notes)). behindIn r (lies (skipped m at))) e ∙ f
+      go (suc k) f = ap (λ (r : Reading (Ended Notes)). behindIn r (walkedIn k v m)) e ∙ f
 
-  -- ---- after white space
-  pub past-end : (p : ℕ) → length m < p → p ≡ p + lead white (drop p m)
-  past-end p h =
-      let g : length m ≤ p = omega arith in
-      rw (drop-of-length-le m g) (omega arith)
+  module _ (s : Ended Notes) (e : on s ≡ itemAt v m at) where
+    pub walk-here : left ≡ 0 → (b : ℕ) → b ≡ skipped m at → lies b (s .at) ≡ walkedIn i v m first
+    walk-here z b w =
+        ap (λ (k : ℕ). lies k (s .at)) w ∙ ap (λ (r : Reading (Ended Notes)). behindIn r (lies (skipped m at))) e ∙ (rw z at same)
 
-  pub at-start : (p n : ℕ) → n ≡ lead white (take (length m - p) (drop p m)) → p + n ≡ p + lead white (drop p m)
-  at-start p n e = ap (λ (k : ℕ). p + k) (e ∙ ap (lead white) (rest-of p m))
-
-  pub start-fits : (p n : ℕ) → p ≤ length m → n ≡ lead white (take (length m - p) (drop p m)) → p + n ≤ length m
-  start-fits p n h e = omega (arith, e ∙ ap (lead white) (rest-of p m), lead-le white (drop p m), length-drop p m)
-
-  -- ---- from item to item: what is asked at the start is what is asked here
-  module _ (i first left at : ℕ) (same : itemFrom left m at ≡ itemFrom i m first) where
-    pub walk-stops : (n q : ℕ) → stop n q ≡ itemAt m at → fault n q ≡ itemFrom i m first
-    walk-stops n q e = go left same
+    pub walk-on : (left ≡ 0 → ⊥) → walkedIn (left - 1) v m (s .at) ≡ walkedIn i v m first
+    walk-on z = go left z same
       where
-        go : (k : ℕ) → itemFrom k m at ≡ itemFrom i m first → fault n q ≡ itemFrom i m first
-        go zero f = ap (extent m at) e ∙ f
-        go (suc k) f = ap (λ (r : Reading). behind r (itemFrom k m)) e ∙ f
+        go : (k : ℕ) → (k ≡ 0 → ⊥) → walkedIn k v m at ≡ walkedIn i v m first → walkedIn (k - 1) v m (s .at) ≡ walkedIn i v m first
+        go zero z f = absurd (z refl)
+        go (suc k) z f =
+            let y : suc k - 1 ≡ k = omega arith in
+            rw y (ap (λ (r : Reading (Ended Notes)). behindIn r (walkedIn k v m)) e ∙ f)
 
-    module _ (t : State) (e : on t ≡ itemAt m at) where
-      pub walk-here : left ≡ 0 → (b : ℕ) → b ≡ at + lead white (drop at m) → lies b (t .at) ≡ itemFrom i m first
-      walk-here z b w = ap (λ (k : ℕ). lies k (t .at)) w ∙ ap (extent m at) e ∙ (rw z at same)
+-- ---- the items of an accepted message, read again one behind the other
+module _ (v : Version) (m : List ℕ) (small : length m ≤ mostBytes) where
+  pub chain-walked-in : {p : ℕ} {l : List Item} → Chained v m p l → p ≤ length m → (i : ℕ) → i < length l → walkedIn i v m p ≡ itemFrom i l
+  chain-walked-in none h i g = absurd (let z : ⊥ = omega arith in z)
+  chain-walked-in {p = p} (next {x = x} s c) h zero g =
+      let a = stands-again v m p x small h s in
+      rw (a .is, s .from, a .to)
+  chain-walked-in {p = p} (next {x = x} s c) h (suc i) g =
+      let a = stands-again v m p x small h s in
+      rw (a .is, a .to) (chain-walked-in c (s .within) i (omega arith))
 
-      pub walk-on : (left ≡ 0 → ⊥) → itemFrom (left - 1) m (t .at) ≡ itemFrom i m first
-      walk-on z = go left z same
-        where
-          go : (k : ℕ) → (k ≡ 0 → ⊥) → itemFrom k m at ≡ itemFrom i m first → itemFrom (k - 1) m (t .at) ≡ itemFrom i m first
-          go zero h f = absurd (h refl)
-          go (suc k) h f =
-              let y : suc k - 1 ≡ k = omega arith in
-              ap (λ (j : ℕ). itemFrom j m (t .at)) y ∙ ap (λ (r : Reading). behind r (itemFrom k m)) e ∙ f
+one-version : (v : Version) → v ≡ v02
+one-version v02 = refl
 
-  -- ---- what is asked for
-  module _ (i : ℕ) (v : Verdict) (e : meant v ≡ judged m) where
-    pub not-judged : (n p : ℕ) → v ≡ Refused n p → fault n p ≡ item i m
-    unfolding item
-    not-judged n p f = rw (← e, f)
+module _ (m : List ℕ) (n c : ℕ) (e : judged m ≡ accepted n c) where
+  abbrev it : Itemized m n
+  it = accepted-chained m n c e
 
-    module _ (count cents : ℕ) (f : v ≡ Accepted count cents) where
-      pub not-there : count ≤ i → fault 18 0 ≡ item i m
-      unfolding item
-      not-there h = rw (← e, f, le-ltb i count h)
+  first-is : found m .first ≡ firstIn (it .ended .notes)
+  first-is = found-first m n c e ∙ ap (λ (x : Reading (Ended (List Entry))). firstIn (notesOf x)) (it .goes)
 
-      pub is-there : i < count → (p : ℕ) → p ≡ firstItem m → itemFrom i m p ≡ item i m
-      unfolding item
-      is-there h p w = rw (← e, f, lt-ltb i count h, w)
+  -- an accepted message's items, from the first one on, as found
+  pub found-chained : (found m .first ≤ length m) × Chained v02 m (found m .first) (theItems m)
+  found-chained = rw (first-is, ← one-version (it .version)) (it .within, it .chain)
+
+  pub short : length m ≤ mostBytes
+  short = it .short
+
+  pub item-there : (i : ℕ) → i < n → (f : ℕ) → f ≡ found m .first → walkedIn i v02 m f ≡ item i m
+  item-there i h f z =
+      rw z (chain-walked-in v02 m short (found-chained .1) (found-chained .0) i (omega (arith, it .many)) ∙ sym (item-asked m n c e i))
+
+  pub item-none : (i : ℕ) → n ≤ i → notThere 18 0 ≡ item i m
+  item-none i h = sym (item-past m n c e i h)
+
+pub item-refused : (m : List ℕ) (n p i : ℕ) → judged m ≡ refused n p → notThere n p ≡ item i m
+unfolding item
+item-refused m n p i e = rw e

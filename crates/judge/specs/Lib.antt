@@ -1,3 +1,3 @@
 pub mod Verdict
-pub mod Message
-pub mod Items
+pub mod Found
+pub mod Engine

@@ -2,19 +2,22 @@
 use notes::Met;
 use notes::State;
 use notes::Step;
-use profile::Look;
+use tags::Look;
 ghost use mathlib.Core.Path.{_≡_};
 ghost use mathlib.Core.Bool.{not};
 ghost use lib.Dec.{eqb};
-ghost use Prim.Native.Nat.{_+_, _≤_};
-ghost use lib.ListN.{length, drop};
-ghost use Rattle.text.specs.Truth.{lead};
-ghost use Rattle.profile.specs.Tags.{white};
-ghost use Rattle.notes.specs.Reading.{stepped, Fine};
-ghost use Rattle.reader.specs.Reader.{skipped};
-ghost use Rattle.judge.specs.Verdict.{meant, located};
-ghost use Rattle.judge.specs.Items.{firstItem, itemFrom, item as itemOf};
-ghost use Rattle.judge.specs.Message.{declared, rooted, opened, compared, finished, readThrough, judged, Within};
+ghost use Prim.Native.Nat.{_≤_};
+ghost use lib.ListN.{length};
+ghost use Rattle.tags.specs.Tags.{skipped};
+ghost use Rattle.profile.specs.Version.{v02, versions};
+ghost use Rattle.profile.specs.Limits.{mostBytes};
+ghost use Rattle.reading.specs.Trace.{rooted, opened};
+ghost use Rattle.reading.specs.Judged.{judged};
+ghost use Rattle.reading.specs.Items.{item as itemOf};
+ghost use Rattle.notes.specs.Steps.{stated, stepped, Fine};
+ghost use Rattle.judge.specs.Verdict.{meant, located, openedAs};
+ghost use Rattle.judge.specs.Found.{foundAs, denied, found};
+ghost use Rattle.judge.specs.Engine.{Within, throughIn, comparedIn, finishedIn, walkedIn};
 
 pub enum Verdict {
     // The count, and the total in cents.
@@ -35,42 +38,57 @@ pub enum Opened {
     Faulty(u8, usize),
 }
 
-// Past the declaration, where there is one.
-fn declare(m: &[u8]) -> Opened
-    ensures { λ r. ⌜ (r ≡ declared (now (m .entry))) × Within (now (m .entry)) r ⌝ }
-{
-    if !profile::has_question(m) {
-        return Opened::From(0);
-    }
-    match profile::declaration_at(m) {
-        Look::Whole => Opened::From(38),
-        Look::Cut => Opened::Faulty(3, m.len()),
-        Look::Other => Opened::Faulty(2, 0),
-    }
+// A verdict, and where the first item of an accepted message begins (0 of any other).
+pub struct Finding {
+    pub verdict: Verdict,
+    pub first: usize,
 }
 
-// Past the root tag, which is due at a place.
-fn enter_root(m: &[u8], at: usize) -> Opened
-    requires { ⌜ at ≤ length (now m) ⌝ }
-    ensures { λ r. ⌜ (r ≡ rooted (now (m .entry)) at) × Within (now (m .entry)) r ⌝ }
+// Past white space and the root tag, which is due there.
+fn enter_root(m: &[u8], from: usize) -> Opened
+    requires { ⌜ from ≤ length (now m) ⌝ }
+    ensures { λ r. ⌜ (openedAs r ≡ rooted versions (now (m .entry)) (skipped (now (m .entry)) from)) × Within (now (m .entry)) (openedAs r) ⌝ }
 {
+    let at = from + tags::spaces(&m[from..]);
     match profile::root_at(&m[at..]) {
-        Look::Whole => Opened::From(at + 65),
+        Look::Whole => Opened::From(at + profile::ROOT),
         Look::Cut => Opened::Faulty(3, m.len()),
         Look::Other => Opened::Faulty(2, at),
     }
 }
 
-// Past the declaration and the root tag.
+// Past the declaration, where there is one, and the root tag.
 fn open_message(m: &[u8]) -> Opened
-    ensures { λ r. ⌜ (r ≡ opened (now (m .entry))) × Within (now (m .entry)) r ⌝ }
+    ensures { λ r. ⌜ (openedAs r ≡ opened (now (m .entry))) × Within (now (m .entry)) (openedAs r) ⌝ }
 {
-    match declare(m) {
-        Opened::From(p) => {
-            let n = profile::spaces(&m[p..]);
-            enter_root(m, p + n)
-        }
-        Opened::Faulty(number, place) => Opened::Faulty(number, place),
+    if !tags::has_question(m) {
+        return enter_root(m, 0);
+    }
+    match tags::declaration_at(m) {
+        Look::Whole => enter_root(m, tags::DECLARATION),
+        Look::Cut => Opened::Faulty(3, m.len()),
+        Look::Other => Opened::Faulty(2, 0),
+    }
+}
+
+// A whole message, read up to the end of its root.
+fn read_through(m: &[u8]) -> Step
+    requires { ⌜ length (now m) ≤ mostBytes ⌝ }
+    ensures { λ s. ⌜ (stepped s ≡ throughIn (now (m .entry)) (opened (now (m .entry)))) × Fine (now (m .entry)) 0 (stepped s) ⌝ }
+{
+    match open_message(m) {
+        Opened::From(p) => reader::message(m, p),
+        Opened::Faulty(number, place) => State::new(0).refuse(number, place),
+    }
+}
+
+// What is found of a message that is refused.
+fn deny(number: u8, place: usize) -> Finding
+    ensures { λ r. ⌜ foundAs r ≡ denied number place ⌝ }
+{
+    Finding {
+        verdict: Verdict::Refused(number, place),
+        first: 0,
     }
 }
 
@@ -82,71 +100,48 @@ fn is_other(said: u64, found: u64) -> bool
 }
 
 // What the header says, against what was read.
-fn compare(st: State) -> Verdict
-    ensures { λ r. ⌜ meant r ≡ compared st ⌝ }
+fn compare(st: State) -> Finding
+    ensures { λ r. ⌜ foundAs r ≡ comparedIn (st .notes) ⌝ }
 {
     let n = st.notes;
-    if is_other(n.nb, n.count) {
-        return Verdict::Refused(14, n.nbat);
+    if is_other(n.number, n.count) {
+        return deny(14, n.numberat as usize);
     }
     if is_other(n.total, n.sum) {
-        return Verdict::Refused(15, n.totalat);
+        return deny(15, n.totalat as usize);
     }
-    Verdict::Accepted(n.count, n.sum)
+    Finding {
+        verdict: Verdict::Accepted(n.count, n.sum),
+        first: n.first as usize,
+    }
 }
 
 // Behind the end of the root.
-fn finish(m: &[u8], st: State) -> Verdict
+fn finish(m: &[u8], st: State) -> Finding
     requires { ⌜ st .at ≤ length (now m) ⌝ }
-    ensures { λ r. ⌜ meant r ≡ finished (now (m .entry)) (skipped (now (m .entry)) st) ⌝ }
+    ensures { λ r. ⌜ foundAs r ≡ finishedIn (now (m .entry)) (stated st) ⌝ }
 {
-    let at = st.at;
-    let e = at + profile::spaces(&m[at..]);
+    let at = st.at as usize;
+    let e = at + tags::spaces(&m[at..]);
     if e < m.len() {
-        return Verdict::Refused(16, e);
+        return deny(16, e);
     }
     compare(st)
 }
 
-// A whole message, read up to the end of its root.
-fn read_through(m: &[u8]) -> Step
-    requires { ⌜ length (now m) ≤ 16777216 ⌝ }
-    ensures { λ s. ⌜ (stepped s ≡ readThrough (now (m .entry))) × Fine (now (m .entry)) 0 (stepped s) ⌝ }
-{
-    match open_message(m) {
-        Opened::From(p) => reader::message(m, p),
-        Opened::Faulty(number, place) => State::new().refuse(number, place),
-    }
-}
-
-// A verdict, and where the first item begins, as it was read.
-pub struct Finding {
-    pub verdict: Verdict,
-    pub first: usize,
-}
-
 // What a message of any bytes is found to be.
 pub fn find(m: &[u8]) -> Finding
-    ensures { λ r. ⌜ (meant (r .verdict) ≡ judged (now (m .entry))) × (r .first ≡ firstItem (now (m .entry))) ⌝ }
+    ensures { λ r. ⌜ foundAs r ≡ found (now (m .entry)) ⌝ }
 {
-    if 16_777_216 < m.len() {
-        return Finding {
-            verdict: Verdict::Refused(1, 0),
-            first: 0,
-        };
+    if profile::MOST_BYTES < m.len() {
+        return deny(1, 0);
     }
     let r = read_through(m);
     let met = r.met;
     let st = r.state;
     match met {
-        Met::On => Finding {
-            verdict: finish(m, st),
-            first: st.notes.first,
-        },
-        Met::Stopped(number, place) => Finding {
-            verdict: Verdict::Refused(number, place),
-            first: 0,
-        },
+        Met::On => finish(m, st),
+        Met::Stopped(number, place) => deny(number, place),
     }
 }
 
@@ -161,17 +156,17 @@ pub fn judge(m: &[u8]) -> Verdict
 
 // Where what stands at a place begins, after white space.
 fn begin_at(m: &[u8], at: usize) -> usize
-    ensures { λ r. ⌜ r ≡ at + lead white (drop at (now (m .entry))) ⌝ }
+    ensures { λ r. ⌜ r ≡ skipped (now (m .entry)) at ⌝ }
 {
     if m.len() < at {
         return at;
     }
-    at + profile::spaces(&m[at..])
+    at + tags::spaces(&m[at..])
 }
 
 // Item i of those that stand from a place on.
 fn walk(m: &[u8], i: u64, first: usize) -> Extent
-    ensures { λ r. ⌜ located r ≡ itemFrom i (now (m .entry)) first ⌝ }
+    ensures { λ r. ⌜ located r ≡ walkedIn i v02 (now (m .entry)) first ⌝ }
 {
     let mut left = i;
     let mut at = first;
@@ -182,11 +177,12 @@ fn walk(m: &[u8], i: u64, first: usize) -> Extent
         match met {
             Met::Stopped(number, place) => return Extent::NotThere(number, place),
             Met::On => {
+                let to = st.at as usize;
                 if left == 0 {
-                    return Extent::Lies(begin_at(m, at), st.at);
+                    return Extent::Lies(begin_at(m, at), to);
                 }
                 left -= 1;
-                at = st.at;
+                at = to;
             }
         }
     }

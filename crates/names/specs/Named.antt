@@ -4,7 +4,7 @@ use Prim.Native.String.{String}
 use mathlib.Core.List.{List, _++_}
 use Rattle.words.specs.declared.Field.{Field}
 use Rattle.words.specs.declared.Field.the-variants.{Nm, Ustrd}
-use Rattle.profile.specs.Tags.{plainTag, endTag}
+use Rattle.tags.specs.Tags.{plainTag, endTag}
 
 abbrev pub nameOf : Field → String
 nameOf Nm = "Nm"

@@ -1,1 +1,1 @@
-// A name or a remittance text replaced by another legal one of equal length: laws only.
+// No code: a name or a remittance text replaced by another legal one of equal length.

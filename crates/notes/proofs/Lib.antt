@@ -1,2 +1,3 @@
 pub mod Notings
 pub mod Stays
+pub mod Sums

@@ -1,93 +1,137 @@
--- What an answer, a code and a value say, as the code finds it. Assumes nothing.
+-- What each step of noting says, as the code finds it.
 use mathlib.Core.Path.{_≡_, refl, ap, sym, _∙_}
-use mathlib.Core.List.{List}
-use Prim.Native.Nat.{ℕ, suc, _+_, _-_, _<_, _≤_}
+use mathlib.Core.Bool.{Bool, true, false}
+use mathlib.Core.List.{List, [], _∷_}
+use Prim.Native.Nat.{ℕ, zero, suc, _+_, _-_, _<_, _≤_}
+use Prim.Native.String.{String}
 use native.Mathlib.Omega.{arith}
 use native.Mathlib.Numerals.{add-one}
 use borrow.Author.Tests.{le-leb, lt-leb, eq-eqb, ne-eqb, lt-ltb, le-ltb}
 use lib.Dec.{eqb}
+use lib.ListN.{length}
+use Rattle.text.specs.Quoted.{is}
 use Rattle.text.proofs.Truths.{either-same}
 use Rattle.answers.specs.declared.Answer.{Answer}
-use Rattle.answers.specs.declared.Answer.the-variants.{Yes, Worth, Form, CheckDigits, Range}
-use Rattle.answers.specs.Given.{Given, given, numberOf, valueOf}
-use Rattle.codes.specs.declared.Found.{Found}
-use Rattle.codes.specs.declared.Found.the-variants.{Listed, Unlisted}
-use Rattle.codes.specs.Listed.{Given as CodeGiven, given as codeFound}
+use Rattle.answers.specs.declared.Answer.the-variants.{Yes, Worth, Form, CheckDigits, Range, Unlisted}
+use Rattle.answers.specs.Given.{Given, worth, refused, given, numberOf, valueOf}
+use Rattle.codes.specs.declared.Element.{Element}
+use Rattle.codes.specs.declared.Element.the-variants.{SttlmMtd, SvcLvl, LclInstrm, SeqTp, ChrgBr, Prtry}
+use Rattle.codes.specs.Listed.{codesOf, orElse, place, codeGiven}
 use Rattle.profile.specs.declared.Kind.{Kind}
+use Rattle.profile.specs.declared.Kind.the-variants.{Plain, Count, Total, Amount, Code}
+use Rattle.profile.specs.declared.Field.{Field}
+use Rattle.profile.specs.Limits.{mostItems}
+use Rattle.kinds.specs.Given.{kindGiven}
+use Rattle.reading.specs.Noted.{Reading, on, stop, onward, Ended}
+use Rattle.reading.proofs.Flat.{never}
+use Rattle.notes.specs.declared.Notes.{Notes}
 use Rattle.notes.specs.declared.State.{State}
-use Rattle.notes.specs.Reading.{Reading, on, stop}
-use Rattle.notes.specs.Noting.{onGiven, onCode, withItem, withCents, withService, withStart, begun, summedUp, served, judgedBy, noted}
+use Rattle.notes.specs.Notes.{onGiven, withItem, withCents, withService, withStart, addedUp, served, kept, Listed, valueNoted, begun}
+use Rattle.notes.specs.Steps.{staying}
 
--- ---- a checker's answer, by its number and its value
-on-given : (a : Answer) (p : ℕ) (f : ℕ → Reading) → numberOf (given a) ≡ 0 → f (valueOf (given a)) ≡ onGiven (given a) p f
-on-given Yes p f e = refl
-on-given (Worth n) p f e = refl
-on-given Form p f e = absurd (omega arith)
-on-given CheckDigits p f e = absurd (omega arith)
-on-given Range p f e = absurd (omega arith)
-
-stop-given : (a : Answer) (p : ℕ) (f : ℕ → Reading) → (numberOf (given a) ≡ 0 → ⊥) → stop (numberOf (given a)) p ≡ onGiven (given a) p f
-stop-given Yes p f e = absurd (e refl)
-stop-given (Worth n) p f e = absurd (e refl)
-stop-given Form p f e = refl
-stop-given CheckDigits p f e = refl
-stop-given Range p f e = refl
-
-module _ (a : Answer) (g : Given) (e : given a ≡ g) (no : ℕ) (h : no ≡ numberOf (given a)) (p : ℕ) (f : ℕ → Reading) where
-  pub stops : (no ≡ 0 → ⊥) → stop no p ≡ onGiven g p f
-  stops k = rw (h, ← e) (stop-given a p f (λ z. k (h ∙ z)))
-
-  pub goes : no ≡ 0 → (v : ℕ) → v ≡ valueOf (given a) → f v ≡ onGiven g p f
-  goes k v w = rw (w, ← e) (on-given a p f (sym h ∙ k))
-
--- ---- a code
-pub code-listed : (r : Found) (g : CodeGiven) (i p : ℕ) (f : ℕ → Reading) → codeFound r ≡ g → r ≡ Listed i → f i ≡ onCode g p f
-code-listed r g i p f e t = rw (← e, t)
-
-pub code-unlisted : (r : Found) (g : CodeGiven) (p : ℕ) (f : ℕ → Reading) → codeFound r ≡ g → r ≡ Unlisted → stop 10 p ≡ onCode g p f
-code-unlisted r g p f e t = rw (← e, t)
+abbrev pub here : ℕ → Notes → Ended Notes
+here p n = record { at = p; notes = n }
 
 -- ---- an item begins
-pub begins : (st : State) → st .notes .count < 10000 → on (withItem st) ≡ begun st
-unfolding begun
-begins st h = rw (lt-ltb (st .notes .count) 10000 h)
+module _ (p : ℕ) (n : Notes) where
+  pub begins : n .count < mostItems → on (here p (withItem p n)) ≡ staying p (begun p n)
+  unfolding begun
+  begins h = rw (lt-ltb (n .count) mostItems h)
 
-pub too-many : (st : State) → 10000 ≤ st .notes .count → stop 12 (st .at) ≡ begun st
-unfolding begun
-too-many st h = rw (le-ltb (st .notes .count) 10000 h)
+  pub too-many : mostItems ≤ n .count → stop 12 p ≡ staying p (begun p n)
+  unfolding begun
+  too-many h = rw (le-ltb (n .count) mostItems h)
 
 -- ---- the running sum, as the code asks for it
-module _ (c : ℕ) (st : State) (fits : c ≤ 99999999999999999) where
-  pub sum-over : 99999999999999999 - c < st .notes .sum → stop 13 (st .at) ≡ summedUp c st
-  unfolding summedUp
-  sum-over h = rw (lt-leb (st .notes .sum + c) 99999999999999999 (omega arith))
+module _ (c p : ℕ) (n : Notes) where
+  pub sum-over : 99999999999999999 < n .sum + c → stop 13 p ≡ staying p (addedUp c p n)
+  unfolding addedUp
+  sum-over h = rw (lt-leb (n .sum + c) 99999999999999999 h)
 
-  pub sum-within : st .notes .sum ≤ 99999999999999999 - c → on (withCents c st) ≡ summedUp c st
-  unfolding summedUp
-  sum-within h = rw (le-leb (st .notes .sum + c) 99999999999999999 (omega arith))
+  pub sum-within : n .sum + c ≤ 99999999999999999 → on (here p (withCents c n)) ≡ staying p (addedUp c p n)
+  unfolding addedUp
+  sum-within h = rw (le-leb (n .sum + c) 99999999999999999 h)
 
 -- ---- the service
-module _ (i : ℕ) (st : State) where
-  pub first-service : st .notes .service ≡ 0 → on (withService (i + 1) st) ≡ served i st
+module _ (i p : ℕ) (n : Notes) where
+  pub first-service : n .service ≡ 0 → on (here p (withService (i + 1) n)) ≡ staying p (served i p n)
   unfolding served
-  first-service h = rw (add-one i, eq-eqb (st .notes .service) 0 h)
+  first-service h = rw (add-one i, eq-eqb (n .service) 0 h)
 
-  pub same-service : st .notes .service ≡ i + 1 → on (withService (i + 1) st) ≡ served i st
+  pub same-service : n .service ≡ i + 1 → on (here p (withService (i + 1) n)) ≡ staying p (served i p n)
   unfolding served
-  same-service h =
-      rw (eq-eqb (st .notes .service) (suc i) (omega arith), either-same (eqb (st .notes .service) 0))
-      (ap (λ (k : ℕ). on (withService k st)) (add-one i))
+  same-service h = rw (add-one i, eq-eqb (n .service) (suc i) (omega arith), either-same (eqb (n .service) 0))
 
-  pub other-service : (st .notes .service ≡ 0 → ⊥) → (st .notes .service ≡ i + 1 → ⊥) → stop 11 (st .at) ≡ served i st
+  pub other-service : (n .service ≡ 0 → ⊥) → (n .service ≡ i + 1 → ⊥) → stop 11 p ≡ staying p (served i p n)
   unfolding served
-  other-service h g = rw (ne-eqb (st .notes .service) 0 h, ne-eqb (st .notes .service) (suc i) (λ e. g (omega arith)))
+  other-service h g = rw (ne-eqb (n .service) 0 h, ne-eqb (n .service) (suc i) (λ e. g (omega arith)))
 
--- ---- a value judged, and its start noted
-module _ (k : Kind) (slot : ℕ) (v : List ℕ) (st : State) where
-  pub noted-on : (s : State) → on s ≡ judgedBy k v st → on (withStart slot (st .at) s) ≡ noted k slot v st
-  unfolding noted
-  noted-on s e = rw (← e)
+-- ---- a code's worth is its place in its list
+placed : (l : List String) (s : List ℕ) (i c : ℕ) → valueOf (place i l s) ≡ c → c ≤ i + length l
+placed [] s i c e = omega arith
+placed (t ∷ l) s i c e = go (is t s) e (placed l s (suc i))
+  where
+    go : (b : Bool) → valueOf (orElse b i (place (suc i) l s)) ≡ c → ((c : ℕ) → valueOf (place (suc i) l s) ≡ c → c ≤ suc i + length l) → c ≤ i + suc (length l)
+    go true h k = omega arith
+    go false h k = omega (arith, k c h)
 
-  pub noted-stop : (n p : ℕ) → stop n p ≡ judgedBy k v st → stop n p ≡ noted k slot v st
-  unfolding noted
-  noted-stop n p e = rw (← e)
+few : (e : Element) → length (codesOf e) ≤ 4
+few SttlmMtd = omega arith
+few SvcLvl = omega arith
+few LclInstrm = omega arith
+few SeqTp = omega arith
+few ChrgBr = omega arith
+few Prtry = omega arith
+
+pub listed : (k : Kind) (v : List ℕ) (c : ℕ) → c ≡ valueOf (kindGiven k v) → Listed k c
+unfolding codeGiven
+listed (Plain s) v c e = tt
+listed Count v c e = tt
+listed Total v c e = tt
+listed Amount v c e = tt
+listed (Code e) v c h = omega (arith, placed (codesOf e) v 0 c (sym h), few e)
+
+-- ---- a value judged, and then noted
+module _ (k : Kind) (f : Field) (v : List ℕ) (p : ℕ) (n : Notes) (a : Answer) (e : given a ≡ kindGiven k v) where
+  abbrev noting : ℕ → Reading Notes
+  noting c = onward (kept k c p n) (λ u. on (withStart f p u))
+
+  stop-given : (a : Answer) → (numberOf (given a) ≡ 0 → ⊥) → stop (numberOf (given a)) p ≡ onGiven (given a) p noting
+  stop-given Yes h = absurd (h refl)
+  stop-given (Worth c) h = absurd (h refl)
+  stop-given Form h = refl
+  stop-given CheckDigits h = refl
+  stop-given Range h = refl
+  stop-given Unlisted h = refl
+
+  on-given : (a : Answer) → numberOf (given a) ≡ 0 → noting (valueOf (given a)) ≡ onGiven (given a) p noting
+  on-given Yes h = refl
+  on-given (Worth c) h = refl
+  on-given Form h = absurd (omega arith)
+  on-given CheckDigits h = absurd (omega arith)
+  on-given Range h = absurd (omega arith)
+  on-given Unlisted h = absurd (omega arith)
+
+  module _ (i : ℕ) (h : i ≡ numberOf (given a)) where
+    pub refused-kind : (i ≡ 0 → ⊥) → stop i p ≡ staying p (valueNoted k f v p n)
+    unfolding valueNoted
+    refused-kind z = rw (h, ← e) (ap (staying p) (stop-given a (λ y. z (h ∙ y))))
+
+    module _ (z : i ≡ 0) (c : ℕ) (w : c ≡ valueOf (given a)) where
+      goes : onward (kept k c p n) (λ u. on (withStart f p u)) ≡ valueNoted k f v p n
+      unfolding valueNoted
+      goes = rw (w, ← e) (on-given a (sym h ∙ z))
+
+      pub kept-on : (s : State) → on (here (s .at) (s .notes)) ≡ staying p (kept k c p n) → on (here (s .at) (withStart f p (s .notes))) ≡ staying p (valueNoted k f v p n)
+      kept-on s y = rw (← goes) (go (kept k c p n) y)
+        where
+          go : (x : Reading Notes) → on (here (s .at) (s .notes)) ≡ staying p x → on (here (s .at) (withStart f p (s .notes))) ≡ staying p (onward x (λ u. on (withStart f p u)))
+          go (on u) q = let d : here (s .at) (s .notes) ≡ here p u = cc in ap (λ (t : Ended Notes). on (here (t .at) (withStart f p (t .notes)))) d
+          go (stop j r) q = never (cc)
+
+      pub kept-stop : (j r : ℕ) → stop j r ≡ staying p (kept k c p n) → stop j r ≡ staying p (valueNoted k f v p n)
+      kept-stop j r y = rw (← goes) (go (kept k c p n) y)
+        where
+          go : (x : Reading Notes) → stop j r ≡ staying p x → stop j r ≡ staying p (onward x (λ u. on (withStart f p u)))
+          go (on u) q = never (cc)
+          go (stop i q) d = d

@@ -1,4 +1,4 @@
--- What is noted keeps the state good, and a refusal within the message. Assumes nothing.
+-- What is noted keeps the state good, and a refusal within the message.
 use mathlib.Core.Path.{_≡_, refl}
 use mathlib.Core.Bool.{Bool, true, false}
 use mathlib.Core.List.{List}
@@ -6,84 +6,88 @@ use Prim.Native.Nat.{ℕ, suc, _+_, _≤_}
 use native.Mathlib.Omega.{arith}
 use borrow.Author.Tests.{leb-true, ltb-true}
 use lib.Dec.{leb, ltb, eqb}
+use lib.ListN.{length}
 use Rattle.text.specs.Truth.{either, pick}
 use Rattle.answers.specs.Given.{Given, yes, worth, refused}
 use Rattle.codes.specs.declared.Element.{Element}
 use Rattle.codes.specs.declared.Element.the-variants.{SttlmMtd, SvcLvl, LclInstrm, SeqTp, ChrgBr, Prtry}
-use Rattle.codes.specs.Listed.{Given as CodeGiven, which, refused as unlisted, codeGiven}
-use Rattle.money.specs.declared.Range.the-variants.{Item as anItem, Total as theTotal}
-use Rattle.money.specs.Count.{countGiven}
-use Rattle.money.specs.Amount.{amountGiven}
+use Rattle.money.specs.declared.Range.the-variants.{Total as theTotal}
+use Rattle.money.specs.Amount.{most}
 use Rattle.profile.specs.declared.Kind.{Kind}
 use Rattle.profile.specs.declared.Kind.the-variants.{Plain, Count, Total, Amount, Code}
-use Rattle.notes.specs.declared.State.{State}
-use Rattle.notes.specs.Reading.{Reading, on, stop, andThen, Good, Fine}
-use Rattle.notes.specs.Noting.{plainGiven, onGiven, onCode, withCount, withTotal, withCents, withService, withItem, withStart, begun, summedUp, served, coded, judgedBy, noted}
+use Rattle.profile.specs.declared.Field.{Field}
+use Rattle.profile.specs.Limits.{mostItems}
+use Rattle.kinds.specs.Given.{kindGiven}
+use Rattle.reading.specs.Noted.{Reading, on, stop, onward, Ended}
+use Rattle.notes.specs.declared.Notes.{Notes}
+use Rattle.notes.specs.Notes.{onGiven, withItem, withCents, withService, withStart, addedUp, served, coded, kept, valueNoted, begun}
+use Rattle.notes.specs.Steps.{staying, Good, Fine}
+use Rattle.notes.proofs.Notings.{here}
 
 -- a later place is later than an earlier one
-pub later : (m : List ℕ) (p q : ℕ) → p ≤ q → (r : Reading) → Fine m q r → Fine m p r
+pub later : (m : List ℕ) (p q : ℕ) → p ≤ q → (r : Reading (Ended Notes)) → Fine m q r → Fine m p r
 later m p q h (on t) f = (f .0, omega arith)
 later m p q h (stop n k) f = f
 
-pub then-fine : (m : List ℕ) (p : ℕ) (r : Reading) (f : State → Reading) → Fine m p r → ((t : State) → Good m t → p ≤ t .at → Fine m p (f t)) → Fine m p (andThen r f)
-then-fine m p (on t) f h k = k t (h .0) (h .1)
-then-fine m p (stop n q) f h k = h
+-- the same notes at another place within the message
+pub good-at : (m : List ℕ) (s : Ended Notes) (p : ℕ) → Good m s → p ≤ length m → Good m (here p (s .notes))
+good-at m s p g h = record { small = g .small; within = h; counted = g .counted; summed = g .summed }
 
-module _ (m : List ℕ) (st : State) (g : Good m st) where
-  on-given-fine : (x : Given) (f : ℕ → Reading) → ((n : ℕ) → Fine m (st .at) (f n)) → Fine m (st .at) (onGiven x (st .at) f)
-  on-given-fine yes f k = k 0
-  on-given-fine (worth v) f k = k v
-  on-given-fine (refused n) f k = g .within
+module _ (m : List ℕ) (p : ℕ) (n : Notes) (g : Good m (here p n)) where
+  abbrev Stays : Reading Notes → Type 0
+  Stays x = Fine m p (staying p x)
 
-  on-code-fine : (x : CodeGiven) (f : ℕ → Reading) → ((n : ℕ) → Fine m (st .at) (f n)) → Fine m (st .at) (onCode x (st .at) f)
-  on-code-fine (which i) f k = k i
-  on-code-fine (unlisted n) f k = g .within
+  stays : (u : Notes) → u .count ≡ n .count → u .sum ≡ n .sum → Stays (on u)
+  stays u c s = (record { small = g .small; within = g .within; counted = omega (arith, g .counted); summed = omega (arith, g .summed) }, omega arith)
 
-  sum-fine : (c : ℕ) → Fine m (st .at) (summedUp c st)
-  unfolding summedUp
-  sum-fine c = go (leb (st .notes .sum + c) 99999999999999999) refl
+  sum-stays : (c : ℕ) → Stays (addedUp c p n)
+  unfolding addedUp
+  sum-stays c = go (leb (n .sum + c) (most theTotal)) refl
     where
-      go : (b : Bool) → leb (st .notes .sum + c) 99999999999999999 ≡ b → Fine m (st .at) (pick b (on (withCents c st)) (stop 13 (st .at)))
-      go true e = (record { small = g .small; within = g .within; counted = g .counted; summed = leb-true (st .notes .sum + c) 99999999999999999 e }, omega arith)
+      go : (b : Bool) → leb (n .sum + c) (most theTotal) ≡ b → Stays (pick b (on (withCents c n)) (stop 13 p))
+      go true e = (record { small = g .small; within = g .within; counted = g .counted; summed = leb-true (n .sum + c) (most theTotal) e }, omega arith)
       go false e = g .within
 
-  stays : (t : State) → t .at ≡ st .at → t .notes .count ≡ st .notes .count → t .notes .sum ≡ st .notes .sum → Fine m (st .at) (on t)
-  stays t a c s = (record { small = g .small; within = omega (arith, g .within); counted = omega (arith, g .counted); summed = omega (arith, g .summed) }, omega arith)
-
-  served-fine : (i : ℕ) → Fine m (st .at) (served i st)
+  served-stays : (i : ℕ) → Stays (served i p n)
   unfolding served
-  served-fine i = go (either (eqb (st .notes .service) 0) (eqb (st .notes .service) (suc i)))
+  served-stays i = go (either (eqb (n .service) 0) (eqb (n .service) (suc i)))
     where
-      go : (b : Bool) → Fine m (st .at) (pick b (on (withService (suc i) st)) (stop 11 (st .at)))
-      go true = stays (withService (suc i) st) refl refl refl
+      go : (b : Bool) → Stays (pick b (on (withService (suc i) n)) (stop 11 p))
+      go true = stays (withService (suc i) n) refl refl
       go false = g .within
 
-  coded-fine : (e : Element) (i : ℕ) → Fine m (st .at) (coded e i st)
-  coded-fine LclInstrm i = served-fine i
-  coded-fine SttlmMtd i = stays st refl refl refl
-  coded-fine SvcLvl i = stays st refl refl refl
-  coded-fine SeqTp i = stays st refl refl refl
-  coded-fine ChrgBr i = stays st refl refl refl
-  coded-fine Prtry i = stays st refl refl refl
+  coded-stays : (e : Element) (i : ℕ) → Stays (coded e i p n)
+  coded-stays LclInstrm i = served-stays i
+  coded-stays SttlmMtd i = stays n refl refl
+  coded-stays SvcLvl i = stays n refl refl
+  coded-stays SeqTp i = stays n refl refl
+  coded-stays ChrgBr i = stays n refl refl
+  coded-stays Prtry i = stays n refl refl
 
-  judged-fine : (k : Kind) (v : List ℕ) → Fine m (st .at) (judgedBy k v st)
-  unfolding judgedBy
-  judged-fine (Plain j) v = on-given-fine (plainGiven j v) (λ n. on st) (λ n. stays st refl refl refl)
-  judged-fine Count v = on-given-fine (countGiven v) (λ n. on (withCount n st)) (λ n. stays (withCount n st) refl refl refl)
-  judged-fine Total v = on-given-fine (amountGiven theTotal v) (λ c. on (withTotal c st)) (λ c. stays (withTotal c st) refl refl refl)
-  judged-fine Amount v = on-given-fine (amountGiven anItem v) (λ c. summedUp c st) sum-fine
-  judged-fine (Code e) v = on-code-fine (codeGiven e v) (λ i. coded e i st) (coded-fine e)
+  kept-stays : (k : Kind) (c : ℕ) → Stays (kept k c p n)
+  kept-stays (Plain s) c = stays n refl refl
+  kept-stays Count c = stays _ refl refl
+  kept-stays Total c = stays _ refl refl
+  kept-stays Amount c = sum-stays c
+  kept-stays (Code e) c = coded-stays e c
 
-  pub noted-fine : (k : Kind) (slot : ℕ) (v : List ℕ) → Fine m (st .at) (noted k slot v st)
-  unfolding noted
-  noted-fine k slot v =
-      then-fine m (st .at) (judgedBy k v st) (λ t. on (withStart slot (st .at) t)) (judged-fine k v)
-      (λ t h w. (record { small = h .small; within = h .within; counted = h .counted; summed = h .summed }, w))
-
-  pub begun-fine : Fine m (st .at) (begun st)
-  unfolding begun
-  begun-fine = go (ltb (st .notes .count) 10000) refl
+  pub value-fine : (k : Kind) (f : Field) (v : List ℕ) → Stays (valueNoted k f v p n)
+  unfolding valueNoted
+  value-fine k f v = go (kindGiven k v)
     where
-      go : (b : Bool) → ltb (st .notes .count) 10000 ≡ b → Fine m (st .at) (pick b (on (withItem st)) (stop 12 (st .at)))
-      go true e = (record { small = g .small; within = g .within; counted = omega (arith, ltb-true (st .notes .count) 10000 e); summed = g .summed }, omega arith)
+      then : (x : Reading Notes) → Stays x → Stays (onward x (λ u. on (withStart f p u)))
+      then (on u) h = (record { small = g .small; within = g .within; counted = h .0 .counted; summed = h .0 .summed }, omega arith)
+      then (stop i q) h = h
+
+      go : (x : Given) → Stays (onGiven x p (λ c. onward (kept k c p n) (λ u. on (withStart f p u))))
+      go yes = then (kept k 0 p n) (kept-stays k 0)
+      go (worth c) = then (kept k c p n) (kept-stays k c)
+      go (refused i) = g .within
+
+  pub begun-fine : Stays (begun p n)
+  unfolding begun
+  begun-fine = go (ltb (n .count) mostItems) refl
+    where
+      go : (b : Bool) → ltb (n .count) mostItems ≡ b → Stays (pick b (on (withItem p n)) (stop 12 p))
+      go true e = (record { small = g .small; within = g .within; counted = omega (arith, ltb-true (n .count) mostItems e); summed = g .summed }, omega arith)
       go false e = g .within

@@ -1,2 +1,2 @@
-pub mod Reading
-pub mod Noting
+pub mod Notes
+pub mod Steps

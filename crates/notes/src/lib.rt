@@ -1,38 +1,35 @@
-// What is noted while a message is read: the state, and what a value of each kind says.
-use answers::Answer;
+// What the code notes while a message is read: the state, and what a value of each kind adds to it.
 use codes::Element;
-use codes::Found;
-use money::Range;
-use profile::Judged;
+use profile::Field;
 use profile::Kind;
-use words::Field;
 ghost use mathlib.Core.Path.{_≡_};
 ghost use Prim.Native.Nat.{_+_, _≤_, _<_};
-ghost use Rattle.answers.specs.Given.{given};
-ghost use Rattle.notes.specs.Reading.{stepped, on, stop, moved};
-ghost use Rattle.notes.specs.Noting.{fresh, begun, plainGiven, withCount, withTotal, withCents, withService, withItem, withStart, served, coded, judgedBy, noted};
+ghost use Rattle.profile.specs.Limits.{mostItems};
+ghost use Rattle.reading.specs.Noted.{on, stop};
+ghost use Rattle.notes.specs.Notes.{fresh, withItem, withNumber, withTotal, withCents, withService, withStart, addedUp, served, coded, kept, Listed, valueNoted, begun};
+ghost use Rattle.notes.specs.Steps.{stated, stepped, staying};
 
 pub struct Notes {
     // How many items have begun, where the first begins, and the sum of their cents.
     pub count: u64,
-    pub first: usize,
+    pub first: u32,
     pub sum: u64,
     // The cents of the last item.
     pub cents: u64,
     // What the header says: NbOfTxs and where its value begins, the total and where its value begins.
-    pub nb: u64,
-    pub nbat: usize,
+    pub number: u64,
+    pub numberat: u32,
     pub total: u64,
-    pub totalat: usize,
+    pub totalat: u32,
     // The items' LclInstrm: its place in its list from 1 on, and 0 before the first.
     pub service: u64,
-    // Where each recorded value of the last item begins.
-    pub starts: [usize; 10],
+    // Where the last value of each field begins.
+    pub starts: [u32; profile::FIELDS],
 }
 
 pub struct State {
-    // The next place.
-    pub at: usize,
+    // The next place: 32 bits are enough for a message.
+    pub at: u32,
     pub notes: Notes,
 }
 
@@ -47,29 +44,30 @@ pub struct Step {
 }
 
 impl State {
-    // Before anything is read.
-    pub fn new() -> State
-        ensures { λ r. ⌜ r ≡ fresh ⌝ }
+    // A place, before anything is read.
+    pub fn new(at: u32) -> State
+        ensures { λ r. ⌜ stated r ≡ record { at = at; notes = fresh } ⌝ }
     {
         State {
-            at: 0,
+            at,
             notes: Notes {
                 count: 0,
                 first: 0,
                 sum: 0,
                 cents: 0,
-                nb: 0,
-                nbat: 0,
+                number: 0,
+                numberat: 0,
                 total: 0,
                 totalat: 0,
                 service: 0,
-                starts: [0; 10],
+                starts: [0; profile::FIELDS],
             },
         }
     }
 
-    pub fn at_place(mut self, p: usize) -> State
-        ensures { λ r. ⌜ r ≡ moved self p ⌝ }
+    // The same notes, at another place.
+    pub fn at_place(mut self, p: u32) -> State
+        ensures { λ r. ⌜ stated r ≡ record { at = p; notes = self .notes } ⌝ }
     {
         self.at = p;
         self
@@ -77,7 +75,7 @@ impl State {
 
     // Reading goes on.
     pub fn read_on(self) -> Step
-        ensures { λ r. ⌜ stepped r ≡ on self ⌝ }
+        ensures { λ r. ⌜ stepped r ≡ on (stated self) ⌝ }
     {
         Step {
             met: Met::On,
@@ -95,44 +93,31 @@ impl State {
         }
     }
 
-    fn with_count(mut self, n: u64) -> State
-        ensures { λ r. ⌜ r ≡ withCount n self ⌝ }
+    // A fault at the state's place ends it.
+    pub fn refuse_here(self, number: u8) -> Step
+        ensures { λ r. ⌜ stepped r ≡ stop number (self .at) ⌝ }
     {
-        let at = self.at;
-        self.notes.nb = n;
-        self.notes.nbat = at;
-        self
+        let place = self.at as usize;
+        Step {
+            met: Met::Stopped(number, place),
+            state: self,
+        }
     }
 
-    fn with_total(mut self, cents: u64) -> State
-        ensures { λ r. ⌜ r ≡ withTotal cents self ⌝ }
+    // An item begins at the state's place: one more, or 12.
+    pub fn begin_item(self) -> Step
+        ensures { λ r. ⌜ stepped r ≡ staying (self .at) (begun (self .at) (self .notes)) ⌝ }
     {
-        let at = self.at;
-        self.notes.total = cents;
-        self.notes.totalat = at;
-        self
+        if self.notes.count < profile::MOST_ITEMS {
+            return self.with_item().read_on();
+        }
+        self.refuse_here(12)
     }
 
-    fn with_cents(mut self, cents: u64) -> State
-        requires { ⌜ self .notes .sum + cents ≤ 99999999999999999 ⌝ }
-        ensures { λ r. ⌜ r ≡ withCents cents self ⌝ }
-    {
-        let sum = self.notes.sum + cents;
-        self.notes.sum = sum;
-        self.notes.cents = cents;
-        self
-    }
-
-    fn with_service(mut self, i: u64) -> State
-        ensures { λ r. ⌜ r ≡ withService i self ⌝ }
-    {
-        self.notes.service = i;
-        self
-    }
-
+    // One item more; where the first one begins.
     fn with_item(mut self) -> State
-        requires { ⌜ self .notes .count < 10000 ⌝ }
-        ensures { λ r. ⌜ r ≡ withItem self ⌝ }
+        requires { ⌜ self .notes .count < mostItems ⌝ }
+        ensures { λ r. ⌜ stated r ≡ record { at = self .at; notes = withItem (self .at) (self .notes) } ⌝ }
     {
         let at = self.at;
         let before = self.notes.count;
@@ -145,96 +130,75 @@ impl State {
         self
     }
 
-    // An item begins at the state's place: one more, or 12.
-    pub fn begin_item(self) -> Step
-        ensures { λ r. ⌜ stepped r ≡ begun self ⌝ }
+    // What the header says of the count, at the state's place.
+    fn with_number(mut self, n: u64) -> State
+        ensures { λ r. ⌜ stated r ≡ record { at = self .at; notes = withNumber n (self .at) (self .notes) } ⌝ }
     {
-        if self.notes.count < 10_000 {
-            return self.with_item().read_on();
-        }
-        self.refuse(12, self.at)
-    }
-
-    fn with_start(self, slot: u16, p: usize) -> State
-        ensures { λ r. ⌜ r ≡ withStart slot p self ⌝ }
-    {
-        let i = slot as usize;
-        if i < 10 {
-            let mut notes = self.notes;
-            notes.starts[i] = p;
-            return State { at: self.at, notes };
-        }
+        let at = self.at;
+        self.notes.number = n;
+        self.notes.numberat = at;
         self
     }
-}
 
-// What a value of the kind is answered.
-fn plain(j: Judged, v: &[u8]) -> Answer
-    ensures { λ r. ⌜ given r ≡ plainGiven j (now (v .entry)) ⌝ }
-{
-    match j {
-        Judged::Reference => words::reference(v),
-        Judged::Nm => words::text(Field::Nm, v),
-        Judged::Ustrd => words::text(Field::Ustrd, v),
-        Judged::Date => calendar::date(v),
-        Judged::Time => calendar::time(v),
-        Judged::Bic => accounts::bic(v),
-        Judged::Iban => accounts::iban(v),
-        Judged::Identifier => accounts::creditor_id(v),
+    // What the header says of the total, at the state's place.
+    fn with_total(mut self, cents: u64) -> State
+        ensures { λ r. ⌜ stated r ≡ record { at = self .at; notes = withTotal cents (self .at) (self .notes) } ⌝ }
+    {
+        let at = self.at;
+        self.notes.total = cents;
+        self.notes.totalat = at;
+        self
+    }
+
+    // An item's cents, and the running sum.
+    fn with_cents(mut self, cents: u64) -> State
+        requires { ⌜ self .notes .sum + cents ≤ 99999999999999999 ⌝ }
+        ensures { λ r. ⌜ stated r ≡ record { at = self .at; notes = withCents cents (self .notes) } ⌝ }
+    {
+        let sum = self.notes.sum + cents;
+        self.notes.sum = sum;
+        self.notes.cents = cents;
+        self
+    }
+
+    // The items' service.
+    fn with_service(mut self, i: u64) -> State
+        ensures { λ r. ⌜ stated r ≡ record { at = self .at; notes = withService i (self .notes) } ⌝ }
+    {
+        self.notes.service = i;
+        self
+    }
+
+    // Where the last value of a field begins.
+    fn with_start(self, f: Field, p: u32) -> State
+        ensures { λ r. ⌜ stated r ≡ record { at = self .at; notes = withStart f p (self .notes) } ⌝ }
+    {
+        let i = profile::number_of(f);
+        let mut notes = self.notes;
+        notes.starts[i] = p;
+        State { at: self.at, notes }
     }
 }
 
-fn note_plain(j: Judged, v: &[u8], st: State) -> Step
-    ensures { λ r. ⌜ stepped r ≡ judgedBy (Kind.Plain j) (now (v .entry)) st ⌝ }
+// The running sum with one item's cents more, or 13.
+fn add_up(cents: u64, st: State) -> Step
+    ensures { λ r. ⌜ stepped r ≡ staying (st .at) (addedUp cents (st .at) (st .notes)) ⌝ }
 {
-    let number = answers::number(plain(j, v));
-    if number != 0 {
-        return st.refuse(number, st.at);
+    if 99_999_999_999_999_999 < cents {
+        return st.refuse_here(13);
     }
-    st.read_on()
-}
-
-fn note_count(v: &[u8], st: State) -> Step
-    ensures { λ r. ⌜ stepped r ≡ judgedBy Kind.Count (now (v .entry)) st ⌝ }
-{
-    let a = money::count(v);
-    let number = answers::number(a);
-    if number != 0 {
-        return st.refuse(number, st.at);
-    }
-    st.with_count(answers::value(a)).read_on()
-}
-
-fn note_total(v: &[u8], st: State) -> Step
-    ensures { λ r. ⌜ stepped r ≡ judgedBy Kind.Total (now (v .entry)) st ⌝ }
-{
-    let a = money::amount(Range::Total, v);
-    let number = answers::number(a);
-    if number != 0 {
-        return st.refuse(number, st.at);
-    }
-    st.with_total(answers::value(a)).read_on()
-}
-
-fn note_amount(v: &[u8], st: State) -> Step
-    ensures { λ r. ⌜ stepped r ≡ judgedBy Kind.Amount (now (v .entry)) st ⌝ }
-{
-    let a = money::amount(Range::Item, v);
-    let number = answers::number(a);
-    if number != 0 {
-        return st.refuse(number, st.at);
-    }
-    let cents = answers::value(a);
     if 99_999_999_999_999_999 - cents < st.notes.sum {
-        return st.refuse(13, st.at);
+        return st.refuse_here(13);
     }
     st.with_cents(cents).read_on()
 }
 
-fn note_service(i: u8, st: State) -> Step
-    ensures { λ r. ⌜ stepped r ≡ served i st ⌝ }
+// The first item's LclInstrm, or the same again; else 11.
+fn serve(i: u64, st: State) -> Step
+    requires { ⌜ i ≤ 4 ⌝ }
+    ensures { λ r. ⌜ stepped r ≡ staying (st .at) (served i (st .at) (st .notes)) ⌝ }
 {
-    let mine = i as u64 + 1;
+    let mine = i + 1;
     let first = st.notes.service;
     if first == 0 {
         return st.with_service(mine).read_on();
@@ -242,14 +206,16 @@ fn note_service(i: u8, st: State) -> Step
     if first == mine {
         return st.with_service(mine).read_on();
     }
-    st.refuse(11, st.at)
+    st.refuse_here(11)
 }
 
-fn note_listed(e: Element, i: u8, st: State) -> Step
-    ensures { λ r. ⌜ stepped r ≡ coded e i st ⌝ }
+// What a listed code adds.
+fn keep_code(e: Element, i: u64, st: State) -> Step
+    requires { ⌜ i ≤ 4 ⌝ }
+    ensures { λ r. ⌜ stepped r ≡ staying (st .at) (coded e i (st .at) (st .notes)) ⌝ }
 {
     match e {
-        Element::LclInstrm => note_service(i, st),
+        Element::LclInstrm => serve(i, st),
         Element::SttlmMtd => st.read_on(),
         Element::SvcLvl => st.read_on(),
         Element::SeqTp => st.read_on(),
@@ -258,36 +224,34 @@ fn note_listed(e: Element, i: u8, st: State) -> Step
     }
 }
 
-fn note_code(e: Element, v: &[u8], st: State) -> Step
-    ensures { λ r. ⌜ stepped r ≡ judgedBy (Kind.Code e) (now (v .entry)) st ⌝ }
-{
-    match codes::code(e, v) {
-        Found::Listed(i) => note_listed(e, i, st),
-        Found::Unlisted => st.refuse(10, st.at),
-    }
-}
-
-fn judge_value(k: Kind, v: &[u8], st: State) -> Step
-    ensures { λ r. ⌜ stepped r ≡ judgedBy k (now (v .entry)) st ⌝ }
+// What a value adds that passed its kind's checker with this worth.
+fn keep(k: Kind, worth: u64, st: State) -> Step
+    requires { ⌜ Listed k worth ⌝ }
+    ensures { λ r. ⌜ stepped r ≡ staying (st .at) (kept k worth (st .at) (st .notes)) ⌝ }
 {
     match k {
-        Kind::Plain(j) => note_plain(j, v, st),
-        Kind::Count => note_count(v, st),
-        Kind::Total => note_total(v, st),
-        Kind::Amount => note_amount(v, st),
-        Kind::Code(e) => note_code(e, v, st),
+        Kind::Plain(_) => st.read_on(),
+        Kind::Count => st.with_number(worth).read_on(),
+        Kind::Total => st.with_total(worth).read_on(),
+        Kind::Amount => add_up(worth, st),
+        Kind::Code(e) => keep_code(e, worth, st),
     }
 }
 
-// A value of the kind, which begins at the state's place: judged, and its start noted.
-pub fn note(k: Kind, slot: u16, v: &[u8], st: State) -> Step
-    ensures { λ r. ⌜ stepped r ≡ noted k slot (now (v .entry)) st ⌝ }
+// A value of a kind and a field, which begins at the state's place: judged, and noted.
+pub fn note(k: Kind, f: Field, v: &[u8], st: State) -> Step
+    ensures { λ r. ⌜ stepped r ≡ staying (st .at) (valueNoted k f (now (v .entry)) (st .at) (st .notes)) ⌝ }
 {
-    let r = judge_value(k, v, st);
+    let a = kinds::judge_value(k, v);
+    let number = answers::number(a);
+    if number != 0 {
+        return st.refuse_here(number);
+    }
+    let r = keep(k, answers::value(a), st);
     let met = r.met;
     let s = r.state;
     match met {
-        Met::On => s.with_start(slot, st.at).read_on(),
+        Met::On => s.with_start(f, st.at).read_on(),
         Met::Stopped(number, place) => s.refuse(number, place),
     }
 }

@@ -1,3 +1,2 @@
-pub mod Starts
-pub mod Standing
-pub mod Posted
+pub mod Long
+pub mod Once

@@ -1,1 +1,2 @@
-pub mod Posting
+pub mod Record
+pub mod Area

@@ -1,1 +1,1 @@
-// Laws only: the records of an accepted message are those of its document's items, one for each, in order.
+// No code: the posting records of an accepted message, as the paper says them; and laws about that.

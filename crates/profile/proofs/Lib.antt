@@ -1,3 +1,1 @@
-pub mod Rows
-pub mod Looks
-pub mod Question
+pub mod Fields

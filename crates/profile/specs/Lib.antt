@@ -1,4 +1,6 @@
+pub mod Version
+pub mod Limits
+pub mod Fields
+pub mod Kinds
 pub mod Tree
 pub mod Profile
-pub mod Tags
-pub mod Table

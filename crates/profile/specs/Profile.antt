@@ -1,72 +1,117 @@
--- "Indented order, 1 each unless marked. A slash means a group with that one child." (▹ is the slash.)
-use Prim.Native.Nat.{ℕ}
+-- "Indented order, 1 each unless marked. A slash means a group with that one child." (▹ is the slash; a value has its field's name and its kind.)
+use Prim.Native.String.{String}
 use mathlib.Core.List.{List, [], _∷_}
-use Rattle.codes.specs.declared.Element.the-variants.{SttlmMtd, SvcLvl, LclInstrm, SeqTp, ChrgBr, Prtry}
+use Rattle.codes.specs.declared.Element.the-variants as code
 use Rattle.profile.specs.declared.Kind.{Kind}
 use Rattle.profile.specs.declared.Kind.the-variants.{Plain, Count, Total, Amount, Code}
-use Rattle.profile.specs.declared.Judged.the-variants.{Reference, Nm, Ustrd, Date, Time, Bic, Iban, Identifier}
-use Rattle.profile.specs.Tree.{Shape, end, Child, Value, _is_, _mayBe_, _holds_, _mayHold_, _repeats_, _▹_}
+use Rattle.profile.specs.declared.Simple.the-variants.{Reference, Text70, Text140, Date, Time, Bic, Iban, Identifier}
+use Rattle.profile.specs.declared.Field.the-variants.{
+  MsgId,
+  CreDtTm,
+  NbOfTxs,
+  TtlIntrBkSttlmAmt,
+  IntrBkSttlmDt,
+  SttlmMtd,
+  InstgBic,
+  InstrId,
+  EndToEndId,
+  TxId,
+  SvcLvl,
+  LclInstrm,
+  SeqTp,
+  IntrBkSttlmAmt,
+  ChrgBr,
+  ReqdColltnDt,
+  MndtId,
+  DtOfSgntr,
+  CdtrId,
+  Prtry,
+  CdtrNm,
+  CdtrIban,
+  CdtrBic,
+  DbtrNm,
+  DbtrIban,
+  DbtrBic,
+  Ustrd,
+}
+use Rattle.profile.specs.Version.{Version, v02}
+use Rattle.profile.specs.Tree.{Shape, end, Child, children, _of_, _is_, _mayBe_, _holds_, _mayHold_, _repeats_, _▹_}
 
--- a value of a kind; and one whose start is noted for the record, at its field's place among those that are copied
-abbrev a : Kind → Value
-a k = record { kind = k; slot = 10 }
+-- ---- what the version decides: the name of the BIC's element, and its kind
+abbrev pub bicName : Version → String
+bicName v02 = "BIC"
 
-abbrev noted : ℕ → Kind → Value
-noted i k = record { kind = k; slot = i }
+abbrev pub bicKind : Version → Kind
+bicKind v02 = Plain Bic
 
-abbrev pub header : Child
-header =
-    "GrpHdr" holds
-    ("MsgId" is a (Plain Reference)
-    ∷ "CreDtTm" is a (Plain Time)
-    ∷ "NbOfTxs" is a Count
-    ∷ "TtlIntrBkSttlmAmt" is a Total
-    ∷ "IntrBkSttlmDt" is a (Plain Date)
-    ∷ "SttlmInf" ▹ "SttlmMtd" is a (Code SttlmMtd)
-    ∷ "InstgAgt" ▹ "FinInstnId" ▹ "BIC" is a (Plain Bic)
-    ∷ [])
-
-abbrev pub item : List Child
-item =
-    "PmtId" holds
-    ("InstrId" mayBe a (Plain Reference)
-    ∷ "EndToEndId" is noted 1 (Plain Reference)
-    ∷ "TxId" is noted 0 (Plain Reference)
-    ∷ [])
-    ∷ "PmtTpInf" holds
-    ("SvcLvl" ▹ "Cd" is a (Code SvcLvl)
-    ∷ "LclInstrm" ▹ "Cd" is a (Code LclInstrm)
-    ∷ "SeqTp" is noted 7 (Code SeqTp)
-    ∷ [])
-    ∷ "IntrBkSttlmAmt" is a Amount
-    ∷ "ChrgBr" is a (Code ChrgBr)
-    ∷ "ReqdColltnDt" is noted 6 (Plain Date)
-    ∷ "DrctDbtTx" holds
-    ("MndtRltdInf" holds
-    ("MndtId" is noted 2 (Plain Reference)
-    ∷ "DtOfSgntr" is a (Plain Date)
-    ∷ [])
-    ∷ "CdtrSchmeId" ▹ "Id" ▹ "PrvtId" ▹ "Othr" holds
-    ("Id" is noted 8 (Plain Identifier)
-    ∷ "SchmeNm" ▹ "Prtry" is a (Code Prtry)
-    ∷ [])
-    ∷ [])
-    ∷ "Cdtr" ▹ "Nm" is a (Plain Nm)
-    ∷ "CdtrAcct" ▹ "Id" ▹ "IBAN" is noted 4 (Plain Iban)
-    ∷ "CdtrAgt" ▹ "FinInstnId" ▹ "BIC" is noted 9 (Plain Bic)
-    ∷ "Dbtr" ▹ "Nm" is a (Plain Nm)
-    ∷ "DbtrAcct" ▹ "Id" ▹ "IBAN" is noted 3 (Plain Iban)
-    ∷ "DbtrAgt" ▹ "FinInstnId" ▹ "BIC" is noted 5 (Plain Bic)
-    ∷ "RmtInf" mayHold ("Ustrd" is a (Plain Ustrd) ∷ [])
+-- ---- the header
+abbrev pub header : Version → List Child
+header v =
+    "MsgId" is MsgId of Plain Reference
+    ∷ "CreDtTm" is CreDtTm of Plain Time
+    ∷ "NbOfTxs" is NbOfTxs of Count
+    ∷ "TtlIntrBkSttlmAmt" is TtlIntrBkSttlmAmt of Total
+    ∷ "IntrBkSttlmDt" is IntrBkSttlmDt of Plain Date
+    ∷ "SttlmInf" ▹ "SttlmMtd" is SttlmMtd of Code code.SttlmMtd
+    ∷ "InstgAgt" ▹ "FinInstnId" ▹ bicName v is InstgBic of bicKind v
     ∷ []
 
-abbrev pub items : Child
-items = "DrctDbtTxInf" repeats item
+-- ---- an item
+abbrev pub item : Version → List Child
+item v =
+    "PmtId" holds
+    ("InstrId" mayBe InstrId of Plain Reference
+    ∷ "EndToEndId" is EndToEndId of Plain Reference
+    ∷ "TxId" is TxId of Plain Reference
+    ∷ [])
+    ∷ "PmtTpInf" holds
+    ("SvcLvl" ▹ "Cd" is SvcLvl of Code code.SvcLvl
+    ∷ "LclInstrm" ▹ "Cd" is LclInstrm of Code code.LclInstrm
+    ∷ "SeqTp" is SeqTp of Code code.SeqTp
+    ∷ [])
+    ∷ "IntrBkSttlmAmt" is IntrBkSttlmAmt of Amount
+    ∷ "ChrgBr" is ChrgBr of Code code.ChrgBr
+    ∷ "ReqdColltnDt" is ReqdColltnDt of Plain Date
+    ∷ "DrctDbtTx" holds
+    ("MndtRltdInf" holds
+    ("MndtId" is MndtId of Plain Reference
+    ∷ "DtOfSgntr" is DtOfSgntr of Plain Date
+    ∷ [])
+    ∷ "CdtrSchmeId" ▹ "Id" ▹ "PrvtId" ▹ "Othr" holds
+    ("Id" is CdtrId of Plain Identifier
+    ∷ "SchmeNm" ▹ "Prtry" is Prtry of Code code.Prtry
+    ∷ [])
+    ∷ [])
+    ∷ "Cdtr" ▹ "Nm" is CdtrNm of Plain Text70
+    ∷ "CdtrAcct" ▹ "Id" ▹ "IBAN" is CdtrIban of Plain Iban
+    ∷ "CdtrAgt" ▹ "FinInstnId" ▹ bicName v is CdtrBic of bicKind v
+    ∷ "Dbtr" ▹ "Nm" is DbtrNm of Plain Text70
+    ∷ "DbtrAcct" ▹ "Id" ▹ "IBAN" is DbtrIban of Plain Iban
+    ∷ "DbtrAgt" ▹ "FinInstnId" ▹ bicName v is DbtrBic of bicKind v
+    ∷ "RmtInf" mayHold ("Ustrd" is Ustrd of Plain Text140 ∷ [])
+    ∷ []
+
+-- ---- the names of the groups above them
+abbrev pub bulkName : String
+bulkName = "FIToFICstmrDrctDbt"
+
+abbrev pub headerName : String
+headerName = "GrpHdr"
+
+abbrev pub itemName : String
+itemName = "DrctDbtTxInf"
+
+-- what the header holds, and what an item holds, each up to its end
+unfoldable pub inHeader : Version → Shape
+inHeader v = children (header v) (end headerName)
+
+unfoldable pub inItem : Version → Shape
+inItem v = children (item v) (end itemName)
 
 -- what stands in a message between its root tag and the end of its root
-unfoldable pub profile : Shape
-profile = ("FIToFICstmrDrctDbt" holds (header ∷ items ∷ [])) (end "Document")
-
--- an item, and what is due after it
-unfoldable pub itemShape : Shape
-itemShape = items (end "FIToFICstmrDrctDbt")
+unfoldable pub profile : Version → Shape
+profile v =
+    (bulkName holds
+    (headerName holds header v
+    ∷ itemName repeats item v
+    ∷ [])) (end "Document")

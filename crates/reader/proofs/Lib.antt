@@ -1,4 +1,5 @@
 pub mod Steps
 pub mod Turns
+pub mod Rows
 pub mod Loops
 pub mod Whole

@@ -1,87 +1,92 @@
--- What one step of the reader finds, over plain lists, tests and states; and that a good state stays good. Assumes nothing.
+-- What one step of the reader finds, over plain lists, tests and notes; and that a good state stays good.
 use mathlib.Core.Path.{_≡_, refl, sym, ap, _∙_}
 use mathlib.Core.Bool.{Bool, true, false}
 use mathlib.Core.List.{List}
 use Prim.Native.Nat.{ℕ, zero, suc, _+_, _-_, _≤_, _<_}
+use Prim.Native.String.{String}
 use native.Mathlib.Omega.{arith}
 use borrow.Author.Tests.{lt-ltb, le-ltb}
 use lib.ListN.{length, take, drop, length-drop, length-take}
-use Rattle.text.specs.Truth.{pick, lead, part}
-use Rattle.text.specs.Quoted.{bytes, is, alike}
+use Rattle.text.specs.Truth.{pick, lead}
 use Rattle.text.proofs.Scan.{rest-of, lead-le}
+use Rattle.tags.specs.declared.Look.{Look}
+use Rattle.tags.specs.declared.Look.the-variants.{Whole, Cut, Other}
+use Rattle.tags.specs.Tags.{white, skipped, look, onLook, currencyPlace, inEuro}
+use Rattle.tags.specs.Values.{inValue, valueAt}
+use Rattle.tags.proofs.Looks.{look-fits}
 use Rattle.profile.specs.declared.Kind.{Kind}
-use Rattle.profile.specs.declared.Look.{Look}
-use Rattle.profile.specs.declared.Look.the-variants.{Whole, Cut, Other}
+use Rattle.profile.specs.declared.Field.{Field}
 use Rattle.profile.specs.Tree.{Occ, once, optional, many, more}
-use Rattle.profile.specs.Tags.{white, inValue, look}
-use Rattle.profile.specs.declared.Row.{Row}
-use Rattle.profile.specs.Table.{occOf, amountKind, width}
-use Rattle.profile.proofs.Looks.{look-fits}
+use Rattle.reading.specs.Trace.{Trace, upTo, fault, begins, priced}
+use Rattle.reading.specs.Noted.{Reading, on, stop, onward, Ended}
+use Rattle.reading.proofs.Flat.{never}
+use Rattle.table.specs.declared.Row.{Row}
+use Rattle.table.specs.Table.{occOf, width}
+use Rattle.notes.specs.declared.Notes.{Notes}
 use Rattle.notes.specs.declared.State.{State}
-use Rattle.notes.specs.Reading.{Reading, on, stop, andThen, moved, Good, Fine}
-use Rattle.notes.specs.Noting.{begun, noted}
-use Rattle.notes.proofs.Stays.{later, noted-fine, begun-fine}
+use Rattle.notes.specs.Notes.{valueNoted, begun}
+use Rattle.notes.specs.Steps.{stated, staying, reads, Good, Fine}
+use Rattle.notes.proofs.Notings.{here}
+use Rattle.notes.proofs.Stays.{later, good-at, value-fine, begun-fine}
 use Rattle.reader.specs.declared.Choice.the-variants.{Enter, Pass, Stop}
-use Rattle.reader.specs.Reader.{onLook, skipped, closed, missing, tagged, counted, inEuro, entered, valueAt, valued}
+use Rattle.reader.specs.Reader.{orElse, tagged, closedBy, entered, valuedBy}
+
+abbrev Found : Type 0
+Found = Reading (Ended Notes)
 
 -- what is shown of a step: it is the reading, and fine from a place on
-pub told : (m : List ℕ) (p : ℕ) (x r s : Reading) → x ≡ r → r ≡ s → Fine m p r → (x ≡ s) × Fine m p x
+pub told : (m : List ℕ) (p : ℕ) (x r s : Found) → x ≡ r → r ≡ s → Fine m p r → (x ≡ s) × Fine m p x
 told m p x r s e f h = (e ∙ f, rw e h)
 
 -- a reading that goes on, or stops, and is fine
-pub fine-on : (m : List ℕ) (p : ℕ) (r : Reading) (s : State) → on s ≡ r → Fine m p r → Good m s × (p ≤ s .at)
+pub fine-on : (m : List ℕ) (p : ℕ) (r : Found) (s : Ended Notes) → on s ≡ r → Fine m p r → Good m s × (p ≤ s .at)
 fine-on m p r s e f = rw (sym e) at f
 
-pub fine-stop : (m : List ℕ) (p : ℕ) (r : Reading) (n q : ℕ) → stop n q ≡ r → Fine m p r → q ≤ length m
+pub fine-stop : (m : List ℕ) (p : ℕ) (r : Found) (n q : ℕ) → stop n q ≡ r → Fine m p r → q ≤ length m
 fine-stop m p r n q e f = rw (sym e) at f
-
-pub fine-at : (m : List ℕ) (s t : State) (r : Reading) → s ≡ t → Fine m (s .at) r → Fine m (t .at) r
-fine-at m s t r e f = rw e at f
-
-good-at : (m : List ℕ) (st : State) (p : ℕ) → Good m st → p ≤ length m → Good m (moved st p)
-good-at m st p g h = record { small = g .small; within = h; counted = g .counted; summed = g .summed }
 
 -- ---- white space
 pub spaces-fit : (m : List ℕ) (p n : ℕ) → p ≤ length m → n ≡ lead white (take (length m - p) (drop p m)) → p + n ≤ length m
 spaces-fit m p n h e = omega (arith, lead-le white (take (length m - p) (drop p m)), length-take (length m - p) (drop p m), length-drop p m)
 
-pub skips : (m : List ℕ) (st : State) (n : ℕ) (r : State) → Good m st → n ≡ lead white (take (length m - st .at) (drop (st .at) m)) → r ≡ moved st (st .at + n)
-    → (r ≡ skipped m st) × Good m r × (st .at ≤ r .at)
-skips m st n r g e f =
-    let h : n ≡ lead white (drop (st .at) m) = e ∙ ap (lead white) (rest-of (st .at) m) in
-    (f ∙ ap (λ (k : ℕ). moved st (st .at + k)) h, rw f (good-at m st (st .at + n) g (spaces-fit m (st .at) n (g .within) e)), rw f (omega arith))
+pub skips : (m : List ℕ) (s : Ended Notes) (n : ℕ) (r : Ended Notes) → Good m s → n ≡ lead white (take (length m - s .at) (drop (s .at) m)) → r ≡ here (s .at + n) (s .notes)
+    → (r ≡ here (skipped m (s .at)) (s .notes)) × Good m r × (s .at ≤ r .at)
+skips m s n r g e f =
+    let h : n ≡ lead white (drop (s .at) m) = e ∙ ap (lead white) (rest-of (s .at) m) in
+    (f ∙ ap (λ (k : ℕ). here (s .at + k) (s .notes)) h, rw f (good-at m s (s .at + n) g (spaces-fit m (s .at) n (g .within) e)), rw f (omega arith))
 
 -- ---- an end tag
-module _ (m : List ℕ) (st : State) (t : List (ℕ → Bool)) (g : Good m st) (l : Look) (e : l ≡ look t (take (length m - st .at) (drop (st .at) m))) where
-  looked : look t (drop (st .at) m) ≡ l
-  looked = ap (look t) (sym (rest-of (st .at) m)) ∙ sym e
+module _ (m : List ℕ) (p : ℕ) (n : Notes) (t : List (ℕ → Bool)) (g : Good m (here p n)) (l : Look) (e : l ≡ look t (take (length m - p) (drop p m))) where
+  looked : look t (drop p m) ≡ l
+  looked = ap (look t) (sym (rest-of p m)) ∙ sym e
 
-  whole-fits : l ≡ Whole → st .at + length t ≤ length m
-  whole-fits h = omega (arith, look-fits t (drop (st .at) m) (looked ∙ h), length-drop (st .at) m, g .within)
+  -- what is shown of `close`
+  abbrev pub Closes : Found → Type 0
+  Closes x = (x ≡ reads (closedBy t m p) n) × Fine m p x
 
-  pub close-fits : l ≡ Whole → (n : ℕ) → n ≡ length t → st .at + n ≤ length m
-  close-fits h n f = omega (arith, whole-fits h)
+  pub close-fits : l ≡ Whole → (k : ℕ) → k ≡ length t → p + k ≤ length m
+  close-fits h k f = omega (arith, look-fits t (drop p m) (looked ∙ h), length-drop p m, g .within)
 
-  pub closed-whole : l ≡ Whole → (n : ℕ) → n ≡ length t → (x : Reading) → x ≡ on (moved st (st .at + n)) → (x ≡ closed t m st) × Fine m (st .at) x
-  unfolding closed
-  closed-whole h n f x w =
-      told m (st .at) x (on (moved st (st .at + n))) (closed t m st) w (rw (looked, h, f))
-      (good-at m st (st .at + n) g (close-fits h n f), omega arith)
+  pub closed-whole : l ≡ Whole → (k : ℕ) → k ≡ length t → (x : Found) → x ≡ on (here (p + k) n) → Closes x
+  unfolding closedBy
+  closed-whole h k f x w =
+      told m p x (on (here (p + k) n)) (reads (closedBy t m p) n) w (rw (looked, h, f))
+      (good-at m (here p n) (p + k) g (close-fits h k f), omega arith)
 
-  pub closed-cut : l ≡ Cut → (x : Reading) → x ≡ stop 3 (length m) → (x ≡ closed t m st) × Fine m (st .at) x
-  unfolding closed
-  closed-cut h x w = told m (st .at) x (stop 3 (length m)) (closed t m st) w (rw (looked, h)) (omega arith)
+  pub closed-cut : l ≡ Cut → (x : Found) → x ≡ stop 3 (length m) → Closes x
+  unfolding closedBy
+  closed-cut h x w = told m p x (stop 3 (length m)) (reads (closedBy t m p) n) w (rw (looked, h)) (omega arith)
 
-  pub closed-other : l ≡ Other → (x : Reading) → x ≡ stop 4 (st .at) → (x ≡ closed t m st) × Fine m (st .at) x
-  unfolding closed
-  closed-other h x w = told m (st .at) x (stop 4 (st .at)) (closed t m st) w (rw (looked, h)) (g .within)
+  pub closed-other : l ≡ Other → (x : Found) → x ≡ stop 4 p → Closes x
+  unfolding closedBy
+  closed-other h x w = told m p x (stop 4 p) (reads (closedBy t m p) n) w (rw (looked, h)) (g .within)
 
 -- ---- a start tag
-missing-pass : (occ p : ℕ) → (occ ≡ 0 → ⊥) → (occ ≡ 2 → ⊥) → missing (occOf occ) p ≡ Pass
-missing-pass zero p h k = absurd (h refl)
-missing-pass (suc zero) p h k = refl
-missing-pass (suc (suc zero)) p h k = absurd (k refl)
-missing-pass (suc (suc (suc n))) p h k = refl
+passes-by : (occ p : ℕ) → (occ ≡ 0 → ⊥) → (occ ≡ 2 → ⊥) → orElse (occOf occ) p ≡ Pass
+passes-by zero p h k = absurd (h refl)
+passes-by (suc zero) p h k = refl
+passes-by (suc (suc zero)) p h k = absurd (k refl)
+passes-by (suc (suc (suc n))) p h k = refl
 
 module _ (m : List ℕ) (p occ : ℕ) (t : List (ℕ → Bool)) (l : Look) (e : l ≡ look t (take (length m - p) (drop p m))) where
   seen : look t (drop p m) ≡ l
@@ -105,155 +110,157 @@ module _ (m : List ℕ) (p occ : ℕ) (t : List (ℕ → Bool)) (l : Look) (e : 
 
   pub chosen-pass : l ≡ Other → (occ ≡ 0 → ⊥) → (occ ≡ 2 → ⊥) → Pass ≡ tagged (occOf occ) t m p
   unfolding tagged
-  chosen-pass h k j = rw (seen, h, missing-pass occ p k j)
+  chosen-pass h k j = rw (seen, h, passes-by occ p k j)
 
 -- where the start tag lies whole, it lies within the message; a stop is within it
 pub enter-fits : (o : Occ) (t : List (ℕ → Bool)) (m : List ℕ) (p : ℕ) → p ≤ length m → Enter ≡ tagged o t m p → p + length t ≤ length m
 unfolding tagged
 enter-fits o t m p h = go (look t (drop p m)) o refl
   where
-    go : (l : Look) (q : Occ) → look t (drop p m) ≡ l → Enter ≡ onLook l Enter (Stop 3 (length m)) (missing q p) → p + length t ≤ length m
+    go : (l : Look) (q : Occ) → look t (drop p m) ≡ l → Enter ≡ onLook l Enter (Stop 3 (length m)) (orElse q p) → p + length t ≤ length m
     go Whole q e w = omega (arith, look-fits t (drop p m) e, length-drop p m)
-    go Cut q e w = absurd (let z : _≡_ {A = ℕ} 0 1 = cc in omega arith)
-    go Other once e w = absurd (let z : _≡_ {A = ℕ} 0 1 = cc in omega arith)
-    go Other optional e w = absurd (let z : _≡_ {A = ℕ} 0 1 = cc in omega arith)
-    go Other many e w = absurd (let z : _≡_ {A = ℕ} 0 1 = cc in omega arith)
-    go Other more e w = absurd (let z : _≡_ {A = ℕ} 0 1 = cc in omega arith)
+    go Cut q e w = never (cc)
+    go Other once e w = never (cc)
+    go Other optional e w = never (cc)
+    go Other many e w = never (cc)
+    go Other more e w = never (cc)
 
 pub stop-within : (o : Occ) (t : List (ℕ → Bool)) (m : List ℕ) (p n q : ℕ) → p ≤ length m → Stop n q ≡ tagged o t m p → q ≤ length m
 unfolding tagged
 stop-within o t m p n q h = go (look t (drop p m)) o
   where
-    go : (l : Look) (x : Occ) → Stop n q ≡ onLook l Enter (Stop 3 (length m)) (missing x p) → q ≤ length m
-    go Whole x w = absurd (let z : _≡_ {A = ℕ} 0 1 = cc in omega arith)
+    go : (l : Look) (x : Occ) → Stop n q ≡ onLook l Enter (Stop 3 (length m)) (orElse x p) → q ≤ length m
+    go Whole x w = never (cc)
     go Cut x w = let z : q ≡ length m = cc in omega arith
     go Other once w = let z : q ≡ p = cc in omega arith
-    go Other optional w = absurd (let z : _≡_ {A = ℕ} 0 1 = cc in omega arith)
+    go Other optional w = never (cc)
     go Other many w = let z : q ≡ p = cc in omega arith
-    go Other more w = absurd (let z : _≡_ {A = ℕ} 0 1 = cc in omega arith)
+    go Other more w = never (cc)
 
 -- ---- entering
-pub counted-plain : (occ : ℕ) (st : State) → occ < 2 → on st ≡ counted (occOf occ) st
-counted-plain zero st h = refl
-counted-plain (suc zero) st h = refl
-counted-plain (suc (suc n)) st h = absurd (omega arith)
+-- an item begins, or nothing is noted; then reading goes on in whatever way
+pub begun-plain : (occ p : ℕ) (n : Notes) → occ < 2 → on (here p n) ≡ reads (begins (occOf occ) "" p (upTo p)) n
+begun-plain zero p n h = refl
+begun-plain (suc zero) p n h = refl
+begun-plain (suc (suc k)) p n h = absurd (omega arith)
 
-pub counted-item : (occ : ℕ) (st : State) → 2 ≤ occ → begun st ≡ counted (occOf occ) st
-counted-item zero st h = absurd (omega arith)
-counted-item (suc zero) st h = absurd (omega arith)
-counted-item (suc (suc zero)) st h = refl
-counted-item (suc (suc (suc n))) st h = refl
+pub begun-item : (occ p : ℕ) (n : Notes) → 2 ≤ occ → staying p (begun p n) ≡ reads (begins (occOf occ) "" p (upTo p)) n
+begun-item zero p n h = absurd (omega arith)
+begun-item (suc zero) p n h = absurd (omega arith)
+begun-item (suc (suc zero)) p n h = refl
+begun-item (suc (suc (suc k))) p n h = refl
 
-counted-fine : (m : List ℕ) (o : Occ) (st : State) → Good m st → Fine m (st .at) (counted o st)
-counted-fine m once st g = (g, omega arith)
-counted-fine m optional st g = (g, omega arith)
-counted-fine m many st g = begun-fine m st g
-counted-fine m more st g = begun-fine m st g
+then-on : (p : ℕ) (t : Trace) (x : Reading Notes) → onward x (reads t) ≡ onward (staying p x) (λ r. reads t (r .notes))
+then-on p t (on u) = refl
+then-on p t (stop i q) = refl
 
-part-three : (m : List ℕ) (p : ℕ) → 5 ≤ p → take ((p - 2) - (p - 5)) (drop (p - 5) m) ≡ part (p - 5) 3 m
-part-three m p h =
-    let z : (p - 2) - (p - 5) ≡ 3 = omega arith in
-    ap (λ (k : ℕ). take k (drop (p - 5) m)) z
+pub reads-begins : (o : Occ) (s : String) (p : ℕ) (t : Trace) (n : Notes) → reads (begins o s p t) n ≡ onward (reads (begins o "" p (upTo p)) n) (λ r. reads t (r .notes))
+reads-begins once s p t n = refl
+reads-begins optional s p t n = refl
+reads-begins many s p t n = then-on p t (begun p n)
+reads-begins more s p t n = then-on p t (begun p n)
 
-module _ (m : List ℕ) (st : State) (five : 5 ≤ st .at) (b : Bool) (e : b ≡ alike (bytes "EUR") (take ((st .at - 2) - (st .at - 5)) (drop (st .at - 5) m))) where
-  euro : is "EUR" (part (st .at - 5) 3 m) ≡ b
-  euro = ap (alike (bytes "EUR")) (sym (part-three m (st .at) five)) ∙ sym e
+begins-fine : (m : List ℕ) (o : Occ) (p : ℕ) (n : Notes) → Good m (here p n) → Fine m p (reads (begins o "" p (upTo p)) n)
+begins-fine m once p n g = (g, omega arith)
+begins-fine m optional p n g = (g, omega arith)
+begins-fine m many p n g = begun-fine m p n g
+begins-fine m more p n g = begun-fine m p n g
 
-  pub in-euro : b ≡ true → on st ≡ inEuro m st
-  unfolding inEuro
-  in-euro h = rw (euro, h)
+module _ (m : List ℕ) (p : ℕ) (n : Notes) (b : Bool) (e : b ≡ inEuro m p) where
+  pub in-euro : b ≡ true → on (here p n) ≡ reads (priced true m p) n
+  in-euro h = rw (← e, h)
 
-  pub no-euro : b ≡ false → stop 6 (st .at - 5) ≡ inEuro m st
-  unfolding inEuro
-  no-euro h = rw (euro, h)
+  pub no-euro : b ≡ false → (q : ℕ) → q ≡ currencyPlace p → stop 6 q ≡ reads (priced true m p) n
+  no-euro h q f = rw (← e, h, f)
 
-euro-fine : (m : List ℕ) (st : State) → Good m st → Fine m (st .at) (inEuro m st)
-unfolding inEuro
-euro-fine m st g = go (is "EUR" (part (st .at - 5) 3 m))
+priced-fine : (m : List ℕ) (amount : Bool) (p : ℕ) (n : Notes) → Good m (here p n) → Fine m p (reads (priced amount m p) n)
+unfolding currencyPlace
+priced-fine m false p n g = (g, omega arith)
+priced-fine m true p n g = go (inEuro m p)
   where
-    go : (b : Bool) → Fine m (st .at) (pick b (on st) (stop 6 (st .at - 5)))
+    go : (b : Bool) → Fine m p (reads (pick b (upTo p) (fault 6 (p - 5))) n)
     go true = (g, omega arith)
     go false = omega (arith, g .within)
 
-module _ (m : List ℕ) (st : State) (g : Good m st) (o : Occ) (amount : Bool) (w : ℕ) (fits : st .at + w ≤ length m) (some : 0 < w) where
+module _ (m : List ℕ) (p : ℕ) (n : Notes) (g : Good m (here p n)) (o : Occ) (amount : Bool) (w : ℕ) (fits : p + w ≤ length m) (some : 0 < w) where
   -- what is shown of `enter`
-  abbrev pub Enters : Reading → Type 0
-  Enters x = (x ≡ entered o amount w m st) × Fine m (st .at + 1) x
+  abbrev pub Enters : Found → Type 0
+  Enters x = (x ≡ reads (entered o amount w m p) n) × Fine m (p + 1) x
 
-  pub enters-not : (n q : ℕ) → stop n q ≡ counted o st → (x : Reading) → x ≡ stop n q → Enters x
-  enters-not n q c x e =
-      told m (st .at + 1) x (stop n q) (entered o amount w m st) e (rw (← c)) (fine-stop m (st .at) (counted o st) n q c (counted-fine m o st g))
+  abbrev Begun : Found
+  Begun = reads (begins o "" p (upTo p)) n
 
-  module _ (s : State) (c : on s ≡ counted o st) where
-    there : Good m s × (st .at ≤ s .at)
-    there = fine-on m (st .at) (counted o st) s c (counted-fine m o st g)
+  goes : (r : Found) → r ≡ Begun → onward r (λ s. reads (priced amount m (p + w)) (s .notes)) ≡ reads (entered o amount w m p) n
+  goes r e = rw e (sym (reads-begins o "" p (priced amount m (p + w)) n))
 
-    pub past-good : Good m (moved s (st .at + w))
-    past-good = good-at m s (st .at + w) (there .0) fits
+  pub enters-not : (i q : ℕ) → stop i q ≡ Begun → (x : Found) → x ≡ stop i q → Enters x
+  enters-not i q c x e = told m (p + 1) x (stop i q) (reads (entered o amount w m p) n) e (goes (stop i q) c) (fine-stop m p Begun i q c (begins-fine m o p n g))
 
-    pub enters-plain : amount ≡ false → (x : Reading) → x ≡ on (moved s (st .at + w)) → Enters x
-    enters-plain h x e =
-        told m (st .at + 1) x (on (moved s (st .at + w))) (entered o amount w m st) e (rw (← c, h)) (past-good, omega arith)
+  module _ (s : Ended Notes) (c : on s ≡ Begun) where
+    pub past-good : Good m (here (p + w) (s .notes))
+    past-good = good-at m s (p + w) (fine-on m p Begun s c (begins-fine m o p n g) .0) fits
 
-    pub enters-amount : amount ≡ true → (x : Reading) → x ≡ inEuro m (moved s (st .at + w)) → Enters x
-    enters-amount h x e =
-        told m (st .at + 1) x (inEuro m (moved s (st .at + w))) (entered o amount w m st) e (rw (← c, h))
-        (later m (st .at + 1) (st .at + w) (omega arith) (inEuro m (moved s (st .at + w))) (euro-fine m (moved s (st .at + w)) past-good))
+    enters-on : (x : Found) → x ≡ reads (priced amount m (p + w)) (s .notes) → Enters x
+    enters-on x e =
+        told m (p + 1) x (reads (priced amount m (p + w)) (s .notes)) (reads (entered o amount w m p) n) e (goes (on s) c)
+        (later m (p + 1) (p + w) (omega arith) (reads (priced amount m (p + w)) (s .notes)) (priced-fine m amount (p + w) (s .notes) past-good))
 
--- a row's start tag is not empty, and an amount's has its currency
+    -- t is the state past the tag
+    pub enters-amount : (t : Ended Notes) (k : ℕ) → k ≡ w → t ≡ here (p + k) (s .notes) → amount ≡ true → (x : Found) → x ≡ reads (priced true m (t .at)) (t .notes) → Enters x
+    enters-amount t k f a b x e = enters-on x (e ∙ rw (a, f, b))
+
+    pub enters-plain : (t : Ended Notes) (k : ℕ) → k ≡ w → t ≡ here (p + k) (s .notes) → amount ≡ false → (x : Found) → x ≡ on t → Enters x
+    enters-plain t k f a b x e = enters-on x (e ∙ rw (a, f, b))
+
+-- a row's start tag is not empty
 pub width-some : (r : Row) → 0 < r .start → 0 < width r
 width-some r h = omega arith
-
-pub amount-wide : (r : Row) → amountKind (r .kind) ≡ true → 5 ≤ width r
-amount-wide r e = rw e (omega arith)
 
 -- ---- a value
 pub value-fits : (m : List ℕ) (p n : ℕ) → p ≤ length m → n ≡ lead inValue (take (length m - p) (drop p m)) → p + n ≤ length m
 value-fits m p n h e = omega (arith, lead-le inValue (take (length m - p) (drop p m)), length-take (length m - p) (drop p m), length-drop p m)
 
-module _ (m : List ℕ) (st : State) (g : Good m st) (t : List (ℕ → Bool)) (k : Kind) (slot n : ℕ) (e : n ≡ lead inValue (take (length m - st .at) (drop (st .at) m))) where
-  found : n ≡ lead inValue (drop (st .at) m)
-  found = e ∙ ap (lead inValue) (rest-of (st .at) m)
-
-  -- what is shown of `value`
-  abbrev pub Values : Reading → Type 0
-  Values x = (x ≡ valued t k slot m st) × Fine m (st .at) x
-
-  pub value-none : st .at + n ≡ length m → (x : Reading) → x ≡ stop 3 (st .at + n) → Values x
-  unfolding valued
-  value-none h x w =
-      told m (st .at) x (stop 3 (st .at + n)) (valued t k slot m st) w
-      (rw (← found, h, le-ltb (length m) (length m) (omega arith))) (omega arith)
-
-  value-there : (st .at + n ≡ length m → ⊥) → st .at + n < length m
-  value-there h = omega (arith, value-fits m (st .at) n (g .within) e)
+module _ (m : List ℕ) (p : ℕ) (ns : Notes) (g : Good m (here p ns)) (t : List (ℕ → Bool)) (k : Kind) (f : Field) (n : ℕ) (e : n ≡ lead inValue (take (length m - p) (drop p m))) where
+  found : n ≡ lead inValue (drop p m)
+  found = e ∙ ap (lead inValue) (rest-of p m)
 
   -- the value as it is lent
-  lent : take ((st .at + n) - st .at) (drop (st .at) m) ≡ valueAt m (st .at)
-  lent =
-      let z : (st .at + n) - st .at ≡ lead inValue (drop (st .at) m) = omega (arith, found) in
-      ap (λ (i : ℕ). take i (drop (st .at) m)) z
+  abbrev lent : List ℕ
+  lent = take ((p + n) - p) (drop p m)
 
-  module _ (h : st .at + n ≡ length m → ⊥) where
-    judged-is : noted k slot (take ((st .at + n) - st .at) (drop (st .at) m)) st ≡ noted k slot (valueAt m (st .at)) st
-    judged-is = ap (λ (v : List ℕ). noted k slot v st) lent
+  lent-is : lent ≡ valueAt m p
+  lent-is =
+      let z : (p + n) - p ≡ lead inValue (drop p m) = omega (arith, found) in
+      ap (λ (i : ℕ). take i (drop p m)) z
 
-    goes-on : (r : Reading) → r ≡ noted k slot (take ((st .at + n) - st .at) (drop (st .at) m)) st
-        → andThen r (λ u. closed t m (moved u (st .at + n))) ≡ valued t k slot m st
-    unfolding valued
-    goes-on r w = rw (w, judged-is, ← found, lt-ltb (st .at + n) (length m) (value-there h))
+  -- what is shown of `value`
+  abbrev pub Values : Found → Type 0
+  Values x = (x ≡ reads (valuedBy t k f m p) ns) × Fine m p x
 
-    noted-here : Fine m (st .at) (noted k slot (take ((st .at + n) - st .at) (drop (st .at) m)) st)
-    noted-here = noted-fine m st g k slot (take ((st .at + n) - st .at) (drop (st .at) m))
+  pub value-none : p + n ≡ length m → (x : Found) → x ≡ stop 3 (p + n) → Values x
+  unfolding valuedBy
+  value-none h x w =
+      told m p x (stop 3 (p + n)) (reads (valuedBy t k f m p) ns) w
+      (rw (← found, h, le-ltb (length m) (length m) (omega arith))) (omega arith)
 
-    pub value-stops : (c q : ℕ) → stop c q ≡ noted k slot (take ((st .at + n) - st .at) (drop (st .at) m)) st → (x : Reading) → x ≡ stop c q → Values x
-    value-stops c q w x z =
-        told m (st .at) x (stop c q) (valued t k slot m st) z (goes-on (stop c q) w) (fine-stop m (st .at) _ c q w noted-here)
+  module _ (h : p + n ≡ length m → ⊥) where
+    abbrev Noted : Reading Notes
+    Noted = valueNoted k f lent p ns
 
-    module _ (s : State) (w : on s ≡ noted k slot (take ((st .at + n) - st .at) (drop (st .at) m)) st) where
-      pub value-good : Good m (moved s (st .at + n))
-      value-good =
-          good-at m s (st .at + n) (fine-on m (st .at) _ s w noted-here .0) (value-fits m (st .at) n (g .within) e)
+    value-there : p + n < length m
+    value-there = omega (arith, value-fits m p n (g .within) e)
 
-      pub value-closes : (x : Reading) → x ≡ closed t m (moved s (st .at + n)) → Fine m (st .at + n) x → Values x
-      value-closes x z f = (z ∙ goes-on (on s) w, later m (st .at) (st .at + n) (omega arith) x f)
+    goes-on : (r : Found) → r ≡ staying p Noted → onward r (λ u. reads (closedBy t m (p + n)) (u .notes)) ≡ reads (valuedBy t k f m p) ns
+    unfolding valuedBy
+    goes-on r w = rw (w, lent-is, ← found, lt-ltb (p + n) (length m) value-there) (sym (then-on p (closedBy t m (p + n)) (valueNoted k f (take n (drop p m)) p ns)))
+
+    pub value-stops : (c q : ℕ) → stop c q ≡ staying p Noted → (x : Found) → x ≡ stop c q → Values x
+    value-stops c q w x z = told m p x (stop c q) (reads (valuedBy t k f m p) ns) z (goes-on (stop c q) w) (fine-stop m p (staying p Noted) c q w (value-fine m p ns g k f lent))
+
+    module _ (s : Ended Notes) (w : on s ≡ staying p Noted) where
+      pub value-good : Good m (here (p + n) (s .notes))
+      value-good = good-at m s (p + n) (fine-on m p (staying p Noted) s w (value-fine m p ns g k f lent) .0) (value-fits m p n (g .within) e)
+
+      -- u is the state behind the value
+      pub value-closes : (u : Ended Notes) → u ≡ here (p + n) (s .notes) → (x : Found) → x ≡ reads (closedBy t m (u .at)) (u .notes) → Fine m (u .at) x → Values x
+      value-closes u a x z y = (z ∙ (rw a (goes-on (on s) w)), later m p (p + n) (omega arith) x (rw a at y))

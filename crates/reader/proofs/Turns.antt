@@ -1,177 +1,174 @@
--- A turn of the group reader: what is to be read from a row on, before the turn and after it; and an element, at its row's numbers. Assumes nothing.
+-- One turn of the group reader: what is due from a shape on, where its element was seen already or not; and each way on, by what its start tag says.
 use mathlib.Core.Path.{_≡_, refl, sym, ap, _∙_}
 use mathlib.Core.Bool.{Bool, true, false}
 use mathlib.Core.List.{List}
 use Prim.Native.Nat.{ℕ, zero, suc, _+_, _≤_, _<_}
-use native.Mathlib.Omega.{arith}
 use Prim.Native.String.{String}
-use lib.ListN.{length}
+use native.Mathlib.Omega.{arith}
+use borrow.Author.Tests.{leb-true, leb-false}
+use lib.Dec.{leb}
+use lib.ListN.{length, drop}
 use Rattle.text.specs.Truth.{pick}
-use Rattle.profile.specs.declared.Kind.{Kind}
-use Rattle.profile.specs.declared.Row.{Row}
-use Rattle.profile.specs.Tree.{Occ, more, Shape, end, leaf, group}
-use Rattle.profile.specs.Tags.{exactly, endTag, plainTag, startTag, isAmount}
-use Rattle.profile.specs.Profile.{profile, itemShape}
-use Rattle.profile.specs.Table.{tags, table, rowIn, kindOf, occOf, amountKind, opensBy, closesBy, width, due, Tied, Kept, Element}
-use Rattle.profile.proofs.Looks.{exactly-length}
-use Rattle.profile.proofs.Rows.{rows}
-use Rattle.notes.specs.declared.State.{State}
-use Rattle.notes.specs.Reading.{Reading, on, stop, andThen, Good}
+use Rattle.tags.specs.declared.Look.{Look}
+use Rattle.tags.specs.declared.Look.the-variants.{Whole, Cut, Other}
+use Rattle.tags.specs.Tags.{skipped, look, onLook, exactly, endTag}
+use Rattle.tags.proofs.Looks.{exactly-length}
+use Rattle.profile.specs.Version.{Version}
+use Rattle.profile.specs.Tree.{Occ, once, optional, many, more, Shape, end, leaf, group}
+use Rattle.reading.specs.Trace.{Trace, upTo, fault, andThen, closed, missing, turn, again, follow, trace}
+use Rattle.reading.specs.Noted.{Reading, on, stop, onward, Ended}
+use Rattle.reading.proofs.Flat.{noted-then}
+use Rattle.table.specs.declared.Row.{Row}
+use Rattle.table.specs.Table.{occOf, opensBy, closesBy, width, tags, due, Element}
+use Rattle.notes.specs.declared.Notes.{Notes}
+use Rattle.notes.specs.Notes.{inNotes}
+use Rattle.notes.specs.Steps.{reads}
+use Rattle.reader.specs.declared.Choice.{Choice}
 use Rattle.reader.specs.declared.Choice.the-variants.{Enter, Pass, Stop}
-use Rattle.reader.proofs.Steps.{enter-fits}
-use Rattle.reader.specs.Reader.{skipped, closed, tagged, entered, valued, turn, again, follow, leafBody, groupBody, read, element}
+use Rattle.reader.specs.Reader.{orElse, tagged, closedBy, occIn, nameIn, tagIn, elementIn, restIn}
 
--- what is due from a shape on, read; where its element was seen already it may come again, f times more
-abbrev pub from : ℕ → Bool → Shape → List ℕ → State → Reading
-from f seen (end n) m st = closed (exactly (endTag n)) m (skipped m st)
-from f seen (leaf o n k slot rest) m st =
-    turn (pick seen more o) (startTag k n) m (leafBody o n k slot m)
-    (follow f (pick seen more o) (startTag k n) m (leafBody o n k slot m) (read rest m)) (read rest m) st
-from f seen (group o n inner rest) m st =
-    turn (pick seen more o) (exactly (plainTag n)) m (groupBody o n (read inner m) m)
-    (follow f (pick seen more o) (exactly (plainTag n)) m (groupBody o n (read inner m) m) (read rest m)) (read rest m) st
+abbrev Found : Type 0
+Found = Reading (Ended Notes)
 
-pub start : (sh : Shape) (m : List ℕ) (st : State) → read sh m st ≡ from (length m) false sh m st
-start (end n) m st = refl
-start (leaf o n k slot rest) m st = refl
-start (group o n inner rest) m st = refl
+-- ---- what a start tag says, and what is read then
+abbrev chosen : Choice → Found → Found → Found
+chosen Enter a b = a
+chosen Pass a b = b
+chosen (Stop n p) a b = stop n p
 
-module _ (f : ℕ) (tag : List (ℕ → Bool)) (m : List ℕ) (body rest : State → Reading) where
-  follow-rest : (occ : ℕ) → occ < 2 → follow f (occOf occ) tag m body rest ≡ rest
-  follow-rest zero h = refl
-  follow-rest (suc zero) h = refl
-  follow-rest (suc (suc n)) h = absurd (omega arith)
+module _ (m : List ℕ) where
+  turn-reads : (o : Occ) (n : String) (tag : List (ℕ → Bool)) (body next rest : ℕ → Trace) (p : ℕ) (x : Notes)
+      → reads (turn o n tag m body next rest p) x
+      ≡ chosen (tagged o tag m (skipped m p)) (onward (reads (body (skipped m p)) x) (λ r. reads (next (r .at)) (r .notes))) (reads (rest (skipped m p)) x)
+  unfolding tagged
+  turn-reads o n tag body next rest p x = go o (look tag (drop (skipped m p) m))
+    where
+      q : ℕ
+      q = skipped m p
 
-  follow-again : (occ : ℕ) → 2 ≤ occ → follow f (occOf occ) tag m body rest ≡ again f tag m body rest
-  follow-again zero h = absurd (omega arith)
-  follow-again (suc zero) h = absurd (omega arith)
-  follow-again (suc (suc zero)) h = refl
-  follow-again (suc (suc (suc n))) h = refl
+      go : (o : Occ) (l : Look) → reads (onLook l (andThen (body q) next) (fault 3 (length m)) (missing o n q (rest q))) x
+          ≡ chosen (onLook l Enter (Stop 3 (length m)) (orElse o q)) (onward (reads (body q) x) (λ r. reads (next (r .at)) (r .notes))) (reads (rest q) x)
+      go o Whole = noted-then inNotes (body q) next x
+      go o Cut = refl
+      go once Other = refl
+      go optional Other = refl
+      go many Other = refl
+      go more Other = refl
 
-  follow-more : (x : Occ) (occ : ℕ) → occOf occ ≡ x → 2 ≤ occ → follow f x tag m body rest ≡ again f tag m body rest
-  follow-more x occ e h = rw (← e) (follow-again occ h)
+  -- ---- what is due from an element on; where it was seen already it may come again, i times more
+  abbrev following : Occ → ℕ → Shape → ℕ → Trace
+  following o i sh = follow o i (nameIn sh) (tagIn sh) m (elementIn sh m) (trace (restIn sh) m)
 
-module _ (m : List ℕ) (st : State) (k : ℕ) (r : Row) (f : ℕ) (seen : Bool) where
-  pub ended : (sh : Shape) → Tied k sh r → r .kind ≡ 0 → closed (closesBy tags r) m (skipped m st) ≡ from f seen sh m st
-  ended (end n) t z = rw (t .close)
-  ended (leaf o n kd s rest) t z = absurd (omega arith)
-  ended (group o n inner rest) t z = absurd (omega arith)
+  abbrev atElement : ℕ → Bool → Shape → ℕ → Trace
+  atElement i seen sh = turn (pick seen more (occIn sh)) (nameIn sh) (tagIn sh) m (elementIn sh m) (following (pick seen more (occIn sh)) i sh) (trace (restIn sh) m)
 
-  module _ (occ : ℕ) (now : occOf occ ≡ pick seen more (occOf (r .occ))) (some : r .kind ≡ 0 → ⊥) where
-    pub stopped : (sh : Shape) → Tied k sh r → (n q : ℕ) → Stop n q ≡ tagged (occOf occ) (opensBy tags r) m (skipped m st .at) → stop n q ≡ from f seen sh m st
-    stopped (end _) t n q e = absurd (some (t .kind))
-    stopped (leaf o _ kd s rest) t n q e = rw (← t .occ, ← now, ← t .start, ← e)
-    stopped (group o _ inner rest) t n q e = rw (← t .occ, ← now, ← t .start, ← e)
+  abbrev pub from : ℕ → Bool → Shape → ℕ → Trace
+  from i seen (end n) p = closed n m (skipped m p)
+  from i seen (leaf o n k f rest) p = atElement i seen (leaf o n k f rest) p
+  from i seen (group o n inner rest) p = atElement i seen (group o n inner rest) p
 
-    pub passed : (sh : Shape) → Tied k sh r → Pass ≡ tagged (occOf occ) (opensBy tags r) m (skipped m st .at) → from f seen sh m st ≡ read (due (r .next)) m (skipped m st)
-    passed (end _) t e = absurd (some (t .kind))
-    passed (leaf o _ kd s rest) t e = rw (← t .occ, ← now, ← t .start, ← e, t .next)
-    passed (group o _ inner rest) t e = rw (← t .occ, ← now, ← t .start, ← e, t .next)
+  pub start : (sh : Shape) (p : ℕ) → trace sh m p ≡ from (length m) false sh p
+  start (end n) p = refl
+  start (leaf o n k f rest) p = refl
+  start (group o n inner rest) p = refl
 
-    module _ (e : Enter ≡ tagged (occOf occ) (opensBy tags r) m (skipped m st .at)) where
-      pub failed : (sh : Shape) → Tied k sh r → (n q : ℕ) → stop n q ≡ element sh m (skipped m st) → stop n q ≡ from f seen sh m st
-      failed (end _) t n q c = absurd (some (t .kind))
-      failed (leaf o _ kd s rest) t n q c = rw (← c, ← t .occ, ← now, ← t .start, ← e)
-      failed (group o _ inner rest) t n q c = rw (← c, ← t .occ, ← now, ← t .start, ← e)
+  here : (sh : Shape) → Element sh → (i : ℕ) (seen : Bool) (p : ℕ) → from i seen sh p ≡ atElement i seen sh p
+  here (end n) e i seen p = absurd e
+  here (leaf o n k f rest) e i seen p = refl
+  here (group o n inner rest) e i seen p = refl
 
-      pub gone-on : (sh : Shape) → Tied k sh r → (u : State) → on u ≡ element sh m (skipped m st) → occ < 2 → from f seen sh m st ≡ read (due (r .next)) m u
-      gone-on (end _) t u c h = absurd (some (t .kind))
-      gone-on (leaf o _ kd s rest) t u c h = rw (← c, ← t .occ, ← now, ← t .start, ← e, t .next, follow-rest f _ _ _ _ occ h)
-      gone-on (group o _ inner rest) t u c h = rw (← c, ← t .occ, ← now, ← t .start, ← e, t .next, follow-rest f _ _ _ _ occ h)
+  follow-rest : (sh : Shape) (i occ : ℕ) → occ < 2 → following (occOf occ) i sh ≡ trace (restIn sh) m
+  follow-rest sh i zero h = refl
+  follow-rest sh i (suc zero) h = refl
+  follow-rest sh i (suc (suc n)) h = absurd (omega arith)
 
-      pub repeated : (sh : Shape) → Tied k sh r → (u : State) → on u ≡ element sh m (skipped m st) → 2 ≤ occ → (g : ℕ) → f ≡ suc g → from f seen sh m st ≡ from g true sh m u
-      repeated (end _) t u c h g q = absurd (some (t .kind))
-      repeated (leaf o n kd s rest) t u c h g q =
-          let x : occOf occ ≡ pick seen more o = now ∙ ap (pick seen more) (t .occ) in
-          let d : Enter ≡ tagged (pick seen more o) (startTag kd n) m (skipped m st .at) = rw (x, t .start) at e in
-          rw (← c, ← d, follow-more f (startTag kd n) m (leafBody o n kd s m) (read rest m) (pick seen more o) occ x h, q)
-      repeated (group o n inner rest) t u c h g q =
-          let x : occOf occ ≡ pick seen more o = now ∙ ap (pick seen more) (t .occ) in
-          let d : Enter ≡ tagged (pick seen more o) (exactly (plainTag n)) m (skipped m st .at) = rw (x, t .start) at e in
-          rw (← c, ← d, follow-more f (exactly (plainTag n)) m (groupBody o n (read inner m) m) (read rest m) (pick seen more o) occ x h, q)
+  follow-again : (sh : Shape) (i occ : ℕ) → 2 ≤ occ → following (occOf occ) i sh ≡ again i (nameIn sh) (tagIn sh) m (elementIn sh m) (trace (restIn sh) m)
+  follow-again sh i zero h = absurd (omega arith)
+  follow-again sh i (suc zero) h = absurd (omega arith)
+  follow-again sh i (suc (suc zero)) h = refl
+  follow-again sh i (suc (suc (suc n))) h = refl
 
--- ---- a row of the table, as the code reads it
-pub row-tied : (rs : List (List ℕ)) (k : ℕ) (r : Row) → r ≡ rowIn rs k → rs ≡ table → k < 84 → Tied k (due k) r × Kept r
-row-tied rs k r e f h = rw (e, f) (rows k h)
+  -- an end tag, by a row's tests
+  pub closed-by : (n : String) (t : List (ℕ → Bool)) (p : ℕ) → t ≡ exactly (endTag n) → closedBy t m p ≡ closed n m p
+  unfolding closedBy closed
+  closed-by n t p e = rw (e, exactly-length (endTag n))
 
--- a row of no end is an element's
-pub element-row : (k : ℕ) (r : Row) (sh : Shape) → Tied k sh r → (r .kind ≡ 0 → ⊥) → Element sh
-element-row k r (end n) t h = absurd (h (t .kind))
-element-row k r (leaf o n kd s rest) t h = tt
-element-row k r (group o n inner rest) t h = tt
+-- ---- what a row tells of the element that is due there
+pub record Tells (v : Version) (k : ℕ) (sh : Shape) (r : Row) : Type 0 where
+  pub element : Element sh
+  pub occ : occOf (r .occ) ≡ occIn sh
+  pub start : opensBy (tags v) r ≡ tagIn sh
+  pub width : width r ≡ length (tagIn sh)
+  pub later : k < r .next
+  pub next : due v (r .next) ≡ restIn sh
 
-pub later-row : (k : ℕ) (r : Row) (sh : Shape) → Tied k sh r → (r .kind ≡ 0 → ⊥) → k < r .next
-later-row k r (end n) t h = absurd (h (t .kind))
-later-row k r (leaf o n kd s rest) t h = t .later
-later-row k r (group o n inner rest) t h = t .later
+module _ (m : List ℕ) (v : Version) (k : ℕ) (sh : Shape) (r : Row) (t : Tells v k sh r) (i : ℕ) (seen : Bool) (occ : ℕ) (now : occOf occ ≡ pick seen more (occOf (r .occ))) (p : ℕ) (x : Notes) where
+  abbrev q : ℕ
+  q = skipped m p
 
--- the lengths of its tags
-module _ (k : ℕ) (r : Row) (names : List ℕ) (e : names ≡ tags) where
-  shut : (n : _) → closesBy tags r ≡ exactly (endTag n) → r .finish ≡ length (endTag n) → r .finish ≡ length (closesBy names r)
-  shut n c f = rw (e, c) (f ∙ sym (exactly-length (endTag n)))
+  is-now : occOf occ ≡ pick seen more (occIn sh)
+  is-now = now ∙ ap (pick seen more) (t .occ)
 
-  pub end-finish : (sh : Shape) → Tied k sh r → r .kind ≡ 0 → r .finish ≡ length (closesBy names r)
-  end-finish (end n) t z = shut n (t .close) (t .finish)
-  end-finish (leaf o n kd s rest) t z = absurd (omega arith)
-  end-finish (group o n inner rest) t z = absurd (omega arith)
+  -- the way that the row's start tag says
+  abbrev pub Says : Choice → Type 0
+  Says c = c ≡ tagged (occOf occ) (opensBy (tags v) r) m q
 
-  pub leaf-finish : (sh : Shape) → Tied k sh r → Element sh → (r .kind ≡ 1 → ⊥) → r .finish ≡ length (closesBy names r)
-  leaf-finish (end n) t x z = absurd x
-  leaf-finish (leaf o n kd s rest) t x z = shut n (t .close) (t .finish)
-  leaf-finish (group o n inner rest) t x z = absurd (z (t .kind))
+  turned : (c : Choice) → Says c
+      → reads (from m i seen sh p) x ≡ chosen c (onward (reads (elementIn sh m q) x) (λ s. reads (following m (occOf occ) i sh (s .at)) (s .notes))) (reads (trace (restIn sh) m q) x)
+  turned c e =
+      ap (λ (t : Trace). reads t x) (here m sh (t .element) i seen p)
+      ∙ (turn-reads m (pick seen more (occIn sh)) (nameIn sh) (tagIn sh) (elementIn sh m) (following m (pick seen more (occIn sh)) i sh) (trace (restIn sh) m) p x
+      ∙ rw (← is-now, ← t .start, ← e))
 
-  pub start-width : (sh : Shape) → Tied k sh r → Element sh → width r ≡ length (opensBy names r)
-  start-width (end n) t x = absurd x
-  start-width (leaf o n kd s rest) t x = rw (e, t .start) (t .width)
-  start-width (group o n inner rest) t x = rw (e, t .start) (t .width)
+  pub stopped : (n y : ℕ) → Says (Stop n y) → reads (from m i seen sh p) x ≡ stop n y
+  stopped n y e = turned (Stop n y) e
 
--- ---- an element, at its row's numbers
-module _ (k : ℕ) (r : Row) (m : List ℕ) (st : State) where
-  abbrev In : Reading
-  In = entered (occOf (r .occ)) (amountKind (r .kind)) (width r) m st
+  pub passed : Says Pass → reads (from m i seen sh p) x ≡ reads (trace (due v (r .next)) m q) x
+  passed e = rw (t .next) (turned Pass e)
 
-  leaf-in : (o : Occ) (n : String) (kd : Kind) (s : ℕ) (rest : Shape) → Tied k (leaf o n kd s rest) r → In ≡ entered o (isAmount kd) (length (startTag kd n)) m st
-  leaf-in o n kd s rest t = rw (t .width, t .amount, t .occ)
+  module _ (e : Says Enter) where
+    pub failed : (n y : ℕ) → stop n y ≡ reads (elementIn sh m q) x → reads (from m i seen sh p) x ≡ stop n y
+    failed n y c = turned Enter e ∙ rw (← c)
 
-  group-in : (o : Occ) (n : String) (inner rest : Shape) → Tied k (group o n inner rest) r → In ≡ entered o false (length (exactly (plainTag n))) m st
-  group-in o n inner rest t = rw (t .width, t .amount, t .occ)
+    module _ (s : Ended Notes) (c : on s ≡ reads (elementIn sh m q) x) where
+      pub gone-on : occ < 2 → reads (from m i seen sh p) x ≡ reads (trace (due v (r .next)) m (s .at)) (s .notes)
+      gone-on h = turned Enter e ∙ rw (← c, t .next, follow-rest m sh i occ h)
 
-  pub element-stops : (sh : Shape) → Tied k sh r → Element sh → (n q : ℕ) → stop n q ≡ In → stop n q ≡ element sh m st
-  element-stops (end _) t x n q c = absurd x
-  element-stops (leaf o a kd s rest) t x n q c = ap (λ (y : Reading). andThen y (valued (exactly (endTag a)) kd s m)) (c ∙ leaf-in o a kd s rest t)
-  element-stops (group o a inner rest) t x n q c = ap (λ (y : Reading). andThen y (read inner m)) (c ∙ group-in o a inner rest t)
+      pub repeated : 2 ≤ occ → (j : ℕ) → i ≡ suc j → reads (from m i seen sh p) x ≡ reads (from m j true sh (s .at)) (s .notes)
+      repeated h j f = turned Enter e ∙ rw (← c, follow-again m sh i occ h, f, here m sh (t .element) j true (s .at))
 
-  module _ (u : State) (c : on u ≡ In) where
-    pub element-group : (sh : Shape) → Tied k sh r → Element sh → r .kind ≡ 1 → read (due (k + 1)) m u ≡ element sh m st
-    element-group (end _) t x z = absurd x
-    element-group (leaf o a kd s rest) t x z = absurd (omega arith)
-    element-group (group o a inner rest) t x z =
-        ap (λ (y : Shape). read y m u) (t .first) ∙ ap (λ (y : Reading). andThen y (read inner m)) (c ∙ group-in o a inner rest t)
+-- ---- the remaining depth of the tree: a group's is one more than the deepest of its elements'
+abbrev deeper : ℕ → ℕ → ℕ
+deeper a b = pick (leb a b) b a
 
-    pub element-value : (sh : Shape) → Tied k sh r → Element sh → (r .kind ≡ 1 → ⊥) → valued (closesBy tags r) (kindOf (r .kind)) (r .slot) m u ≡ element sh m st
-    element-value (end _) t x z = absurd x
-    element-value (leaf o a kd s rest) t x z =
-        rw (t .close, t .judged, t .noted) (ap (λ (y : Reading). andThen y (valued (exactly (endTag a)) kd s m)) (c ∙ leaf-in o a kd s rest t))
-    element-value (group o a inner rest) t x z = absurd (z (t .kind))
+abbrev pub deep : Shape → ℕ
+deep (end n) = 1
+deep (leaf o n k f rest) = deep rest
+deep (group o n inner rest) = deeper (suc (deep inner)) (deep rest)
 
-pub group-below : (k : ℕ) (r : Row) (sh : Shape) → Tied k sh r → Element sh → r .kind ≡ 1 → k + 1 < 84
-group-below k r (end n) t e z = absurd e
-group-below k r (leaf o n kd s rest) t e z = absurd (omega arith)
-group-below k r (group o n inner rest) t e z = t .below
+abbrev pub deepIn : Shape → ℕ
+deepIn (end n) = 0
+deepIn (leaf o n k f rest) = 0
+deepIn (group o n inner rest) = deep inner
 
--- where an element's start tag lies whole, it lies within the message
-pub within : (k : ℕ) (r : Row) (names : List ℕ) → names ≡ tags → (m : List ℕ) (rs : List (List ℕ)) → rs ≡ table → r ≡ rowIn rs k → (q : State) → Good m q → (occ : ℕ)
-    → Tied k (due k) r → Element (due k) → Enter ≡ tagged (occOf occ) (opensBy names r) m (q .at) → q .at + width (rowIn table k) ≤ length m
-within k r names e m rs f h q g occ t x c =
-    let w : width (rowIn table k) ≡ width r = ap width (sym (h ∙ ap (λ (l : List (List ℕ)). rowIn l k) f)) in
-    omega (arith, w, start-width k r names e (due k) t x, enter-fits (occOf occ) (opensBy names r) m (q .at) (g .within) c)
+deeper-both : (a b : ℕ) → (a ≤ deeper a b) × (b ≤ deeper a b)
+deeper-both a b = go (leb a b) refl
+  where
+    go : (c : Bool) → leb a b ≡ c → (a ≤ pick c b a) × (b ≤ pick c b a)
+    go true e = (leb-true a b e, omega arith)
+    go false e = (omega arith, omega (arith, leb-false a b e))
 
--- what is due first is the whole profile
-pub due-first : due 0 ≡ profile
-unfolding due profile
-due-first = refl
+some-deep : (sh : Shape) → 1 ≤ deep sh
+some-deep (end n) = omega arith
+some-deep (leaf o n k f rest) = some-deep rest
+some-deep (group o n inner rest) = omega (arith, some-deep rest, deeper-both (suc (deep inner)) (deep rest) .1)
 
--- and row 16 is the item
-pub due-item : due 16 ≡ itemShape
-unfolding due profile itemShape
-due-item = refl
+pub rest-deep : (sh : Shape) → deep (restIn sh) ≤ deep sh
+rest-deep (end n) = omega arith
+rest-deep (leaf o n k f rest) = omega arith
+rest-deep (group o n inner rest) = deeper-both (suc (deep inner)) (deep rest) .1
+
+pub element-deep : (sh : Shape) → deepIn sh < deep sh
+element-deep (end n) = omega arith
+element-deep (leaf o n k f rest) = some-deep rest
+element-deep (group o n inner rest) = deeper-both (suc (deep inner)) (deep rest) .0

@@ -1,90 +1,129 @@
--- The whole profile, read from a place on, where the message is not too long. Assumes nothing.
-use mathlib.Core.Path.{_≡_, sym, ap, _∙_}
+-- The whole profile, or one item, read from a place on, where the message is not too long.
+use mathlib.Core.Path.{_≡_, refl, sym, ap, _∙_}
 use mathlib.Core.Bool.{true, false}
-use mathlib.Core.List.{List}
+use mathlib.Core.List.{List, []}
 use Prim.Native.Nat.{ℕ, _+_, _≤_, _<_}
 use native.Mathlib.Omega.{arith}
 use borrow.Author.Tests.{le-leb, lt-leb}
-use lib.ListN.{length}
-use Rattle.profile.specs.declared.Row.{Row}
-use Rattle.profile.specs.Tree.{once, Shape}
-use Rattle.profile.specs.Tags.{exactly, plainTag}
-use Rattle.profile.specs.Profile.{profile, itemShape}
-use Rattle.profile.specs.Table.{tags, table, rowIn, opensBy, width, due, Element}
-use Rattle.notes.specs.declared.State.{State}
-use Rattle.notes.specs.Reading.{Reading, stop, moved, Good, Fine}
-use Rattle.notes.specs.Noting.{fresh}
+use lib.ListN.{length, drop}
+use Rattle.tags.specs.declared.Look.{Look}
+use Rattle.tags.specs.declared.Look.the-variants.{Whole, Cut, Other}
+use Rattle.tags.specs.Tags.{skipped, look, onLook, plainTag}
+use Rattle.tags.proofs.Looks.{exactly-length}
+use Rattle.profile.specs.Version.{Version}
+use Rattle.profile.specs.Limits.{mostBytes}
+use Rattle.profile.specs.Tree.{once, many, Shape, end, group}
+use Rattle.profile.specs.Profile.{profile, inItem, itemName, bulkName}
+use Rattle.reading.specs.Trace.{Trace, met, upTo, fault, andThen, missing, trace}
+use Rattle.reading.specs.Noted.{Reading, on, stop, Ended}
+use Rattle.table.specs.declared.Row.{Row}
+use Rattle.table.specs.Table.{tags, table, manyRows, rowIn, width, opensBy, due, itemRow, Element}
+use Rattle.table.proofs.Tied.{Tied}
+use Rattle.table.proofs.Rows.{row-tied, due-first, due-item, item-element, item-row, item-tag}
+use Rattle.items.specs.Alone.{itemTag, itemBody, alone}
+use Rattle.notes.specs.declared.Notes.{Notes}
+use Rattle.notes.specs.Notes.{fresh}
+use Rattle.notes.specs.Steps.{reads, Good, Fine}
+use Rattle.notes.proofs.Notings.{here}
 use Rattle.notes.proofs.Stays.{later}
 use Rattle.reader.specs.declared.Choice.{Choice}
 use Rattle.reader.specs.declared.Choice.the-variants.{Enter, Pass, Stop}
-use Rattle.reader.specs.Reader.{skipped, tagged, chosen, read, element, fits, messageAt, itemAt}
-use Rattle.reader.proofs.Steps.{told, stop-within}
-use Rattle.reader.proofs.Turns.{row-tied, within, due-first, due-item}
+use Rattle.reader.specs.Reader.{orElse, tagged, elementIn, fits, messageAt, itemAt}
+use Rattle.reader.proofs.Steps.{told, stop-within, enter-fits}
 
-module _ (m : List ℕ) (p : ℕ) where
-  long : 16777216 < length m → fits m p ≡ false
-  long h = rw (lt-leb (length m) 16777216 h)
+abbrev Found : Type 0
+Found = Reading (Ended Notes)
 
-  far : length m ≤ 16777216 → length m < p → fits m p ≡ false
-  far h g = rw (le-leb (length m) 16777216 h, lt-leb p (length m) g)
+module _ (v : Version) (m : List ℕ) (p : ℕ) where
+  long : mostBytes < length m → fits m p ≡ false
+  long h = rw (lt-leb (length m) mostBytes h)
+
+  far : length m ≤ mostBytes → length m < p → fits m p ≡ false
+  far h g = rw (le-leb (length m) mostBytes h, lt-leb p (length m) g)
 
   -- what is shown of `message` and of `item`
-  abbrev pub Told : (List ℕ → ℕ → Reading) → Reading → Type 0
-  Told f x = (x ≡ f m p) × Fine m 0 x
+  abbrev pub Told : (Version → List ℕ → ℕ → Found) → Found → Type 0
+  Told f x = (x ≡ f v m p) × Fine m 0 x
 
-  pub message-long : 16777216 < length m → (x : Reading) → x ≡ stop 1 0 → Told messageAt x
+  pub message-long : mostBytes < length m → (x : Found) → x ≡ stop 1 0 → Told messageAt x
   unfolding messageAt
-  message-long h x e = told m 0 x (stop 1 0) (messageAt m p) e (rw (long h)) (omega arith)
+  message-long h x e = told m 0 x (stop 1 0) (messageAt v m p) e (rw (long h)) (omega arith)
 
-  pub message-far : length m ≤ 16777216 → length m < p → (x : Reading) → x ≡ stop 1 0 → Told messageAt x
+  pub message-far : length m ≤ mostBytes → length m < p → (x : Found) → x ≡ stop 1 0 → Told messageAt x
   unfolding messageAt
-  message-far h g x e = told m 0 x (stop 1 0) (messageAt m p) e (rw (far h g)) (omega arith)
+  message-far h g x e = told m 0 x (stop 1 0) (messageAt v m p) e (rw (far h g)) (omega arith)
 
-  pub item-long : 16777216 < length m → (x : Reading) → x ≡ stop 1 0 → Told itemAt x
+  pub item-long : mostBytes < length m → (x : Found) → x ≡ stop 1 0 → Told itemAt x
   unfolding itemAt
-  item-long h x e = told m 0 x (stop 1 0) (itemAt m p) e (rw (long h)) (omega arith)
+  item-long h x e = told m 0 x (stop 1 0) (itemAt v m p) e (rw (long h)) (omega arith)
 
-  pub item-far : length m ≤ 16777216 → length m < p → (x : Reading) → x ≡ stop 1 0 → Told itemAt x
+  pub item-far : length m ≤ mostBytes → length m < p → (x : Found) → x ≡ stop 1 0 → Told itemAt x
   unfolding itemAt
-  item-far h g x e = told m 0 x (stop 1 0) (itemAt m p) e (rw (far h g)) (omega arith)
+  item-far h g x e = told m 0 x (stop 1 0) (itemAt v m p) e (rw (far h g)) (omega arith)
 
-  module _ (h : length m ≤ 16777216) (g : p ≤ length m) (st : State) (e : st ≡ moved fresh p) where
+  module _ (h : length m ≤ mostBytes) (g : p ≤ length m) (s : Ended Notes) (e : s ≡ here p fresh) where
     near : fits m p ≡ true
-    near = rw (le-leb (length m) 16777216 h, le-leb p (length m) g)
+    near = rw (le-leb (length m) mostBytes h, le-leb p (length m) g)
 
-    pub begins : Good m st
+    pub begins : Good m s
     begins = rw e (record { small = h; within = g; counted = omega arith; summed = omega arith })
 
-    pub message-is : (x : Reading) → x ≡ read (due 0) m st → Fine m (st .at) x → Told messageAt x
+    pub message-is : (x : Found) → x ≡ reads (trace (due v 0) m (s .at)) (s .notes) → Fine m (s .at) x → Told messageAt x
     unfolding messageAt
-    message-is x w f = (w ∙ rw (near, e, due-first), later m 0 (st .at) (omega arith) x f)
+    message-is x w f = (w ∙ rw (near, e, due-first v), later m 0 (s .at) (omega arith) x f)
 
-    module _ (q : State) (at : q ≡ skipped m st) (good : Good m q) (w : Choice) (chose : w ≡ tagged once (exactly (plainTag "DrctDbtTxInf")) m (q .at)) where
-      here : itemAt m p ≡ chosen w (element itemShape m q) (stop 4 (q .at))
-      unfolding itemAt
-      here = rw (near, chose, at, e)
+    -- ---- an item, whose start tag is due after white space
+    module _ (q : Ended Notes) (at : q ≡ here (skipped m (s .at)) (s .notes)) (good : Good m q) (w : Choice) (chose : w ≡ tagged once itemTag m (q .at)) where
+      then-upTo : (t : Trace) → andThen t upTo ≡ t
+      then-upTo (met e t) = ap (met e) (then-upTo t)
+      then-upTo (upTo p) = refl
+      then-upTo (fault n q) = refl
 
-      pub item-enters : w ≡ Enter → (x : Reading) → x ≡ element (due 16) m q → Fine m (q .at + 1) x → Told itemAt x
-      item-enters c x y f = (y ∙ ap (λ (s : Shape). element s m q) due-item ∙ sym (here ∙ ap (λ (z : Choice). chosen z (element itemShape m q) (stop 4 (q .at))) c), later m 0 (q .at + 1) (omega arith) x f)
+      abbrev chosen : Ended Notes → Choice → Found
+      chosen q Enter = reads (itemBody v m (q .at)) (q .notes)
+      chosen q Pass = stop 4 (q .at)
+      chosen q (Stop n i) = stop n i
 
-      pub item-passes : w ≡ Pass → (x : Reading) → x ≡ stop 4 (q .at) → Told itemAt x
-      item-passes c x y = told m 0 x (stop 4 (q .at)) (itemAt m p) y (sym (here ∙ ap (λ (z : Choice). chosen z (element itemShape m q) (stop 4 (q .at))) c)) (good .within)
+      is-at : q ≡ here (skipped m p) fresh
+      is-at = at ∙ rw e
 
-      pub item-stops : (n k : ℕ) → w ≡ Stop n k → (x : Reading) → x ≡ stop n k → Told itemAt x
-      item-stops n k c x y =
-          told m 0 x (stop n k) (itemAt m p) y (sym (here ∙ ap (λ (z : Choice). chosen z (element itemShape m q) (stop 4 (q .at))) c))
-          (stop-within once (exactly (plainTag "DrctDbtTxInf")) m (q .at) n k (good .within) (sym c ∙ chose))
+      here-is : itemAt v m p ≡ chosen q w
+      unfolding itemAt alone tagged
+      here-is = rw near (go (look itemTag (drop (skipped m p) m)) ∙ sym (ap (chosen q) chose ∙ ap (λ (u : Ended Notes). chosen u (tagged once itemTag m (u .at))) is-at))
+        where
+          go : (l : Look) → reads (onLook l (andThen (itemBody v m (skipped m p)) upTo) (fault 3 (length m)) (fault 4 (skipped m p))) fresh
+              ≡ chosen (here (skipped m p) fresh) (onLook l Enter (Stop 3 (length m)) (Stop 4 (skipped m p)))
+          go Whole = ap (λ (t : Trace). reads t fresh) (then-upTo (itemBody v m (skipped m p)))
+          go Cut = refl
+          go Other = refl
 
--- the item's row: its start tag, and what it needs to be entered
-module _ (m names : List ℕ) (rs : List (List ℕ)) (r : Row) (e : names ≡ tags) (f : rs ≡ table) (h : r ≡ rowIn rs 16) where
-  pub item-tag : opensBy names r ≡ exactly (plainTag "DrctDbtTxInf")
-  unfolding opensBy tags table
-  item-tag = rw (h, e, f)
+      pub item-enters : w ≡ Enter → (x : Found) → x ≡ reads (elementIn (due v (itemRow v)) m (q .at)) (q .notes) → Fine m (q .at + 1) x → Told itemAt x
+      item-enters c x y f =
+          (y ∙ (ap (λ (sh : Shape). reads (elementIn sh m (q .at)) (q .notes)) (due-item v) ∙ sym (here-is ∙ ap (chosen q) c)), later m 0 (q .at + 1) (omega arith) x f)
 
-  pub item-element : Element (due 16)
-  unfolding due profile
-  item-element = tt
+      pub item-passes : w ≡ Pass → (x : Found) → x ≡ stop 4 (q .at) → Told itemAt x
+      item-passes c x y = told m 0 x (stop 4 (q .at)) (itemAt v m p) y (sym (here-is ∙ ap (chosen q) c)) (good .within)
 
-  pub item-within : (q : State) → Good m q → Enter ≡ tagged once (opensBy names r) m (q .at) → q .at + width (rowIn table 16) ≤ length m
-  item-within q g c =
-      within 16 r names e m rs f h q g 0 (row-tied rs 16 r h f (omega arith) .0) item-element c
+      pub item-stops : (n k : ℕ) → w ≡ Stop n k → (x : Found) → x ≡ stop n k → Told itemAt x
+      item-stops n k c x y = told m 0 x (stop n k) (itemAt v m p) y (sym (here-is ∙ ap (chosen q) c)) (stop-within once itemTag m (q .at) n k (good .within) (sym c ∙ chose))
+
+-- ---- the item's row: it may be entered where its start tag lies whole
+module _ (v : Version) (names : List ℕ) (rs : List (List ℕ)) (r : Row) (k : ℕ) (e : names ≡ tags v) (f : rs ≡ table v) (is : k ≡ itemRow v) (h : r ≡ rowIn rs k) where
+  row-is : r ≡ rowIn rs (itemRow v)
+  row-is = h ∙ ap (rowIn rs) is
+
+  pub item-start : opensBy names r ≡ itemTag
+  item-start = item-tag v names rs r e f row-is
+
+  pub item-below : k < manyRows v
+  item-below = omega (arith, is, item-row v)
+
+  pub item-there : Element (due v k)
+  item-there = rw is (item-element v)
+
+  pub item-within : (m : List ℕ) (p : ℕ) → p ≤ length m → Enter ≡ tagged once (opensBy names r) m p → p + width (rowIn (table v) k) ≤ length m
+  item-within m p g c =
+      let t : Tied v (itemRow v) (group many itemName (inItem v) (end bulkName)) r = rw (due-item v) at (row-tied v rs (itemRow v) r row-is f (item-row v) .0) in
+      let w : width (rowIn (table v) k) ≡ width r = ap width (sym (h ∙ ap (λ (l : List (List ℕ)). rowIn l k) f)) in
+      let l : length (opensBy names r) ≡ width r = ap length item-start ∙ (exactly-length (plainTag itemName) ∙ sym (t .width)) in
+      omega (arith, w, l, enter-fits once (opensBy names r) m p g c)

@@ -1,4 +1,4 @@
--- Digits written from the last one on. Assumes nothing.
+-- Digits written from the last one on.
 use mathlib.Core.Path.{_≡_, refl, ap, _∙_}
 use mathlib.Core.List.{List, [], _∷_, _++_, append-assoc}
 use Prim.Native.Nat.{ℕ, zero, suc, _+_, _-_, _/_, _%_, _≤_, _<_}
@@ -6,12 +6,9 @@ use native.Mathlib.Nat.{add-zero}
 use native.Mathlib.Omega.{arith}
 use lib.ListN.{length, take, drop, set, length-append, length-set, take-append-drop}
 use lib.Seq.{drop-cons, getD-set-same, take-set-le, drop-set-lt}
-use Rattle.records.specs.Record.{digits, laid}
-
-pub length-digits : (n c : ℕ) → length (digits n c) ≡ n
-unfolding digits
-length-digits zero c = refl
-length-digits (suc n) c = length-append (digits n (c / 10)) ((48 + c % 10) ∷ []) ∙ (rw (length-digits n (c / 10)) (omega arith))
+use Rattle.postings.specs.Record.{digits}
+use Rattle.postings.proofs.Long.{length-digits}
+use Rattle.records.specs.Engine.{laid}
 
 module _ (at : ℕ) where
   -- the digits that are still to come, before those that are written

@@ -1,4 +1,4 @@
--- Fields laid one behind the other into a record of spaces. Assumes nothing.
+-- Fields laid one behind the other into a record of spaces.
 use mathlib.Core.Path.{_≡_, refl, ap, sym, _∙_}
 use mathlib.Core.List.{List, [], _∷_, _++_, append-assoc}
 use Prim.Native.Nat.{ℕ, zero, suc, _+_, _-_, _≤_, _<_}
@@ -9,15 +9,16 @@ use lib.ListN.{length, take, drop, getD, set, replicate, length-append, length-t
 use lib.Seq.{paste, paste-suc, take-all, take-length, take-nil, take-take, take-at, drop-at, set-at, drop-drop}
 use Rattle.text.specs.Truth.{lead}
 use Rattle.text.proofs.Scan.{rest-of, lead-le}
-use Rattle.profile.specs.Tags.{inValue}
-use Rattle.reader.specs.Reader.{valueAt}
-use Rattle.notes.specs.declared.State.{State}
-use Rattle.records.specs.Record.{padded, digits, fieldAt, recordOf, laid}
-use Rattle.records.proofs.Digits.{length-digits}
+use Rattle.tags.specs.Values.{inValue, valueAt}
+use Rattle.profile.specs.declared.Field.the-variants.{TxId, EndToEndId, MndtId, DbtrIban, CdtrIban, DbtrBic, ReqdColltnDt, SeqTp, CdtrId, CdtrBic}
+use Rattle.postings.specs.Record.{recordLength, padded, digits}
+use Rattle.notes.specs.declared.Notes.{Notes}
+use Rattle.records.specs.Engine.{fieldAt, recordOf, laid}
+use Rattle.postings.proofs.Long.{length-padded, length-digits}
 
 -- ---- a value laid byte by byte
 module _ (rec : List ℕ) (at : ℕ) (v : List ℕ) where
-  pub lay-more : (out : List ℕ) (i : ℕ) → length rec ≡ 256 → at + length v ≤ 256 → i < length v
+  pub lay-more : (out : List ℕ) (i : ℕ) → length rec ≡ recordLength → at + length v ≤ recordLength → i < length v
       → out ≡ paste rec at v i → set out (at + i) (getD v i 0) ≡ paste rec at v (i + 1)
   lay-more out i n fits h e = rw (e, add-one i) (paste-suc rec at v i 0 (omega arith) h)
 
@@ -56,7 +57,7 @@ module _ (m : List ℕ) (start width : ℕ) where
 
 -- ---- the record as far as it is written: its fields, and spaces behind them
 pub record So (at : ℕ) (d r : List ℕ) : Type 0 where
-  pub is : r ≡ d ++ replicate (256 - at) 32
+  pub is : r ≡ d ++ replicate (recordLength - at) 32
   pub long : length d ≡ at
 
 drop-replicate : (k n x : ℕ) → drop k (replicate n x) ≡ replicate (n - k) x
@@ -88,23 +89,19 @@ padded-is : (w : ℕ) (v : List ℕ) → padded w v ≡ take w v ++ replicate (w
 unfolding padded
 padded-is w v = take-padded w w v (omega arith)
 
-pub length-padded : (w : ℕ) (v : List ℕ) → length (padded w v) ≡ w
-unfolding padded
-length-padded w v = simp (length-take, length-append, length-replicate) (omega arith)
-
 module _ {at : ℕ} {d r : List ℕ} (s : So at d r) where
   -- whatever is laid next
-  laid-next : (u : List ℕ) → laid at u r ≡ (d ++ u) ++ replicate (256 - (at + length u)) 32
+  laid-next : (u : List ℕ) → laid at u r ≡ (d ++ u) ++ replicate (recordLength - (at + length u)) 32
   unfolding laid
   laid-next u =
       let n = length u in
-      let z : 256 - at - n ≡ 256 - (at + n) = omega arith in
-      let e : drop (at + n) (d ++ replicate (256 - at) 32) ≡ replicate (256 - (at + n)) 32 =
-      sym (drop-drop n at (d ++ replicate (256 - at) 32))
-      ∙ ap (drop n) (drop-at d (replicate (256 - at) 32) at (s .long))
-      ∙ drop-replicate n (256 - at) 32
+      let z : recordLength - at - n ≡ recordLength - (at + n) = omega arith in
+      let e : drop (at + n) (d ++ replicate (recordLength - at) 32) ≡ replicate (recordLength - (at + n)) 32 =
+      sym (drop-drop n at (d ++ replicate (recordLength - at) 32))
+      ∙ ap (drop n) (drop-at d (replicate (recordLength - at) 32) at (s .long))
+      ∙ drop-replicate n (recordLength - at) 32
       ∙ ap (λ (k : ℕ). replicate k 32) z in
-      rw (s .is, take-at d (replicate (256 - at) 32) at (s .long), e, append-assoc)
+      rw (s .is, take-at d (replicate (recordLength - at) 32) at (s .long), e, append-assoc)
 
   pub next-whole : {r′ : List ℕ} (w : ℕ) (u : List ℕ) → length u ≡ w → r′ ≡ laid at u r → So (at + w) (d ++ u) r′
   next-whole w u n e =
@@ -113,12 +110,12 @@ module _ {at : ℕ} {d r : List ℕ} (s : So at d r) where
         long = length-append d u ∙ (rw (s .long, n));
       }
 
-  pub next-padded : {r′ : List ℕ} (w : ℕ) (v : List ℕ) → at + w ≤ 256 → r′ ≡ laid at (take w v) r → So (at + w) (d ++ padded w v) r′
+  pub next-padded : {r′ : List ℕ} (w : ℕ) (v : List ℕ) → at + w ≤ recordLength → r′ ≡ laid at (take w v) r → So (at + w) (d ++ padded w v) r′
   next-padded w v fits e =
       let u = take w v in
-      let rest = 256 - (at + w) in
+      let rest = recordLength - (at + w) in
       let h : length u ≤ w = simp length-take (omega arith) in
-      let z : 256 - (at + length u) ≡ w - length u + rest = omega arith in
+      let z : recordLength - (at + length u) ≡ w - length u + rest = omega arith in
       let f : laid at u r ≡ (d ++ padded w v) ++ replicate rest 32 =
       laid-next u
       ∙ rw (z, ← replicate-append-replicate {A = ℕ} (w - length u) rest 32, padded-is w v) (simp append-assoc) in
@@ -129,33 +126,33 @@ pub ended : {d r : List ℕ} → So 255 d r → set r 255 10 ≡ d ++ (10 ∷ []
 ended {d} s = rw (s .is) (set-at d 32 [] 10 255 (s .long))
 
 -- ---- all fields
-pub blank : So 0 [] (replicate 256 32)
+pub blank : So 0 [] (replicate recordLength 32)
 blank = record { is = refl; long = refl }
 
-module _ (m : List ℕ) (t : State) where
+module _ (m : List ℕ) (n : Notes) where
   pub whole : {r0 r1 r2 r3 r4 r5 r6 r7 r8 r9 r10 : List ℕ}
-      → r0 ≡ laid 0 (take 35 (fieldAt m t 0)) (replicate 256 32)
-      → r1 ≡ laid 35 (take 35 (fieldAt m t 1)) r0
-      → r2 ≡ laid 70 (take 35 (fieldAt m t 2)) r1
-      → r3 ≡ laid 105 (take 34 (fieldAt m t 3)) r2
-      → r4 ≡ laid 139 (take 34 (fieldAt m t 4)) r3
-      → r5 ≡ laid 173 (take 11 (fieldAt m t 5)) r4
-      → r6 ≡ laid 184 (digits 11 (t .notes .cents)) r5
-      → r7 ≡ laid 195 (take 10 (fieldAt m t 6)) r6
-      → r8 ≡ laid 205 (take 4 (fieldAt m t 7)) r7
-      → r9 ≡ laid 209 (take 35 (fieldAt m t 8)) r8
-      → r10 ≡ laid 244 (take 11 (fieldAt m t 9)) r9
-      → set r10 255 10 ≡ recordOf m t
+      → r0 ≡ laid 0 (take 35 (fieldAt m n TxId)) (replicate recordLength 32)
+      → r1 ≡ laid 35 (take 35 (fieldAt m n EndToEndId)) r0
+      → r2 ≡ laid 70 (take 35 (fieldAt m n MndtId)) r1
+      → r3 ≡ laid 105 (take 34 (fieldAt m n DbtrIban)) r2
+      → r4 ≡ laid 139 (take 34 (fieldAt m n CdtrIban)) r3
+      → r5 ≡ laid 173 (take 11 (fieldAt m n DbtrBic)) r4
+      → r6 ≡ laid 184 (digits 11 (n .cents)) r5
+      → r7 ≡ laid 195 (take 10 (fieldAt m n ReqdColltnDt)) r6
+      → r8 ≡ laid 205 (take 4 (fieldAt m n SeqTp)) r7
+      → r9 ≡ laid 209 (take 35 (fieldAt m n CdtrId)) r8
+      → r10 ≡ laid 244 (take 11 (fieldAt m n CdtrBic)) r9
+      → set r10 255 10 ≡ recordOf m n
   unfolding recordOf
   whole e0 e1 e2 e3 e4 e5 e6 e7 e8 e9 e10 =
-      let s0 = next-padded blank 35 (fieldAt m t 0) (omega arith) e0 in
-      let s1 = next-padded s0 35 (fieldAt m t 1) (omega arith) e1 in
-      let s2 = next-padded s1 35 (fieldAt m t 2) (omega arith) e2 in
-      let s3 = next-padded s2 34 (fieldAt m t 3) (omega arith) e3 in
-      let s4 = next-padded s3 34 (fieldAt m t 4) (omega arith) e4 in
-      let s5 = next-padded s4 11 (fieldAt m t 5) (omega arith) e5 in
-      let s6 = next-whole s5 11 (digits 11 (t .notes .cents)) (length-digits 11 (t .notes .cents)) e6 in
-      let s7 = next-padded s6 10 (fieldAt m t 6) (omega arith) e7 in
-      let s8 = next-padded s7 4 (fieldAt m t 7) (omega arith) e8 in
-      let s9 = next-padded s8 35 (fieldAt m t 8) (omega arith) e9 in
-      ended (next-padded s9 11 (fieldAt m t 9) (omega arith) e10)
+      let s0 = next-padded blank 35 (fieldAt m n TxId) (omega arith) e0 in
+      let s1 = next-padded s0 35 (fieldAt m n EndToEndId) (omega arith) e1 in
+      let s2 = next-padded s1 35 (fieldAt m n MndtId) (omega arith) e2 in
+      let s3 = next-padded s2 34 (fieldAt m n DbtrIban) (omega arith) e3 in
+      let s4 = next-padded s3 34 (fieldAt m n CdtrIban) (omega arith) e4 in
+      let s5 = next-padded s4 11 (fieldAt m n DbtrBic) (omega arith) e5 in
+      let s6 = next-whole s5 11 (digits 11 (n .cents)) (length-digits 11 (n .cents)) e6 in
+      let s7 = next-padded s6 10 (fieldAt m n ReqdColltnDt) (omega arith) e7 in
+      let s8 = next-padded s7 4 (fieldAt m n SeqTp) (omega arith) e8 in
+      let s9 = next-padded s8 35 (fieldAt m n CdtrId) (omega arith) e9 in
+      ended (next-padded s9 11 (fieldAt m n CdtrBic) (omega arith) e10)

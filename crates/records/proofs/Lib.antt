@@ -1,5 +1,4 @@
-pub mod Fields
 pub mod Digits
+pub mod Fields
 pub mod Areas
-pub mod Order
 pub mod Once

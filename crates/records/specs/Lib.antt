@@ -1,4 +1,1 @@
-pub mod Record
-pub mod Area
-pub mod Example
-pub mod Order
+pub mod Engine

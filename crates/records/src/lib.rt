@@ -1,18 +1,26 @@
 // The posting records of an accepted message, written into a lent area.
 use judge::Verdict;
 use notes::Met;
-use notes::State;
+use notes::Notes;
+use profile::Field;
 ghost use mathlib.Core.Path.{_≡_};
+ghost use mathlib.Core.List.{_++_};
 ghost use Prim.Native.Nat.{_+_, _*_, _≤_};
-ghost use lib.ListN.{length, take};
-ghost use Rattle.reader.specs.Reader.{valueAt};
+ghost use lib.ListN.{length, take, drop, getD};
+ghost use Rattle.tags.specs.Values.{valueAt};
+ghost use Rattle.profile.specs.Fields.{numberOf};
+ghost use Rattle.reading.specs.Items.{theItems};
+ghost use Rattle.postings.specs.Record.{recordLength, digits};
+ghost use Rattle.postings.specs.Area.{recordsFor, recorded};
 ghost use Rattle.judge.specs.Verdict.{meant};
-ghost use Rattle.records.specs.Record.{digits, recordOf, laid};
-ghost use Rattle.records.specs.Area.{filled, recorded};
+ghost use Rattle.records.specs.Engine.{recordOf, laid, Room};
+
+// How many bytes a record has.
+pub const LENGTH: usize = 256;
 
 // A value's bytes, laid into the record from an offset on.
-fn lay(rec: [u8; 256], at: usize, v: &[u8]) -> [u8; 256]
-    requires { ⌜ at + length (now v) ≤ 256 ⌝ }
+fn lay(rec: [u8; LENGTH], at: usize, v: &[u8]) -> [u8; LENGTH]
+    requires { ⌜ at + length (now v) ≤ recordLength ⌝ }
     ensures { λ r. ⌜ r ≡ laid at (now (v .entry)) rec ⌝ }
 {
     let mut out = rec;
@@ -24,16 +32,32 @@ fn lay(rec: [u8; 256], at: usize, v: &[u8]) -> [u8; 256]
     out
 }
 
-// The value that starts at a place of the message, up to the next `<`: at most so many bytes of it, laid at an offset.
-fn put(rec: [u8; 256], at: usize, width: usize, m: &[u8], start: usize) -> [u8; 256]
-    requires { ⌜ at + width ≤ 256 ⌝ }
-    ensures { λ r. ⌜ r ≡ laid at (take width (valueAt (now (m .entry)) start)) rec ⌝ }
+// Where the last value of a field begins.
+fn start_of(starts: [u32; profile::FIELDS], f: Field) -> usize
+    ensures { λ r. ⌜ r ≡ getD starts (numberOf f) 0 ⌝ }
 {
+    let i = profile::number_of(f);
+    starts[i] as usize
+}
+
+// The value of a field, from where its start was noted up to the next `<`: at most so many bytes of it, laid at an offset.
+fn put(
+    rec: [u8; LENGTH],
+    at: usize,
+    width: usize,
+    m: &[u8],
+    starts: [u32; profile::FIELDS],
+    f: Field,
+) -> [u8; LENGTH]
+    requires { ⌜ at + width ≤ recordLength ⌝ }
+    ensures { λ r. ⌜ r ≡ laid at (take width (valueAt (now (m .entry)) (getD starts (numberOf f) 0))) rec ⌝ }
+{
+    let start = start_of(starts, f);
     if m.len() < start {
         return rec;
     }
     let s = &m[start..];
-    let n = profile::upto(s);
+    let n = tags::upto(s);
     if n < width {
         return lay(rec, at, &s[..n]);
     }
@@ -41,7 +65,7 @@ fn put(rec: [u8; 256], at: usize, width: usize, m: &[u8], start: usize) -> [u8; 
 }
 
 // The cents as 11 digits, laid at their offset.
-fn put_cents(rec: [u8; 256], cents: u64) -> [u8; 256]
+fn put_cents(rec: [u8; LENGTH], cents: u64) -> [u8; LENGTH]
     ensures { λ r. ⌜ r ≡ laid 184 (digits 11 cents) rec ⌝ }
 {
     let mut out = rec;
@@ -55,35 +79,34 @@ fn put_cents(rec: [u8; 256], cents: u64) -> [u8; 256]
     out
 }
 
-// The record of an item, from what reading it noted: 256 spaces, then each field at its offset.
-fn make_record(m: &[u8], st: State) -> [u8; 256]
-    ensures { λ r. ⌜ r ≡ recordOf (now (m .entry)) st ⌝ }
+// The record of an item, from what reading it noted: all spaces, then each field at its offset.
+fn make_record(m: &[u8], n: Notes) -> [u8; LENGTH]
+    ensures { λ r. ⌜ r ≡ recordOf (now (m .entry)) n ⌝ }
 {
-    let n = st.notes;
     let s = n.starts;
-    let mut rec = [32; 256];
-    rec = put(rec, 0, 35, m, s[0]); // TxId
-    rec = put(rec, 35, 35, m, s[1]); // EndToEndId
-    rec = put(rec, 70, 35, m, s[2]); // MndtId
-    rec = put(rec, 105, 34, m, s[3]); // debtor IBAN
-    rec = put(rec, 139, 34, m, s[4]); // creditor IBAN
-    rec = put(rec, 173, 11, m, s[5]); // debtor agent BIC
+    let mut rec = [32; LENGTH];
+    rec = put(rec, 0, 35, m, s, Field::TxId);
+    rec = put(rec, 35, 35, m, s, Field::EndToEndId);
+    rec = put(rec, 70, 35, m, s, Field::MndtId);
+    rec = put(rec, 105, 34, m, s, Field::DbtrIban);
+    rec = put(rec, 139, 34, m, s, Field::CdtrIban);
+    rec = put(rec, 173, 11, m, s, Field::DbtrBic);
     rec = put_cents(rec, n.cents);
-    rec = put(rec, 195, 10, m, s[6]); // ReqdColltnDt
-    rec = put(rec, 205, 4, m, s[7]); // SeqTp
-    rec = put(rec, 209, 35, m, s[8]); // creditor identifier
-    rec = put(rec, 244, 11, m, s[9]); // creditor agent BIC
+    rec = put(rec, 195, 10, m, s, Field::ReqdColltnDt);
+    rec = put(rec, 205, 4, m, s, Field::SeqTp);
+    rec = put(rec, 209, 35, m, s, Field::CdtrId);
+    rec = put(rec, 244, 11, m, s, Field::CdtrBic);
     rec[255] = 10;
     rec
 }
 
 // One record, written into its part of the area.
-fn write(part: &mut [u8], rec: [u8; 256])
-    requires { ⌜ length (now part) ≡ 256 ⌝ }
+fn write(part: &mut [u8], rec: [u8; LENGTH])
+    requires { ⌜ length (now part) ≡ recordLength ⌝ }
     ensures { λ _. ⌜ now (part .exit) ≡ rec ⌝ }
 {
     let mut i = 0;
-    while i < 256 {
+    while i < LENGTH {
         part[i] = rec[i];
         i += 1;
     }
@@ -91,8 +114,8 @@ fn write(part: &mut [u8], rec: [u8; 256])
 
 // The second walk over the items: each is read again, and its record goes to its part of the area.
 fn fill(m: &[u8], count: usize, first: usize, area: &mut [u8])
-    requires { ⌜ 256 * count ≤ length (now area) ⌝ }
-    ensures { λ _. ⌜ now (area .exit) ≡ filled count 0 (now (m .entry)) first (now (area .entry)) ⌝ }
+    requires { ⌜ Room (now m) count first (now area) ⌝ }
+    ensures { λ _. ⌜ now (area .exit) ≡ recordsFor (theItems (now (m .entry))) ++ drop (recordLength * count) (now (area .entry)) ⌝ }
 {
     let mut i = 0;
     let mut at = first;
@@ -103,10 +126,11 @@ fn fill(m: &[u8], count: usize, first: usize, area: &mut [u8])
         match met {
             Met::Stopped(_, _) => return,
             Met::On => {
-                let from = 256 * i;
-                let to = from + 256;
-                write(&mut area[from..to], make_record(m, st));
-                at = st.at;
+                let from = LENGTH * i;
+                let to = from + LENGTH;
+                let notes = st.notes;
+                write(&mut area[from..to], make_record(m, notes));
+                at = st.at as usize;
                 i += 1;
             }
         }
@@ -123,7 +147,7 @@ pub fn records(m: &[u8], area: &mut [u8]) -> Verdict
     match v {
         Verdict::Refused(number, place) => Verdict::Refused(number, place),
         Verdict::Accepted(count, cents) => {
-            if ((area.len() / 256) as u64) < count {
+            if ((area.len() / LENGTH) as u64) < count {
                 return Verdict::Refused(17, 0);
             }
             fill(m, count as usize, first, area);

@@ -1,257 +1,212 @@
--- Her third demand, in the digits of a value. Assumes nothing.
+-- Her third demand, in the digits of a value.
 use mathlib.Core.Path.{_≡_, refl, sym, ap, subst, _∙_}
-use mathlib.Core.Logic.{_≢_, _⊎_}
-use mathlib.Core.Bool.{true, not}
+use mathlib.Core.Logic.{_≢_, _⊎_, inl, inr}
+use mathlib.Core.Bool.{true}
 use mathlib.Core.List.{List, [], _∷_, _++_, append-assoc}
-use Prim.Native.Nat.{ℕ, suc, _+_, _≤_, _<_}
+use Prim.Native.Nat.{ℕ, suc, _+_, _<_}
 use native.Mathlib.Omega.{arith}
-use borrow.Author.Tests.{ne-eqb}
 use lib.ListN.{length, take, drop, set, length-append}
-use lib.Seq.{split-at, set-at, getD-at, take-at, drop-at, length-take-le, drop-cons}
-use Rattle.text.specs.Truth.{every, at}
+use lib.Seq.{split-at, set-at, getD-at, length-take-le, drop-cons}
+use Rattle.text.specs.Truth.{at as byteAt, every}
 use Rattle.text.specs.Classes.{digit}
 use Rattle.text.specs.Slips.{exchangedAt}
-use Rattle.text.proofs.Truths.{both-true}
-use Rattle.text.proofs.Digits.{digit-bounds}
+use Rattle.tags.specs.Values.{inValue}
 use Rattle.profile.specs.declared.Kind.{Kind}
-use Rattle.profile.specs.declared.Kind.the-variants.{Plain}
-use Rattle.profile.specs.declared.Judged.{Judged as PlainKind}
-use Rattle.profile.specs.Tags.{inValue}
+use Rattle.profile.specs.declared.Kind.the-variants.{Plain, Count, Total, Amount, Code}
+use Rattle.profile.specs.declared.Field.{Field}
 use Rattle.profile.specs.Profile.{profile}
-use Rattle.answers.specs.Given.{refused as refused-by}
-use Rattle.notes.specs.Reading.{Reading, on, stop, andThen}
-use Rattle.notes.specs.Noting.{fresh, plainGiven, judgedBy, noted}
-use Rattle.judge.specs.Verdict.{Judged, accepted, refused}
-use Rattle.judge.specs.Message.{judged}
-use Rattle.documents.specs.Document.{Tagless, text}
-use Rattle.documents.specs.Entries.{Entry, value, says}
-use Rattle.documents.specs.Message.{Message, head, whole, Lawful, told, weighed}
-use Rattle.documents.specs.Holds.{Kept, Holds}
-use Rattle.documents.proofs.Ends.{profile-sure, judged-told, accepted-document}
-use Rattle.documents.proofs.One.{one-document}
-use Rattle.documents.proofs.Exactly.{document-accepted}
-use Rattle.documents.proofs.Each.{each-rest}
-use Rattle.documents.proofs.Noted.{says-append}
-use Rattle.documents.proofs.Sound.{never}
-use Rattle.slips.specs.Slip.{Watched, Slip, replaced, exchanged, Refusal, In, Stands}
-use Rattle.slips.proofs.Values.{plain-slip, slip-never}
-use Rattle.slips.proofs.Swap.{document-swaps}
+use Rattle.kinds.specs.Given.{kindGiven}
+use Rattle.reading.specs.Trace.{What, value, Entry, _at_, message}
+use Rattle.reading.specs.Noted.{Reading, on, stop, Ended, noted}
+use Rattle.reading.specs.Rules.{ownKind}
+use Rattle.reading.specs.Verdict.{Judged, accepted}
+use Rattle.reading.specs.Judged.{whats, listed, verdict, placeOf, judged}
+use Rattle.reading.proofs.Flat.{never, flat, goes-flat}
+use Rattle.reading.proofs.Each.{all-flat}
+use Rattle.documents.specs.Document.{Each}
+use Rattle.documents.specs.Said.{said}
+use Rattle.documents.specs.Holds.{Passes}
+use Rattle.documents.proofs.Messages.{message-told}
+use Rattle.documents.proofs.Standing.{one-header}
+use Rattle.documents.proofs.Lists.{holds-kept, judged-listed, ReadThrough, accepted-through}
+use Rattle.documents.proofs.Exactly.{accepted-exactly}
+use Rattle.replaced.proofs.Beside.{Beside}
+use Rattle.replaced.proofs.Behind.{OfVersion, Placed}
+use Rattle.replaced.proofs.Values.{Fine, Stood, values-placed, tagless, before-long, is-itself, value-there, value-beside}
+use Rattle.slips.specs.Slip.{Watched, Slip, replaced, exchanged, Refusal, In, entries, Stands, Refused, totalPlace}
+use Rattle.slips.proofs.Values.{value-solid, slip-tagless, slip-long, slip-other, slip-solid}
+use Rattle.slips.proofs.Few.{amounts-items}
+use Rattle.slips.proofs.Changed.{all-in, parted, Changed, beside-whole, beside-changed}
+use Rattle.slips.proofs.Lists.{Sound, place-is, slip-told}
 
-pub refusal : (j : Judged) → ((n c : ℕ) → j ≡ accepted n c → ⊥) → Refusal j
-refusal (accepted n c) f = absurd (f n c refl)
-refusal (refused n p) f = record { number = n; place = p; is = refl }
+-- Whatever its number and place: a slip is refused.
+pub always-refused : (t : ℕ) (k : Kind) (q : ℕ) (j : Judged) → Refused t k q j → Refusal j
+always-refused t (Plain s) q j e = record { number = 8; place = q; is = e }
+always-refused t Count q j e = record { number = 14; place = q; is = e }
+always-refused t Total q j (inl e) = record { number = 9; place = q; is = e }
+always-refused t Total q j (inr e) = record { number = 15; place = q; is = e }
+always-refused t Amount q j (inl e) = record { number = 9; place = q; is = e }
+always-refused t Amount q j (inr e) = record { number = 15; place = t; is = e }
+always-refused t (Code x) q j e = absurd e
 
--- Two documents that say the same but for one slip in one value: where the one is accepted, the other is refused.
-pub document-slip : (d e : Message profile) → Lawful profile d → Lawful profile e → (k : Kind) (xs ys : List Entry) (slot p : ℕ) (v w : List ℕ)
-    → told d ≡ xs ++ (value k slot p v ∷ ys) → told e ≡ xs ++ (value k slot p w ∷ ys) → Slip k v w → (n c : ℕ) → judged (whole d) ≡ accepted n c → Refusal (judged (whole e))
-document-slip d e law law′ k xs ys slot p v w f g s n c a =
-    refusal (judged (whole e)) (λ i j b.
-    slip-never k xs ys slot p v w n c i j s (subst (λ (l : List Entry). Holds l n c) f (document-accepted d law n c a)) (subst (λ (l : List Entry). Holds l i j) g (document-accepted e law′ i j b)))
+each-in : (P : What → Type 0) (e : Entry) (l : List Entry) → Each P (whats l) → In e l → P (e .what)
+each-in P e (x ∷ l) h (inl i) = rw i (h .0)
+each-in P e (x ∷ l) h (inr i) = each-in P e l (h .1) i
+each-in P e [] h i = absurd i
 
--- Where the slip is in an IBAN or an identifier, the other is refused with 8, at that value.
-pub check-digits-tell : (d e : Message profile) → Lawful profile d → Lawful profile e → (j : PlainKind) (xs ys : List Entry) (slot p : ℕ) (v w : List ℕ)
-    → told d ≡ xs ++ (value (Plain j) slot p v ∷ ys) → told e ≡ xs ++ (value (Plain j) slot p w ∷ ys) → Slip (Plain j) v w → length (whole e) ≤ 16777216
-    → (n c : ℕ) → judged (whole d) ≡ accepted n c → judged (whole e) ≡ refused 8 p
-unfolding noted judgedBy
-check-digits-tell d e law law′ j xs ys slot p v w f g s short n c a =
-    judged-told e law′ short
-    ∙ ap (λ (l : List Entry). weighed (says l fresh)) g
-    ∙ ap weighed (says-append xs (value (Plain j) slot p w ∷ ys) fresh)
-    ∙ go (says xs fresh) refl
+-- whatever reading a message meets lies where it is met
+placed : (m : List ℕ) (e : Entry) → In e (flat (message m)) → Placed (OfVersion Fine m) m (e .place) (e .what)
+placed m e =
+    let P : Entry → Type 0 = λ x. Placed (OfVersion Fine m) m (x .place) (x .what) in
+    all-in P e (flat (message m)) (all-flat P (message m) (values-placed m))
+
+-- what reading a message meets, where it is accepted
+entries-flat : (m : List ℕ) (n c : ℕ) → judged m ≡ accepted n c → entries m ≡ flat (message m)
+unfolding judged
+entries-flat m n c = go (noted listed (message m) []) refl
   where
-    holds : Holds (xs ++ (value (Plain j) slot p v ∷ ys)) n c
-    holds = subst (λ (l : List Entry). Holds l n c) f (document-accepted d law n c a)
+    go : (x : Reading (Ended (List Entry))) → noted listed (message m) [] ≡ x → verdict x ≡ accepted n c → entries m ≡ flat (message m)
+    go (on r) z e = rw z (goes-flat (message m) [] r z)
+    go (stop i p) z e = never (cc)
 
-    eight : plainGiven j w ≡ refused-by 8
-    eight = plain-slip j v w s (each-rest Kept xs (value (Plain j) slot p v ∷ ys) (holds .kinds) .0)
+sound : (m : List ℕ) (n c : ℕ) → judged m ≡ accepted n c → Sound (flat (message m)) n c
+sound m n c e =
+    let p = accepted-exactly m n c .0 e in
+    let t = message-told (p .message) (p .lawful) (rw (p .is) at (p .short)) in
+    let z : whats (flat (message m)) ≡ said (profile (p .version)) (p .message .inside) = ap (λ (l : List ℕ). whats (flat (message l))) (p .is) ∙ t .says in
+    let h = holds-kept (said (profile (p .version)) (p .message .inside)) n c (p .holds) in
+    record {
+      kept = rw z (h .0);
+      compared = rw z (h .1);
+      one = rw z (one-header (p .version) (p .message .inside) (p .lawful .inside));
+      few = rw z (amounts-items (p .version) (p .message .inside) (p .lawful .inside));
+    }
 
-    -- what stands before the value was in order in the one, so it is in the other
-    before : (k q : ℕ) → says xs fresh ≡ stop k q → accepted n c ≡ refused k q
-    before k q z =
-        sym a
-        ∙ judged-told d law (accepted-document (whole d) n c a .short)
-        ∙ ap (λ (l : List Entry). weighed (says l fresh)) f
-        ∙ ap weighed (says-append xs (value (Plain j) slot p v ∷ ys) fresh)
-        ∙ ap (λ (x : Reading). weighed (andThen x (says (value (Plain j) slot p v ∷ ys)))) z
-
-    go : (x : Reading) → says xs fresh ≡ x → weighed (andThen x (says (value (Plain j) slot p w ∷ ys))) ≡ refused 8 p
-    go (on u) z = rw eight
-    go (stop k q) z = let y : accepted n c ≡ refused k q = before k q z in never (cc)
-
--- ---- a slip leaves a value as long, and brings no `<`
-digit-in : (c : ℕ) → digit c ≡ true → inValue c ≡ true
-digit-in c h = let b = digit-bounds c h in ap not (ne-eqb c 60 (λ e. omega (arith, b)))
-
-digits-in : (p q r : List ℕ) → every inValue (p ++ q) ≡ true → (every inValue q ≡ true → every inValue r ≡ true) → every inValue (p ++ r) ≡ true
-digits-in [] q r h k = k h
-digits-in (c ∷ p) q r h k =
-    let b = both-true (inValue c) (every inValue (p ++ q)) h in
-    rw (b .0) (digits-in p q r (b .1) k)
-
-slip-tagless : (k : Kind) (v w : List ℕ) → Slip k v w → Tagless v → Tagless w
-slip-tagless k v w (replaced p q a b at da db ne x y) h =
-    ap (every inValue) y ∙ digits-in p (a ∷ q) (b ∷ q) (ap (every inValue) (sym x) ∙ h) (λ g. rw (digit-in b db) (both-true (inValue a) (every inValue q) g .1))
-slip-tagless k v w (exchanged p q a b at da db ne x y) h =
-    ap (every inValue) y
-    ∙ digits-in p (a ∷ b ∷ q) (b ∷ a ∷ q) (ap (every inValue) (sym x) ∙ h)
-    (λ g. rw (digit-in b db, digit-in a da) (both-true (inValue b) (every inValue q) (both-true (inValue a) (every inValue (b ∷ q)) g .1) .1))
-
-slip-long : (k : Kind) (v w : List ℕ) → Slip k v w → length w ≡ length v
-slip-long k v w (replaced p q a b at da db ne x y) = ap length y ∙ length-append p (b ∷ q) ∙ sym (length-append p (a ∷ q)) ∙ ap length (sym x)
-slip-long k v w (exchanged p q a b at da db ne x y) = ap length y ∙ length-append p (b ∷ a ∷ q) ∙ sym (length-append p (a ∷ b ∷ q)) ∙ ap length (sym x)
-
--- ---- two neighbours exchanged, behind what stands before them
+-- two neighbours exchanged, behind what stands before them
 exchanged-there : (f r : List ℕ) (a b j : ℕ) → length f ≡ j → exchangedAt (f ++ (a ∷ b ∷ r)) j ≡ f ++ (b ∷ a ∷ r)
 unfolding exchangedAt
 exchanged-there f r a b j e =
     let long : length (f ++ (a ∷ [])) ≡ suc j = omega (arith, e, length-append f (a ∷ [])) in
     let long′ : length (f ++ (b ∷ [])) ≡ suc j = omega (arith, e, length-append f (b ∷ [])) in
-    let one : at (f ++ (a ∷ b ∷ r)) j ≡ a = getD-at f a (b ∷ r) 0 j e in
-    let two : at (f ++ (a ∷ b ∷ r)) (suc j) ≡ b = ap (λ (l : List ℕ). at l (suc j)) (sym (append-assoc f (a ∷ []) (b ∷ r))) ∙ getD-at (f ++ (a ∷ [])) b r 0 (suc j) long in
+    let one : byteAt (f ++ (a ∷ b ∷ r)) j ≡ a = getD-at f a (b ∷ r) 0 j e in
+    let two : byteAt (f ++ (a ∷ b ∷ r)) (suc j) ≡ b = ap (λ (l : List ℕ). byteAt l (suc j)) (sym (append-assoc f (a ∷ []) (b ∷ r))) ∙ getD-at (f ++ (a ∷ [])) b r 0 (suc j) long in
     rw (one, two, set-at f a (b ∷ r) b j e)
     (ap (λ (l : List ℕ). set l (suc j) a) (sym (append-assoc f (b ∷ []) (b ∷ r))) ∙ set-at (f ++ (b ∷ [])) b r a (suc j) long′ ∙ append-assoc f (b ∷ []) (a ∷ r))
 
--- ---- in positions of the message
-module _ (m : List ℕ) (k : Kind) (q : ℕ) (v : List ℕ) (s : Stands m k q v) where
-  abbrev d : Message profile
-  d = s .message
+-- The header's total: where one stands in an accepted message, that is the place of the total.
+pub total-place : (m : List ℕ) (n c : ℕ) → judged m ≡ accepted n c → (q : ℕ) (v : List ℕ) → Stands m Total q v → totalPlace m ≡ q
+total-place m n c a q v s =
+    let r = parted (value Total (s .field) v at q) (entries m) (s .among) in
+    ap (placeOf Total) (r .is)
+    ∙ place-is Total (s .field) q v v (r .front) (r .back) n c Total refl (rw (← entries-flat m n c a, r .is) at (sound m n c a .one .total))
 
-  -- the message with another value, as long, in the place of this one
-  record Placed (w : List ℕ) : Type 0 where
-    pub front : List ℕ
-    pub back : List ℕ
-    pub at : length front ≡ q
-    pub is : m ≡ front ++ (v ++ back)
-    pub other : Message profile
-    pub lawful : Lawful profile other
-    pub whole : whole other ≡ front ++ (w ++ back)
-    pub first : List Entry
-    pub later : List Entry
-    pub says : told d ≡ first ++ (value k (s .slot) q v ∷ later)
-    pub said : told other ≡ first ++ (value k (s .slot) q w ∷ later)
+module _ (m : List ℕ) (n c : ℕ) (a : judged m ≡ accepted n c) (k : Kind) (q : ℕ) (v : List ℕ) (s : Stands m k q v) where
+  abbrev entry : List ℕ → Entry
+  entry u = value k (s .field) u at q
 
-  placed : (w : List ℕ) → length w ≡ length v → (Tagless v → Tagless w) → Placed w
-  placed w long fit =
-      let x = document-swaps k (s .slot) q v w long fit profile (length (head d)) (d .inside) (s .lawful .inside) (s .among) in
-      record {
-        front = head d ++ x .swapped .front;
-        back = x .swapped .back ++ d .behind;
-        at = length-append (head d) (x .swapped .front) ∙ x .swapped .place;
-        is = s .is ∙ spread (x .swapped .front) (x .swapped .back) v (text profile (d .inside)) (x .swapped .is);
-        other = record { declared = d .declared; before = d .before; inside = x .it; behind = d .behind };
-        lawful = record { before = s .lawful .before; inside = x .proper; behind = s .lawful .behind };
-        whole = spread (x .swapped .front) (x .swapped .back) w (text profile (x .it)) (x .swapped .becomes);
-        first = x .swapped .first;
-        later = x .swapped .later;
-        says = x .swapped .says;
-        said = x .swapped .said;
-      }
-    where
-      spread : (f b u t : List ℕ) → t ≡ f ++ (u ++ b) → head d ++ (t ++ d .behind) ≡ (head d ++ f) ++ (u ++ (b ++ d .behind))
-      spread f b u t z = ap (λ (y : List ℕ). head d ++ (y ++ d .behind)) z ∙ simp append-assoc
+  in-flat : In (entry v) (flat (message m))
+  in-flat = rw (entries-flat m n c a) at (s .among)
 
-  fronts : (w : List ℕ) (x : Placed w) → take q m ≡ x .front
-  fronts w x = ap (take q) (x .is) ∙ take-at (x .front) (v ++ x .back) q (x .at)
-
-  backs : (w : List ℕ) (x : Placed w) → drop (q + length v) m ≡ x .back
-  backs w x =
-      let z : length (x .front ++ v) ≡ q + length v = length-append (x .front) v ∙ ap (λ (y : ℕ). y + length v) (x .at) in
-      ap (drop (q + length v)) (x .is ∙ sym (append-assoc (x .front) v (x .back))) ∙ drop-at (x .front ++ v) (x .back) (q + length v) z
+  stood : Stood m k q v
+  stood = placed m (entry v) in-flat
 
   -- the value's bytes are those at its place
   pub stands-there : (length (take q m) ≡ q) × (m ≡ take q m ++ (v ++ drop (q + length v) m))
-  stands-there =
-      let x = placed v refl (λ h. h) in
-      (ap length (fronts v x) ∙ x .at, x .is ∙ (rw (fronts v x, backs v x)))
+  stands-there = (before-long m k q v stood, is-itself m k q v stood)
 
-  -- it stands there in whatever document has the message as its text: there is only one
-  pub stands-in-any : (e : Message profile) → Lawful profile e → m ≡ whole e → In (value k (s .slot) q v) (told e)
-  stands-in-any e law i =
-      subst (λ (x : Message profile). In (value k (s .slot) q v) (told x)) (one-document profile profile-sure d e (s .lawful) law (sym (s .is) ∙ i)) (s .among)
+  through : ReadThrough m
+  through = accepted-through m n c a
 
-  -- any slip in the value, its bytes put in the place of the value's
-  pub slip-refused : (n c : ℕ) → judged m ≡ accepted n c → (w : List ℕ) → Slip k v w → Refusal (judged (take q m ++ (w ++ drop (q + length v) m)))
-  slip-refused n c a w l =
-      let x = placed w (slip-long k v w l) (slip-tagless k v w l) in
-      rw (fronts w x, backs w x, ← x .whole)
-      (document-slip d (x .other) (s .lawful) (x .lawful) k (x .first) (x .later) (s .slot) q v w (x .says) (x .said) l n c (ap judged (sym (s .is)) ∙ a))
+  passed : Passes (kindGiven k v)
+  passed = each-in (λ w. Passes (ownKind w)) (entry v) (flat (message m)) (sound m n c a .kept .kinds) in-flat
 
-  whole-long : (w : List ℕ) (x : Placed w) → length w ≡ length v → length (whole (x .other)) ≡ length m
-  whole-long w x e =
-      omega (arith, ap length (x .whole), ap length (x .is), length-append (x .front) (w ++ x .back), length-append (x .front) (v ++ x .back), length-append w (x .back), length-append v (x .back), e)
+  -- a slip in the value, its bytes put in the place of the value's: what is read is the same, but for the value
+  module _ (w : List ℕ) (l : Slip k v w) where
+    abbrev other : List ℕ
+    other = take q m ++ (w ++ drop (q + length v) m)
 
+    abbrev Any : Kind → Field → Type 0
+    Any j f = true ≡ true
+
+    fit : every inValue w ≡ true
+    fit = slip-tagless l (tagless m k q v stood)
+
+    beside : Beside Any v w (message m) (message other)
+    beside =
+        let solid = value-solid k l passed in
+        value-beside m k q v stood w (slip-long l) fit solid (slip-solid l solid)
+
+    not-there : In (entry v) (flat (message other)) → ⊥
+    not-there i =
+        let x : Stood other k q v = placed other (entry v) i in
+        let solid = value-solid k l passed in
+        slip-other l (x .bytes ∙ value-there m k q v stood w (slip-long l) fit solid (slip-solid l solid))
+
+    changes : Changed k (s .field) q v w (flat (message m)) (flat (message other))
+    changes = beside-changed Any k (s .field) q v w beside in-flat not-there
+
+    -- It is refused, with the number and at the place that its kind says.
+    pub slip-refused : Refused (totalPlace m) k q (judged other)
+    slip-refused =
+        rw (judged-listed other (through .to) (beside-whole Any k (s .field) q v w (through .to) beside (through .whole)), entries-flat m n c a, changes .becomes, changes .is)
+        (slip-told k (s .field) q v w (changes .front) (changes .back) n c (rw (changes .is) at (sound m n c a)) l)
+
+  -- ---- in positions of the message
   module _ (i : ℕ) (in-it : i < length v) where
     -- the bytes before and behind place i of the value
-    before : List ℕ
+    abbrev before : List ℕ
     before = take q m ++ take i v
 
-    before-long : length before ≡ q + i
-    unfolding before
-    before-long = length-append (take q m) (take i v) ∙ (rw (stands-there .0, length-take-le i v (omega arith)))
+    before-all : length before ≡ q + i
+    before-all = length-append (take q m) (take i v) ∙ rw (stands-there .0, length-take-le i v (omega arith))
 
-    split : m ≡ before ++ (at v i ∷ (drop (suc i) v ++ drop (q + length v) m))
-    unfolding before
-    split =
-        stands-there .1
-        ∙ ap (λ (y : List ℕ). take q m ++ (y ++ drop (q + length v) m)) (split-at v i 0 in-it)
-        ∙ simp append-assoc
+    split : m ≡ before ++ (byteAt v i ∷ (drop (suc i) v ++ drop (q + length v) m))
+    split = stands-there .1 ∙ ap (λ (y : List ℕ). take q m ++ (y ++ drop (q + length v) m)) (split-at v i 0 in-it) ∙ simp append-assoc
 
-    same-byte : at m (q + i) ≡ at v i
-    same-byte = ap (λ (y : List ℕ). at y (q + i)) split ∙ getD-at before (at v i) (drop (suc i) v ++ drop (q + length v) m) 0 (q + i) before-long
+    pub same-byte : byteAt m (q + i) ≡ byteAt v i
+    same-byte = ap (λ (y : List ℕ). byteAt y (q + i)) split ∙ getD-at before (byteAt v i) (drop (suc i) v ++ drop (q + length v) m) 0 (q + i) before-all
 
     -- One digit replaced: the byte at place i of the value, where a slip is watched for, is a digit, and another digit stands there instead.
-    pub digit-replaced : (n c : ℕ) → judged m ≡ accepted n c → Watched k i → (x : ℕ) → digit (at m (q + i)) ≡ true → digit x ≡ true → at m (q + i) ≢ x
-        → Refusal (judged (set m (q + i) x))
-    unfolding before
-    digit-replaced n c a here x da dx ne =
-        rw there
-        (slip-refused n c a (take i v ++ (x ∷ drop (suc i) v))
-        (replaced (take i v) (drop (suc i) v) (at v i) x (rw (length-take-le i v (omega arith)) here) (ap digit (sym same-byte) ∙ da) dx (λ e. ne (same-byte ∙ e)) (split-at v i 0 in-it) refl))
+    pub digit-replaced : Watched k i → (x : ℕ) → digit (byteAt m (q + i)) ≡ true → digit x ≡ true → byteAt m (q + i) ≢ x → Refused (totalPlace m) k q (judged (set m (q + i) x))
+    digit-replaced here x da dx ne =
+        subst (λ (y : List ℕ). Refused (totalPlace m) k q (judged y)) (sym there)
+        (slip-refused (take i v ++ (x ∷ drop (suc i) v))
+        (replaced (take i v) (drop (suc i) v) (byteAt v i) x (rw (length-take-le i v (omega arith)) here) (ap digit (sym same-byte) ∙ da) dx
+        (λ e. ne (same-byte ∙ e)) (split-at v i 0 in-it) refl))
       where
         there : set m (q + i) x ≡ take q m ++ ((take i v ++ (x ∷ drop (suc i) v)) ++ drop (q + length v) m)
         there =
             ap (λ (y : List ℕ). set y (q + i) x) split
-            ∙ set-at before (at v i) (drop (suc i) v ++ drop (q + length v) m) x (q + i) before-long
+            ∙ set-at before (byteAt v i) (drop (suc i) v ++ drop (q + length v) m) x (q + i) before-all
             ∙ simp append-assoc
 
   -- Two unequal neighbouring digits exchanged: those at places i and i + 1 of the value, at one of which at least a slip is watched for.
   module _ (i : ℕ) (in-it : suc i < length v) where
-    abbrev a : ℕ
-    a = at v i
+    abbrev x : ℕ
+    x = byteAt v i
 
-    abbrev b : ℕ
-    b = at v (suc i)
+    abbrev y : ℕ
+    y = byteAt v (suc i)
 
     fore : i < length v
     fore = omega arith
 
-    pair : v ≡ take i v ++ (a ∷ b ∷ drop (suc (suc i)) v)
-    pair = split-at v i 0 fore ∙ ap (λ (l : List ℕ). take i v ++ (a ∷ l)) (drop-cons v (suc i) 0 in-it)
+    pair : v ≡ take i v ++ (x ∷ y ∷ drop (suc (suc i)) v)
+    pair = split-at v i 0 fore ∙ ap (λ (l : List ℕ). take i v ++ (x ∷ l)) (drop-cons v (suc i) 0 in-it)
 
-    next-byte : at m (suc (q + i)) ≡ b
-    next-byte = ap (at m) (omega arith) ∙ same-byte (suc i) in-it
+    next-byte : byteAt m (suc (q + i)) ≡ y
+    next-byte = ap (byteAt m) (omega arith) ∙ same-byte (suc i) in-it
 
-    exchanged-here : exchangedAt m (q + i) ≡ take q m ++ ((take i v ++ (b ∷ a ∷ drop (suc (suc i)) v)) ++ drop (q + length v) m)
-    unfolding before
+    exchanged-here : exchangedAt m (q + i) ≡ take q m ++ ((take i v ++ (y ∷ x ∷ drop (suc (suc i)) v)) ++ drop (q + length v) m)
     exchanged-here =
-        ap (λ (y : List ℕ). exchangedAt y (q + i)) (stands-there .1 ∙ ap (λ (y : List ℕ). take q m ++ (y ++ drop (q + length v) m)) pair ∙ simp append-assoc)
-        ∙ exchanged-there (take q m ++ take i v) (drop (suc (suc i)) v ++ drop (q + length v) m) a b (q + i) (before-long i fore)
+        ap (λ (z : List ℕ). exchangedAt z (q + i)) (stands-there .1 ∙ ap (λ (z : List ℕ). take q m ++ (z ++ drop (q + length v) m)) pair ∙ simp append-assoc)
+        ∙ exchanged-there (take q m ++ take i v) (drop (suc (suc i)) v ++ drop (q + length v) m) x y (q + i) (before-all i fore)
         ∙ simp append-assoc
 
-    pub digits-exchanged : (n c : ℕ) → judged m ≡ accepted n c → Watched k i ⊎ Watched k (suc i) → digit (at m (q + i)) ≡ true → digit (at m (suc (q + i))) ≡ true
-        → at m (q + i) ≢ at m (suc (q + i)) → Refusal (judged (exchangedAt m (q + i)))
-    digits-exchanged n c h here da db ne =
-        rw exchanged-here
-        (slip-refused n c h (take i v ++ (b ∷ a ∷ drop (suc (suc i)) v))
-        (exchanged (take i v) (drop (suc (suc i)) v) a b (rw (length-take-le i v (omega arith)) here) (ap digit (sym (same-byte i fore)) ∙ da) (ap digit (sym next-byte) ∙ db)
+    pub digits-exchanged : Watched k i ⊎ Watched k (suc i) → digit (byteAt m (q + i)) ≡ true → digit (byteAt m (suc (q + i))) ≡ true → byteAt m (q + i) ≢ byteAt m (suc (q + i))
+        → Refused (totalPlace m) k q (judged (exchangedAt m (q + i)))
+    digits-exchanged here da db ne =
+        subst (λ (z : List ℕ). Refused (totalPlace m) k q (judged z)) (sym exchanged-here)
+        (slip-refused (take i v ++ (y ∷ x ∷ drop (suc (suc i)) v))
+        (exchanged (take i v) (drop (suc (suc i)) v) x y (rw (length-take-le i v (omega arith)) here) (ap digit (sym (same-byte i fore)) ∙ da) (ap digit (sym next-byte) ∙ db)
         (λ e. ne (same-byte i fore ∙ e ∙ sym next-byte)) pair refl))
-
--- In an IBAN, or an identifier outside positions 5 to 7, any slip is refused with 8, at the value's place.
-pub refused-eight : (m : List ℕ) (j : PlainKind) (q : ℕ) (v : List ℕ) → Stands m (Plain j) q v → (n c : ℕ) → judged m ≡ accepted n c → (w : List ℕ) → Slip (Plain j) v w
-    → judged (take q m ++ (w ++ drop (q + length v) m)) ≡ refused 8 q
-refused-eight m j q v s n c a w l =
-    let k = Plain j in
-    let x = placed m k q v s w (slip-long k v w l) (slip-tagless k v w l) in
-    let short : length (whole (x .other)) ≤ 16777216 = rw (whole-long m k q v s w x (slip-long k v w l)) (accepted-document m n c a .short) in
-    rw (fronts m k q v s w x, backs m k q v s w x, ← x .whole)
-    (check-digits-tell (s .message) (x .other) (s .lawful) (x .lawful) j (x .first) (x .later) (s .slot) q v w (x .says) (x .said) l short n c (ap judged (sym (s .is)) ∙ a))

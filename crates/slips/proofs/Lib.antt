@@ -1,4 +1,5 @@
 pub mod Values
-pub mod Swap
+pub mod Few
+pub mod Changed
+pub mod Lists
 pub mod Digits
-pub mod Items

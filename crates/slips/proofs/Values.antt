@@ -1,69 +1,82 @@
--- Two documents that say the same but for one slip in one value are not both accepted. Assumes nothing.
+-- A slip in a value: what it leaves as it was, and what each kind's checker says of it.
 use mathlib.Core.Path.{_≡_, refl, sym, ap, _∙_}
-use mathlib.Core.Logic.{_⊎_, inl, inr}
-use mathlib.Core.Bool.{Bool, true, false}
+use mathlib.Core.Logic.{_≢_, _⊎_, inl, inr}
+use mathlib.Core.Bool.{Bool, true, false, not}
 use mathlib.Core.List.{List, [], _∷_, _++_}
-use Prim.Native.Nat.{ℕ, suc, _+_, _≤_, _<_}
+use Prim.Native.Nat.{ℕ, suc, _≤_, _<_}
 use native.Mathlib.Omega.{arith}
-use lib.ListN.{length}
-use Rattle.text.specs.Truth.{between}
+use borrow.Author.Tests.{ne-eqb}
+use lib.ListN.{length, take, getD, length-append}
+use lib.Seq.{getD-at}
+use Rattle.text.specs.Truth.{between, every, part}
 use Rattle.text.specs.Quoted.{decimal}
-use Rattle.answers.specs.Given.{Given, yes, worth, refused, valueOf, inOrder, _else_}
+use Rattle.text.specs.Classes.{digit, capital}
+use Rattle.text.proofs.Truths.{both-true, passes, between-true}
+use Rattle.text.proofs.Digits.{digit-bounds, capital-bounds}
+use Rattle.answers.specs.Given.{yes, worth, refused, inOrder, _else_}
 use Rattle.money.specs.declared.Range.{Range}
 use Rattle.money.specs.declared.Range.the-variants.{Item as anItem, Total as theTotal}
 use Rattle.money.specs.Count.{countForm, countGiven}
-use Rattle.money.specs.Amount.{most, amountForm, cents, amountGiven}
+use Rattle.money.specs.Amount.{most, whole, amountForm, cents, amountGiven}
 use Rattle.money.proofs.Slips.{count-replaced, count-exchanged, amount-replaced, amount-exchanged}
 use Rattle.check97.specs.Check.{ibanChecked, identifierChecked}
+use Rattle.accounts.specs.Head.{head}
 use Rattle.accounts.specs.Iban.{ibanForm, ibanGiven}
 use Rattle.accounts.specs.Identifier.{identifierForm, identifierGiven}
 use Rattle.accounts.proofs.Slips.{iban-replaced, iban-exchanged, identifier-replaced, identifier-exchanged}
+use Rattle.tags.specs.Tags.{white}
+use Rattle.tags.specs.Values.{inValue}
 use Rattle.profile.specs.declared.Kind.{Kind}
 use Rattle.profile.specs.declared.Kind.the-variants.{Plain, Count, Total, Amount, Code}
-use Rattle.profile.specs.declared.Judged.{Judged as PlainKind}
-use Rattle.profile.specs.declared.Judged.the-variants.{Reference, Nm, Ustrd, Date, Time, Bic, Iban, Identifier}
-use Rattle.notes.specs.Noting.{plainGiven}
-use Rattle.documents.specs.Entries.{Entry, item, value}
-use Rattle.documents.specs.Holds.{Passes, OfKind, Kept, itemsIn, gathered, ofCount, ofTotal, ofAmount, sum, Holds}
-use Rattle.documents.proofs.Each.{each-rest}
-use Rattle.documents.proofs.Tally.{sum-append}
-use Rattle.documents.proofs.Often.{gathered-append}
+use Rattle.profile.specs.declared.Simple.{Simple}
+use Rattle.profile.specs.declared.Simple.the-variants.{Reference, Text70, Text140, Date, Time, Bic, Iban, Identifier}
+use Rattle.kinds.specs.Given.{simpleGiven, kindGiven}
+use Rattle.documents.specs.Holds.{Passes}
+use Rattle.replaced.proofs.Beside.{Solid}
 use Rattle.slips.specs.Slip.{Watched, Slip, replaced, exchanged}
 
 -- ---- checkers that were passed
-passed-yes : (a b : Bool) (i j : ℕ) → Passes (inOrder (a else i ∷ b else j ∷ []) yes) → inOrder (a else i ∷ b else j ∷ []) yes ≡ yes
-passed-yes true true i j h = refl
+passed-yes : (a b : Bool) (i j : ℕ) → Passes (inOrder (a else i ∷ b else j ∷ []) yes) → (a ≡ true) × (inOrder (a else i ∷ b else j ∷ []) yes ≡ yes)
+passed-yes true true i j h = (refl, refl)
 passed-yes true false i j h = absurd h
 passed-yes false b i j h = absurd h
 
-iban-yes : (v : List ℕ) → Passes (ibanGiven v) → ibanGiven v ≡ yes
+iban-yes : (v : List ℕ) → Passes (ibanGiven v) → (ibanForm v ≡ true) × (ibanGiven v ≡ yes)
 unfolding ibanGiven
 iban-yes v = passed-yes (ibanForm v) (ibanChecked v) 7 8
 
-identifier-yes : (v : List ℕ) → Passes (identifierGiven v) → identifierGiven v ≡ yes
+identifier-yes : (v : List ℕ) → Passes (identifierGiven v) → (identifierForm v ≡ true) × (identifierGiven v ≡ yes)
 unfolding identifierGiven
 identifier-yes v = passed-yes (identifierForm v) (identifierChecked v) 7 8
 
-refused-never : (g : Given) (n : ℕ) → g ≡ refused n → Passes g → ⊥
-refused-never g n e h = rw e at h
-
-count-worth : (v : List ℕ) → Passes (countGiven v) → (countForm v ≡ true) × (valueOf (countGiven v) ≡ decimal v)
+count-form : (v : List ℕ) → Passes (countGiven v) → countForm v ≡ true
 unfolding countGiven
-count-worth v = go (countForm v) refl
+count-form v = go (countForm v)
   where
-    go : (b : Bool) → countForm v ≡ b → Passes (inOrder (b else 7 ∷ []) (worth (decimal v))) → (countForm v ≡ true) × (valueOf (inOrder (b else 7 ∷ []) (worth (decimal v))) ≡ decimal v)
-    go true e h = (e, refl)
-    go false e h = absurd h
+    go : (b : Bool) → Passes (inOrder (b else 7 ∷ []) (worth (decimal v))) → b ≡ true
+    go true h = refl
+    go false h = absurd h
 
-amount-worth : (r : Range) (v : List ℕ) → Passes (amountGiven r v) → (amountForm v ≡ true) × (valueOf (amountGiven r v) ≡ cents v)
+count-passes : (v : List ℕ) → countForm v ≡ true → Passes (countGiven v)
+unfolding countGiven
+count-passes v e = rw e tt
+
+amount-form : (r : Range) (v : List ℕ) → Passes (amountGiven r v) → amountForm v ≡ true
 unfolding amountGiven
-amount-worth r v = go (amountForm v) (between 1 (most r) (cents v)) refl
+amount-form r v = go (amountForm v) (between 1 (most r) (cents v))
   where
-    go : (a b : Bool) → amountForm v ≡ a → Passes (inOrder (a else 7 ∷ b else 9 ∷ []) (worth (cents v)))
-        → (amountForm v ≡ true) × (valueOf (inOrder (a else 7 ∷ b else 9 ∷ []) (worth (cents v))) ≡ cents v)
-    go true true e h = (e, refl)
-    go true false e h = absurd h
-    go false b e h = absurd h
+    go : (a b : Bool) → Passes (inOrder (a else 7 ∷ b else 9 ∷ []) (worth (cents v))) → a ≡ true
+    go true b h = refl
+    go false b h = absurd h
+
+-- an amount of its form is in its range, or refused with 9
+amount-either : (r : Range) (v : List ℕ) → amountForm v ≡ true → (amountGiven r v ≡ refused 9) ⊎ Passes (amountGiven r v)
+unfolding amountGiven
+amount-either r v e = rw e (go (between 1 (most r) (cents v)))
+  where
+    go : (b : Bool) → (inOrder (b else 9 ∷ []) (worth (cents v)) ≡ refused 9) ⊎ Passes (inOrder (b else 9 ∷ []) (worth (cents v)))
+    go true = inr tt
+    go false = inl refl
 
 -- ---- a slip in each kind
 outside-two : (i : ℕ) → ((i < 4) ⊎ (7 ≤ i)) ⊎ ((suc i < 4) ⊎ (7 ≤ suc i)) → (i < 4) ⊎ (7 ≤ suc i)
@@ -81,102 +94,136 @@ identifier-slip v w (replaced p q a b at da db ne x y) g = ap identifierGiven y 
 identifier-slip v w (exchanged p q a b at da db ne x y) g =
     ap identifierGiven y ∙ identifier-exchanged p q a b da db ne (outside-two (length p) at) (ap identifierGiven (sym x) ∙ g)
 
-count-slip : (v w : List ℕ) → Slip Count v w → Passes (countGiven v) → Passes (countGiven w) → valueOf (countGiven v) ≡ valueOf (countGiven w) → ⊥
-count-slip v w s g h e = go s (count-worth v g .0) (sym (count-worth v g .1) ∙ e ∙ count-worth w h .1)
+-- a count stays a count, and says another number
+pub count-slip : (v w : List ℕ) → Slip Count v w → Passes (countGiven v) → Passes (countGiven w) × (decimal v ≢ decimal w)
+count-slip v w s g = go s (count-form v g)
   where
-    go : Slip Count v w → countForm v ≡ true → decimal v ≡ decimal w → ⊥
-    go (replaced p q a b at da db ne x y) f z = count-replaced p q a b da db ne (ap countForm (sym x) ∙ f) .1 (ap decimal (sym x) ∙ z ∙ ap decimal y)
-    go (exchanged p q a b at da db ne x y) f z = count-exchanged p q a b da db ne (ap countForm (sym x) ∙ f) .1 (ap decimal (sym x) ∙ z ∙ ap decimal y)
+    go : Slip Count v w → countForm v ≡ true → Passes (countGiven w) × (decimal v ≢ decimal w)
+    go (replaced p q a b at da db ne x y) f =
+        let c = count-replaced p q a b da db ne (ap countForm (sym x) ∙ f) in
+        (count-passes w (ap countForm y ∙ c .0), λ z. c .1 (ap decimal (sym x) ∙ z ∙ ap decimal y))
+    go (exchanged p q a b at da db ne x y) f =
+        let c = count-exchanged p q a b da db ne (ap countForm (sym x) ∙ f) in
+        (count-passes w (ap countForm y ∙ c .0), λ z. c .1 (ap decimal (sym x) ∙ z ∙ ap decimal y))
 
-amount-slip : (k : Kind) (r : Range) (v w : List ℕ) → Slip k v w → Passes (amountGiven r v) → Passes (amountGiven r w) → valueOf (amountGiven r v) ≡ valueOf (amountGiven r w) → ⊥
-amount-slip k r v w s g h e = go s (amount-worth r v g .0) (sym (amount-worth r v g .1) ∙ e ∙ amount-worth r w h .1)
+-- an amount says other cents, in its range or not
+pub amount-slip : (k : Kind) (r : Range) (v w : List ℕ) → Slip k v w → Passes (amountGiven r v) → ((amountGiven r w ≡ refused 9) ⊎ Passes (amountGiven r w)) × (cents v ≢ cents w)
+amount-slip k r v w s g = go s (amount-form r v g)
   where
-    go : Slip k v w → amountForm v ≡ true → cents v ≡ cents w → ⊥
-    go (replaced p q a b at da db ne x y) f z = amount-replaced p q a b da db ne (ap amountForm (sym x) ∙ f) .1 (ap cents (sym x) ∙ z ∙ ap cents y)
-    go (exchanged p q a b at da db ne x y) f z = amount-exchanged p q a b da db ne (ap amountForm (sym x) ∙ f) .1 (ap cents (sym x) ∙ z ∙ ap cents y)
+    go : Slip k v w → amountForm v ≡ true → ((amountGiven r w ≡ refused 9) ⊎ Passes (amountGiven r w)) × (cents v ≢ cents w)
+    go (replaced p q a b at da db ne x y) f =
+        let c = amount-replaced p q a b da db ne (ap amountForm (sym x) ∙ f) in
+        (amount-either r w (ap amountForm y ∙ c .0), λ z. c .1 (ap cents (sym x) ∙ z ∙ ap cents y))
+    go (exchanged p q a b at da db ne x y) f =
+        let c = amount-exchanged p q a b da db ne (ap amountForm (sym x) ∙ f) in
+        (amount-either r w (ap amountForm y ∙ c .0), λ z. c .1 (ap cents (sym x) ∙ z ∙ ap cents y))
 
 -- a slip lies at a watched place
-unwatched : (k : Kind) (v w : List ℕ) → ((j : ℕ) → Watched k j → ⊥) → Slip k v w → ⊥
-unwatched k v w f (replaced p q a b at da db ne x y) = f (length p) at
-unwatched k v w f (exchanged p q a b (inl at) da db ne x y) = f (length p) at
-unwatched k v w f (exchanged p q a b (inr at) da db ne x y) = f (suc (length p)) at
+pub unwatched : {k : Kind} {v w : List ℕ} → ((j : ℕ) → Watched k j → ⊥) → Slip k v w → ⊥
+unwatched f (replaced p q a b at da db ne x y) = f (length p) at
+unwatched f (exchanged p q a b (inl at) da db ne x y) = f (length p) at
+unwatched f (exchanged p q a b (inr at) da db ne x y) = f (suc (length p)) at
 
 -- a value with check digits: they tell
-pub plain-slip : (j : PlainKind) (v w : List ℕ) → Slip (Plain j) v w → Passes (plainGiven j v) → plainGiven j w ≡ refused 8
-unfolding plainGiven
-plain-slip Reference v w s g = absurd (unwatched (Plain Reference) v w (λ x h. h) s)
-plain-slip Nm v w s g = absurd (unwatched (Plain Nm) v w (λ x h. h) s)
-plain-slip Ustrd v w s g = absurd (unwatched (Plain Ustrd) v w (λ x h. h) s)
-plain-slip Date v w s g = absurd (unwatched (Plain Date) v w (λ x h. h) s)
-plain-slip Time v w s g = absurd (unwatched (Plain Time) v w (λ x h. h) s)
-plain-slip Bic v w s g = absurd (unwatched (Plain Bic) v w (λ x h. h) s)
-plain-slip Iban v w s g = iban-slip v w s (iban-yes v g)
-plain-slip Identifier v w s g = identifier-slip v w s (identifier-yes v g)
+pub plain-slip : (s : Simple) (v w : List ℕ) → Slip (Plain s) v w → Passes (simpleGiven s v) → simpleGiven s w ≡ refused 8
+unfolding simpleGiven
+plain-slip Reference v w s g = absurd (unwatched (λ x h. h) s)
+plain-slip Text70 v w s g = absurd (unwatched (λ x h. h) s)
+plain-slip Text140 v w s g = absurd (unwatched (λ x h. h) s)
+plain-slip Date v w s g = absurd (unwatched (λ x h. h) s)
+plain-slip Time v w s g = absurd (unwatched (λ x h. h) s)
+plain-slip Bic v w s g = absurd (unwatched (λ x h. h) s)
+plain-slip Iban v w s g = iban-slip v w s (iban-yes v g .1)
+plain-slip Identifier v w s g = identifier-slip v w s (identifier-yes v g .1)
 
--- ---- the entries before and behind the value
-items-middle : (xs ys : List Entry) (k : Kind) (slot p q : ℕ) (v w : List ℕ) → itemsIn (xs ++ (value k slot p v ∷ ys)) ≡ itemsIn (xs ++ (value k slot q w ∷ ys))
-items-middle [] ys k slot p q v w = refl
-items-middle (item r ∷ xs) ys k slot p q v w = ap suc (items-middle xs ys k slot p q v w)
-items-middle (value j s r u ∷ xs) ys k slot p q v w = items-middle xs ys k slot p q v w
+-- ---- a slip leaves a value as long, brings no `<`, and is another value
+digit-in : (c : ℕ) → digit c ≡ true → inValue c ≡ true
+digit-in c h = let b = digit-bounds c h in ap not (ne-eqb c 60 (λ e. omega (arith, b)))
 
-gathered-sum : (f : Kind → List ℕ → List ℕ) (xs ys : List Entry) (k : Kind) (slot p : ℕ) (v : List ℕ)
-    → sum (gathered f (xs ++ (value k slot p v ∷ ys))) ≡ sum (gathered f xs) + sum (f k v) + sum (gathered f ys)
-gathered-sum f xs ys k slot p v =
-    ap sum (gathered-append f xs (value k slot p v ∷ ys))
-    ∙ sum-append (gathered f xs) (f k v ++ gathered f ys)
-    ∙ omega (arith, sum-append (f k v) (gathered f ys))
+digits-in : (p q r : List ℕ) → every inValue (p ++ q) ≡ true → (every inValue q ≡ true → every inValue r ≡ true) → every inValue (p ++ r) ≡ true
+digits-in [] q r h k = k h
+digits-in (c ∷ p) q r h k =
+    let b = both-true (inValue c) (every inValue (p ++ q)) h in
+    rw (b .0) (digits-in p q r (b .1) k)
 
-module _ (xs ys : List Entry) (k : Kind) (slot p : ℕ) (v w : List ℕ) (n c i j : ℕ)
-    (a : Holds (xs ++ (value k slot p v ∷ ys)) n c) (b : Holds (xs ++ (value k slot p w ∷ ys)) i j) where
-  abbrev one : List Entry
-  one = xs ++ (value k slot p v ∷ ys)
+pub slip-tagless : {k : Kind} {v w : List ℕ} → Slip k v w → every inValue v ≡ true → every inValue w ≡ true
+slip-tagless (replaced p q a b at da db ne x y) h =
+    ap (every inValue) y ∙ digits-in p (a ∷ q) (b ∷ q) (ap (every inValue) (sym x) ∙ h) (λ g. rw (digit-in b db) (both-true (inValue a) (every inValue q) g .1))
+slip-tagless (exchanged p q a b at da db ne x y) h =
+    ap (every inValue) y
+    ∙ digits-in p (a ∷ b ∷ q) (b ∷ a ∷ q) (ap (every inValue) (sym x) ∙ h)
+    (λ g. rw (digit-in b db, digit-in a da) (both-true (inValue b) (every inValue q) (both-true (inValue a) (every inValue (b ∷ q)) g .1) .1))
 
-  abbrev other : List Entry
-  other = xs ++ (value k slot p w ∷ ys)
+pub slip-long : {k : Kind} {v w : List ℕ} → Slip k v w → length v ≡ length w
+slip-long (replaced p q a b at da db ne x y) = ap length x ∙ length-append p (a ∷ q) ∙ sym (length-append p (b ∷ q)) ∙ ap length (sym y)
+slip-long (exchanged p q a b at da db ne x y) = ap length x ∙ length-append p (a ∷ b ∷ q) ∙ sym (length-append p (b ∷ a ∷ q)) ∙ ap length (sym y)
 
-  fits : OfKind k v
-  fits = each-rest Kept xs (value k slot p v ∷ ys) (a .kinds) .0
+other-there : (p s t : List ℕ) (a b : ℕ) → a ≢ b → p ++ (a ∷ s) ≢ p ++ (b ∷ t)
+other-there p s t a b ne e =
+    ne (sym (getD-at p a s 0 (length p) refl) ∙ ap (λ (l : List ℕ). getD l (length p) 0) e ∙ getD-at p b t 0 (length p) refl)
 
-  fits-too : OfKind k w
-  fits-too = each-rest Kept xs (value k slot p w ∷ ys) (b .kinds) .0
+pub slip-other : {k : Kind} {v w : List ℕ} → Slip k v w → v ≢ w
+slip-other (replaced p q a b at da db ne x y) e = other-there p q q a b ne (sym x ∙ e ∙ y)
+slip-other (exchanged p q a b at da db ne x y) e = other-there p (b ∷ q) (a ∷ q) a b ne (sym x ∙ e ∙ y)
 
-  -- both have as many items
-  same-items : n ≡ i
-  same-items = sym (a .items) ∙ items-middle xs ys k slot p p v w ∙ b .items
+-- ---- such a value begins with a digit or a capital
+shown-byte : (c : ℕ) (s : List ℕ) → 48 ≤ c → c ≢ 60 → Solid (c ∷ s)
+unfolding white
+shown-byte c s h ne =
+    record {
+      first = c;
+      later = s;
+      is = refl;
+      shown = rw (ne-eqb c 32 (λ e. omega arith), ne-eqb c 9 (λ e. omega arith), ne-eqb c 13 (λ e. omega arith), ne-eqb c 10 (λ e. omega arith));
+      inside = ap not (ne-eqb c 60 ne);
+    }
 
-  -- what two sums that are equal come to at the value
-  same-part : (f : Kind → List ℕ → List ℕ) → sum (gathered f one) ≡ sum (gathered f other) → sum (f k v) ≡ sum (f k w)
-  same-part f e = omega (arith, e, gathered-sum f xs ys k slot p v, gathered-sum f xs ys k slot p w)
+digit-first : (c : ℕ) (s : List ℕ) → digit c ≡ true → Solid (c ∷ s)
+digit-first c s h = let b = digit-bounds c h in shown-byte c s (b .0) (λ e. omega (arith, b))
 
-  same-count : sum (ofCount k v) ≡ sum (ofCount k w)
-  same-count = same-part ofCount (ap sum (a .count) ∙ ap (λ (x : ℕ). x + 0) same-items ∙ sym (ap sum (b .count)))
+head-first : (v : List ℕ) (lo hi : ℕ) → 1 ≤ lo → between lo hi (length v) ≡ true → head v ≡ true → Solid v
+unfolding head
+head-first [] lo hi one h e = absurd (omega (arith, between-true lo hi 0 h))
+head-first (c ∷ s) lo hi one h e =
+    let f = both-true (every capital (part 0 2 (c ∷ s))) (every digit (part 2 2 (c ∷ s))) e .0 in
+    let b = capital-bounds c (both-true (capital c) (every capital (take 1 s)) f .0) in
+    shown-byte c s (omega (arith, b)) (λ z. omega (arith, b))
 
-  -- the header's total and the items' sum change together
-  same-totals : sum (ofTotal k v) + sum (ofAmount k w) ≡ sum (ofTotal k w) + sum (ofAmount k v)
-  same-totals =
-      omega (
-        arith,
-        ap sum (a .total),
-        ap sum (b .total),
-        a .cents,
-        b .cents,
-        gathered-sum ofTotal xs ys k slot p v,
-        gathered-sum ofTotal xs ys k slot p w,
-        gathered-sum ofAmount xs ys k slot p v,
-        gathered-sum ofAmount xs ys k slot p w,
-      )
+count-first : (v : List ℕ) → countForm v ≡ true → Solid v
+unfolding countForm
+count-first [] e = absurd (omega (arith, between-true 1 15 0 (passes _ e 0)))
+count-first (c ∷ s) e = digit-first c s (both-true (digit c) (every digit s) (passes _ e 1) .0)
 
--- one slip: not both of them are as the profile has them
-pub slip-never : (k : Kind) (xs ys : List Entry) (slot p : ℕ) (v w : List ℕ) (n c i j : ℕ) → Slip k v w
-    → Holds (xs ++ (value k slot p v ∷ ys)) n c → Holds (xs ++ (value k slot p w ∷ ys)) i j → ⊥
-slip-never (Plain j′) xs ys slot p v w n c i j s a b =
-    refused-never (plainGiven j′ w) 8 (plain-slip j′ v w s (fits xs ys (Plain j′) slot p v w n c i j a b)) (fits-too xs ys (Plain j′) slot p v w n c i j a b)
-slip-never Count xs ys slot p v w n c i j s a b =
-    count-slip v w s (fits xs ys Count slot p v w n c i j a b) (fits-too xs ys Count slot p v w n c i j a b) (omega (arith, same-count xs ys Count slot p v w n c i j a b))
-slip-never Total xs ys slot p v w n c i j s a b =
-    amount-slip Total theTotal v w s (fits xs ys Total slot p v w n c i j a b) (fits-too xs ys Total slot p v w n c i j a b)
-    (omega (arith, same-totals xs ys Total slot p v w n c i j a b))
-slip-never Amount xs ys slot p v w n c i j s a b =
-    amount-slip Amount anItem v w s (fits xs ys Amount slot p v w n c i j a b) (fits-too xs ys Amount slot p v w n c i j a b)
-    (omega (arith, same-totals xs ys Amount slot p v w n c i j a b))
-slip-never (Code e) xs ys slot p v w n c i j s a b = unwatched (Code e) v w (λ x h. h) s
+amount-first : (v : List ℕ) → amountForm v ≡ true → Solid v
+unfolding amountForm
+amount-first [] e = absurd (omega (arith, between-true 1 15 0 (passes _ e 0)))
+amount-first (c ∷ s) e = go (digit c) refl (between-true 1 15 (length (whole (c ∷ s))) (passes _ e 0) .0)
+  where
+    go : (b : Bool) → digit c ≡ b → 1 ≤ length (whole (c ∷ s)) → Solid (c ∷ s)
+    go true h g = digit-first c s h
+    go false h g = absurd (omega (arith, rw h at g))
+
+pub value-solid : (k : Kind) {v w : List ℕ} → Slip k v w → Passes (kindGiven k v) → Solid v
+unfolding simpleGiven ibanForm identifierForm
+value-solid Count {v} s g = count-first v (count-form v g)
+value-solid Total {v} s g = amount-first v (amount-form theTotal v g)
+value-solid Amount {v} s g = amount-first v (amount-form anItem v g)
+value-solid (Code e) s g = absurd (unwatched (λ x h. h) s)
+value-solid (Plain Reference) s g = absurd (unwatched (λ x h. h) s)
+value-solid (Plain Text70) s g = absurd (unwatched (λ x h. h) s)
+value-solid (Plain Text140) s g = absurd (unwatched (λ x h. h) s)
+value-solid (Plain Date) s g = absurd (unwatched (λ x h. h) s)
+value-solid (Plain Time) s g = absurd (unwatched (λ x h. h) s)
+value-solid (Plain Bic) s g = absurd (unwatched (λ x h. h) s)
+value-solid (Plain Iban) {v} s g = let f = iban-yes v g .0 in head-first v 15 34 (omega arith) (passes _ f 0) (passes _ f 1)
+value-solid (Plain Identifier) {v} s g = let f = identifier-yes v g .0 in head-first v 8 35 (omega arith) (passes _ f 0) (passes _ f 1)
+
+first-kept : (p : List ℕ) (a b : ℕ) (s t : List ℕ) → digit b ≡ true → Solid (p ++ (a ∷ s)) → Solid (p ++ (b ∷ t))
+first-kept [] a b s t d h = digit-first b t d
+first-kept (c ∷ p) a b s t d h =
+    let z : c ≡ h .first = cc (h .is) in
+    record { first = c; later = p ++ (b ∷ t); is = refl; shown = rw z (h .shown); inside = rw z (h .inside) }
+
+pub slip-solid : {k : Kind} {v w : List ℕ} → Slip k v w → Solid v → Solid w
+slip-solid (replaced p q a b at da db ne x y) h = rw y (first-kept p a b q q db (rw x at h))
+slip-solid (exchanged p q a b at da db ne x y) h = rw y (first-kept p a b (b ∷ q) (a ∷ q) db (rw x at h))

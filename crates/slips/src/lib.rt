@@ -1,1 +1,1 @@
-// Laws only: one slip in an accepted message is always refused.
+// No code: one slip in the digits of an accepted message is refused.

@@ -1,6 +1,6 @@
--- `judge::begin_at` meets its contract. Assumes nothing.
+-- `judge::begin_at` meets its contract.
 use native.Mathlib.Omega.{arith}
-use Rattle.judge.proofs.Walks.{past-end, at-start, start-fits}
+use Rattle.judge.proofs.Begins.{spaces-within, skipped-is, past-end}
 use borrow.Author.Needs.{needs}
 use Rattle.judge.proofs.begin_at.Statement.{statement}
 use Rattle.judge.proofs.begin_at.Tie as tie
@@ -21,12 +21,10 @@ spaces-requires : tie.Need-spaces-requires
 spaces-requires c κs = search needs
 
 add-result : tie.Need-add-result
-add-result c =
-    omega
-    (arith, start-fits (c .before .before .before .before .args .m .now) (c .before .before .before .before .args .at) (c .spaces .result) (c .before .before .if1 .left) (c .spaces .ensures))
+add-result c = omega (arith, spaces-within (c .before .before .before .before .args .m .now) (c .before .before .before .before .args .at) (c .spaces .result) (c .before .before .if1 .left) (c .spaces .ensures))
 
 returns-2 : tie.Need-returns-2
-returns-2 c = at-start (c .before .before .before .before .args .m .now) (c .before .before .before .before .args .at) (c .spaces .result) (c .spaces .ensures)
+returns-2 c = skipped-is (c .before .before .before .before .args .m .now) (c .before .before .before .before .args .at) (c .spaces .result) (c .spaces .ensures)
 
 pub begin-at-spec : {M : Type 1} → statement M
 begin-at-spec =

@@ -1,15 +1,19 @@
--- `judge::find` meets its contract. Assumes nothing.
+-- `judge::find` meets its contract.
 use mathlib.Core.Path.{_∙_, ap, sym}
-use Rattle.notes.specs.Reading.{meant, stepped}
-use Rattle.judge.proofs.Ends.{too-long, judged-on, judged-stop}
-use Rattle.judge.proofs.Walks.{first-none, first-on, first-stop}
-use Rattle.reader.proofs.Steps.{fine-on}
+use borrow.Author.Tests.{lt-ltb, le-ltb}
+use Rattle.notes.specs.Steps.{stated, meant, stepped}
+use Rattle.judge.specs.Engine.{concludedIn}
+use Rattle.judge.proofs.Judges.{found-long, found-in}
+use Rattle.judge.proofs.Ends.{fine-at}
 use borrow.Author.Needs.{needs}
 use Rattle.judge.proofs.find.Statement.{statement}
 use Rattle.judge.proofs.find.Tie as tie
 
+deny-requires : tie.Need-deny-requires
+deny-requires c κs = search needs
+
 returns : tie.Need-returns
-returns c = (too-long (c .before .before .args .m .now) (c .if1 .taken), first-none (c .before .before .args .m .now) (c .if1 .taken))
+returns c = c .deny .ensures ∙ found-long (c .before .before .before .args .m .now) (lt-ltb _ _ (c .before .if1 .taken))
 
 read-through-requires : tie.Need-read-through-requires
 read-through-requires c κs = search needs
@@ -18,31 +22,36 @@ enum-told : tie.Need-enum-told
 enum-told c = search needs
 
 finish-requires : tie.Need-finish-requires
-finish-requires c κs =
-    fine-on (c .before .before .before .before .before .before .args .m .now) 0 (stepped (c .before .before .before .read-through .result))
-    (c .before .before .before .read-through .result .state)
-    (ap (λ x. meant x (c .before .before .before .read-through .result .state)) (sym (c .enum-told .given .1)))
-    (c .before .before .before .read-through .ensures .1) .0 .within
+finish-requires c κs = fine-at (c .before .before .before .before .before .before .args .m .now) (stated (c .before .before .before .read-through .result .state)) (stepped (c .before .before .before .read-through .result)) (ap (λ x. meant x (c .before .before .before .read-through .result .state)) (sym (c .enum-told .given .1))) (c .before .before .before .read-through .ensures .1)
 
 enum-known-met : tie.Need-enum-known-met
 enum-known-met c = search needs
 
+deny-requires-2 : tie.Need-deny-requires-2
+deny-requires-2 c κs = search needs
+
 returns-2 : tie.Need-returns-2
 returns-2 c =
-    (c .finish .ensures ∙ judged-on (c .before .before .before .before .before .before .before .args .m .now) (c .before .before .before .before .before .if1 .left) (c .before .before .before .before .read-through .result .state) (ap (λ x. meant x (c .before .before .before .before .read-through .result .state)) (sym (c .before .enum-told .given .1)) ∙ c .before .before .before .before .read-through .ensures .0), first-on (c .before .before .before .before .before .before .before .args .m .now) (c .before .before .before .before .before .if1 .left) (c .before .before .before .before .read-through .result .state) (ap (λ x. meant x (c .before .before .before .before .read-through .result .state)) (sym (c .before .enum-told .given .1)) ∙ c .before .before .before .before .read-through .ensures .0))
+    let r = c .before .before .before .before .read-through in
+    c .finish .ensures ∙ ap (concludedIn (c .before .before .before .before .before .before .before .args .m .now)) (ap (λ x. meant x (r .result .state)) (sym (c .before .enum-told .given .1)) ∙ r .ensures .0)
+    ∙ found-in (c .before .before .before .before .before .before .before .args .m .now) (le-ltb _ _ (c .before .before .before .before .before .if1 .left))
 
 returns-3 : tie.Need-returns-3
 returns-3 c =
-    (judged-stop (c .before .before .before .before .before .before .before .args .m .now) (c .before .before .before .before .before .if1 .left) _ _ (ap (λ x. meant x (c .before .before .before .before .read-through .result .state)) (sym (c .before .met .given .1)) ∙ c .before .before .before .before .read-through .ensures .0), first-stop (c .before .before .before .before .before .before .before .args .m .now) (c .before .before .before .before .before .if1 .left) _ _ (ap (λ x. meant x (c .before .before .before .before .read-through .result .state)) (sym (c .before .met .given .1)) ∙ c .before .before .before .before .read-through .ensures .0))
+    let r = c .before .before .before .before .before .read-through in
+    c .deny2 .ensures ∙ ap (concludedIn (c .before .before .before .before .before .before .before .before .args .m .now)) (ap (λ x. meant x (r .result .state)) (sym (c .before .before .met .given .1)) ∙ r .ensures .0)
+    ∙ found-in (c .before .before .before .before .before .before .before .before .args .m .now) (le-ltb _ _ (c .before .before .before .before .before .before .if1 .left))
 
 pub find-spec : {M : Type 1} → statement M
 find-spec =
     tie.close
     (tie.spec
+    deny-requires
     returns
     read-through-requires
     enum-told
     finish-requires
     enum-known-met
+    deny-requires-2
     returns-2
     returns-3)

@@ -1,11 +1,15 @@
--- `judge::finish` meets its contract. Assumes nothing.
-use native.Mathlib.Omega.{arith}
+-- `judge::finish` meets its contract.
 use mathlib.Core.Path.{_∙_}
-use Rattle.judge.proofs.Begins.{spaces-within}
-use Rattle.judge.proofs.Ends.{bytes-left, nothing-left}
+use native.Mathlib.Omega.{arith}
+use Rattle.notes.specs.Steps.{stated}
+use Rattle.judge.proofs.Begins.{spaces-within, skipped-is}
+use Rattle.judge.proofs.Ends.{bytes-left, none-left}
 use borrow.Author.Needs.{needs}
 use Rattle.judge.proofs.finish.Statement.{statement}
 use Rattle.judge.proofs.finish.Tie as tie
+
+cast-at : tie.Need-cast-at
+cast-at c = search needs
 
 sub-spaces : tie.Need-sub-spaces
 sub-spaces c = search needs
@@ -20,32 +24,31 @@ spaces-requires : tie.Need-spaces-requires
 spaces-requires c κs = search needs
 
 add-e : tie.Need-add-e
-add-e c =
-    omega
-    (arith, spaces-within (c .before .before .before .args .m .now) (c .before .before .before .args .st .at) (c .spaces .result) (c .before .before .before .pre) (c .spaces .ensures))
+add-e c = omega (arith, spaces-within (c .before .before .before .before .args .m .now) (c .before .before .before .before .args .st .at) (c .spaces .result) (c .before .before .before .before .pre) (c .spaces .ensures))
+
+deny-requires : tie.Need-deny-requires
+deny-requires c κs = search needs
 
 returns : tie.Need-returns
-returns c =
-    bytes-left (c .before .before .before .before .args .m .now) (c .before .before .before .before .args .st) (c .before .spaces .result)
-    (c .before .spaces .ensures) (c .if1 .taken)
+returns c = c .deny .ensures ∙ bytes-left (c .before .before .before .before .before .before .args .m .now) (stated (c .before .before .before .before .before .before .args .st)) _ (skipped-is (c .before .before .before .before .before .before .args .m .now) (c .before .before .before .before .before .before .args .st .at) (c .before .before .spaces .result) (c .before .before .spaces .ensures)) (c .before .if1 .taken)
 
 compare-requires : tie.Need-compare-requires
 compare-requires c κs = search needs
 
 returns-2 : tie.Need-returns-2
-returns-2 c =
-    c .compare .ensures ∙ nothing-left (c .before .before .before .before .before .args .m .now) (c .before .before .before .before .before .args .st)
-    (c .before .before .spaces .result) (c .before .before .spaces .ensures) (c .before .if1 .left)
+returns-2 c = c .compare .ensures ∙ none-left (c .before .before .before .before .before .before .args .m .now) (stated (c .before .before .before .before .before .before .args .st)) _ (skipped-is (c .before .before .before .before .before .before .args .m .now) (c .before .before .before .before .before .before .args .st .at) (c .before .before .spaces .result) (c .before .before .spaces .ensures)) (c .before .if1 .left)
 
 pub finish-spec : {M : Type 1} → statement M
 finish-spec =
     tie.close
     (tie.spec
+    cast-at
     sub-spaces
     part-spaces-start
     part-spaces-end
     spaces-requires
     add-e
+    deny-requires
     returns
     compare-requires
     returns-2)

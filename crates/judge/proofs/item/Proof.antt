@@ -1,6 +1,12 @@
--- `judge::item` meets its contract. Assumes nothing.
-use mathlib.Core.Path.{_∙_}
-use Rattle.judge.proofs.Walks.{not-there, not-judged, is-there}
+-- `judge::item` meets its contract.
+use mathlib.Core.Path.{_∙_, ap, sym}
+use Rattle.judge.specs.Verdict.{meant}
+use Rattle.judge.specs.Found.{Found}
+use Rattle.judge.proofs.Walks.{found-verdict, item-there, item-none, item-refused}
+use mathlib.Core.Path.{_∙_, ap, sym}
+use Rattle.judge.specs.Verdict.{meant}
+use Rattle.judge.specs.Found.{Found}
+use Rattle.judge.proofs.Walks.{found-verdict, item-there, item-none, item-refused}
 use borrow.Author.Needs.{needs}
 use Rattle.judge.proofs.item.Statement.{statement}
 use Rattle.judge.proofs.item.Tie as tie
@@ -15,25 +21,16 @@ enum-known-v-2 : tie.Need-enum-known-v-2
 enum-known-v-2 c = search needs
 
 returns : tie.Need-returns
-returns c =
-    not-there (c .before .before .before .before .before .before .args .m .now) (c .before .before .before .before .before .before .args .i)
-    (c .before .before .before .before .find .result .verdict) (c .before .before .before .before .find .ensures .0) _ _
-    (c .before .before .v2 .given .1) (c .if1 .taken)
+returns c = item-none (c .before .before .before .before .before .before .args .m .now) _ _ (sym (found-verdict (c .before .before .before .before .before .before .args .m .now)) ∙ ap (λ (f : Found). f .verdict) (sym (c .before .before .before .before .find .ensures)) ∙ ap meant (c .before .before .v2 .given .1)) (c .before .before .before .before .before .before .args .i) (c .if1 .taken)
 
 walk-requires : tie.Need-walk-requires
 walk-requires c κs = search needs
 
 returns-2 : tie.Need-returns-2
-returns-2 c =
-    not-judged (c .before .before .before .before .before .args .m .now) (c .before .before .before .before .before .args .i)
-    (c .before .before .before .find .result .verdict) (c .before .before .before .find .ensures .0) _ _ (c .before .v .given .1)
+returns-2 c = item-refused (c .before .before .before .before .before .args .m .now) _ _ (c .before .before .before .before .before .args .i) (sym (found-verdict (c .before .before .before .before .before .args .m .now)) ∙ ap (λ (f : Found). f .verdict) (sym (c .before .before .before .find .ensures)) ∙ ap meant (c .before .v .given .1))
 
 returns-3 : tie.Need-returns-3
-returns-3 c =
-    c .walk .ensures ∙ is-there (c .before .before .before .before .before .before .before .args .m .now)
-    (c .before .before .before .before .before .before .before .args .i) (c .before .before .before .before .before .find .result .verdict)
-    (c .before .before .before .before .before .find .ensures .0) _ _ (c .before .before .before .v2 .given .1) (c .before .if1 .left)
-    (c .before .before .before .before .before .find .result .first) (c .before .before .before .before .before .find .ensures .1)
+returns-3 c = c .walk .ensures ∙ item-there (c .before .before .before .before .before .before .before .args .m .now) _ _ (sym (found-verdict (c .before .before .before .before .before .before .before .args .m .now)) ∙ ap (λ (f : Found). f .verdict) (sym (c .before .before .before .before .before .find .ensures)) ∙ ap meant (c .before .before .before .v2 .given .1)) (c .before .before .before .before .before .before .before .args .i) (c .before .if1 .left) _ (ap (λ (f : Found). f .first) (c .before .before .before .before .before .find .ensures))
 
 pub item-spec : {M : Type 1} → statement M
 item-spec =

@@ -1,66 +1,57 @@
--- `judge::open_message` meets its contract. Assumes nothing.
+-- `judge::open_message` meets its contract.
 use native.Mathlib.Omega.{arith}
-use Rattle.judge.proofs.Begins.{place-within, spaces-within, opened-root, opened-faulty}
+use Rattle.text.proofs.Truths.{yes-not, no-not}
+use Rattle.judge.specs.Verdict.{openedAs}
+use Rattle.judge.proofs.Begins.{no-declaration, declaration-fits, declaration-whole, declaration-cut, declaration-other}
 use borrow.Author.Needs.{needs}
 use Rattle.judge.proofs.open_message.Statement.{statement}
 use Rattle.judge.proofs.open_message.Tie as tie
 
-declare-requires : tie.Need-declare-requires
-declare-requires c κs = search needs
-
-enum-known-p : tie.Need-enum-known-p
-enum-known-p c = search needs
-
-sub-spaces : tie.Need-sub-spaces
-sub-spaces c =
-    (place-within (c .before .before .before .before .before .args .m .now) (c .before .before .before .declare .result) (c .before .before .before .declare .ensures .0) (c .before .before .before .declare .ensures .1) _ (c .before .p .given .1))
-
-part-spaces-start : tie.Need-part-spaces-start
-part-spaces-start c =
-    (place-within (c .before .before .before .before .before .args .m .now) (c .before .before .before .declare .result) (c .before .before .before .declare .ensures .0) (c .before .before .before .declare .ensures .1) _ (c .before .p .given .1))
-
-part-spaces-end : tie.Need-part-spaces-end
-part-spaces-end c = search needs
-
-spaces-requires : tie.Need-spaces-requires
-spaces-requires c κs = search needs
-
-add-enter-root : tie.Need-add-enter-root
-add-enter-root c =
-    omega
-    (arith, spaces-within (c .before .before .before .before .before .before .before .args .m .now) (c .before .before .before .p .given .0 .0) (c .spaces .result) (place-within (c .before .before .before .before .before .before .before .args .m .now) (c .before .before .before .before .before .declare .result) (c .before .before .before .before .before .declare .ensures .0) (c .before .before .before .before .before .declare .ensures .1) _ (c .before .before .before .p .given .1)) (c .spaces .ensures))
+has-question-requires : tie.Need-has-question-requires
+has-question-requires c κs = search needs
 
 enter-root-requires : tie.Need-enter-root-requires
-enter-root-requires c κs =
-    spaces-within (c .before .before .before .before .before .before .before .args .m .now) (c .before .before .before .p .given .0 .0)
-    (c .spaces .result)
-    (place-within (c .before .before .before .before .before .before .before .args .m .now) (c .before .before .before .before .before .declare .result) (c .before .before .before .before .before .declare .ensures .0) (c .before .before .before .before .before .declare .ensures .1) _ (c .before .before .before .p .given .1))
-    (c .spaces .ensures)
-
-enum-known-number : tie.Need-enum-known-number
-enum-known-number c = search needs
+enter-root-requires c κs = search needs
 
 returns : tie.Need-returns
-returns c =
-    (opened-root (c .before .before .before .before .before .before .before .before .args .m .now) (c .before .before .before .before .before .before .declare .result) (c .before .before .before .before .before .before .declare .ensures .0) (c .before .before .before .before .before .before .declare .ensures .1) (c .before .before .before .before .p .given .0 .0) (c .before .spaces .result) (c .before .before .before .before .p .given .1) (c .before .spaces .ensures) (c .enter-root .result) (c .enter-root .ensures .0), c .enter-root .ensures .1)
+returns c = (no-declaration (c .before .before .before .before .args .m .now) (no-not (c .before .before .has-question .ensures) (c .before .if1 .taken)) (openedAs (c .enter-root .result)) (c .enter-root .ensures .0), c .enter-root .ensures .1)
+
+declaration-at-requires : tie.Need-declaration-at-requires
+declaration-at-requires c κs = search needs
+
+enum-told : tie.Need-enum-told
+enum-told c = search needs
+
+enter-root-requires-2 : tie.Need-enter-root-requires-2
+enter-root-requires-2 c κs = declaration-fits (c .before .before .before .before .before .before .args .m .now) (yes-not (c .before .before .before .before .has-question .ensures) (c .before .before .before .if1 .left)) (c .before .before .declaration-at .result) (c .before .before .declaration-at .ensures) (c .enum-told .given .1)
+
+enum-told-2 : tie.Need-enum-told-2
+enum-told-2 c = search needs
+
+enum-told-3 : tie.Need-enum-told-3
+enum-told-3 c = search needs
 
 returns-2 : tie.Need-returns-2
-returns-2 c =
-    opened-faulty (c .before .before .before .before .before .args .m .now) (c .before .before .before .declare .result)
-    (c .before .before .before .declare .ensures .0) (c .before .before .before .declare .ensures .1) _ _ (c .before .number .given .1)
+returns-2 c = (declaration-whole (c .before .before .before .before .before .before .before .args .m .now) (yes-not (c .before .before .before .before .before .has-question .ensures) (c .before .before .before .before .if1 .left)) (c .before .before .before .declaration-at .result) (c .before .before .before .declaration-at .ensures) (c .before .enum-told .given .1) (openedAs (c .enter-root2 .result)) (c .enter-root2 .ensures .0), c .enter-root2 .ensures .1)
+
+returns-3 : tie.Need-returns-3
+returns-3 c = declaration-cut (c .before .before .before .before .before .before .args .m .now) (yes-not (c .before .before .before .before .has-question .ensures) (c .before .before .before .if1 .left)) (c .before .before .declaration-at .result) (c .before .before .declaration-at .ensures) (c .enum-told2 .given .1)
+
+returns-4 : tie.Need-returns-4
+returns-4 c = declaration-other (c .before .before .before .before .before .before .args .m .now) (yes-not (c .before .before .before .before .has-question .ensures) (c .before .before .before .if1 .left)) (c .before .before .declaration-at .result) (c .before .before .declaration-at .ensures) (c .enum-told3 .given .1)
 
 pub open-message-spec : {M : Type 1} → statement M
 open-message-spec =
     tie.close
     (tie.spec
-    declare-requires
-    enum-known-p
-    sub-spaces
-    part-spaces-start
-    part-spaces-end
-    spaces-requires
-    add-enter-root
+    has-question-requires
     enter-root-requires
-    enum-known-number
     returns
-    returns-2)
+    declaration-at-requires
+    enum-told
+    enter-root-requires-2
+    enum-told-2
+    enum-told-3
+    returns-2
+    returns-3
+    returns-4)

@@ -1,6 +1,8 @@
--- `judge::read_through` meets its contract. Assumes nothing.
+-- `judge::read_through` meets its contract.
+use mathlib.Core.Path.{ap, sym}
+use Rattle.notes.specs.Steps.{stepped}
+use Rattle.judge.specs.Verdict.{openedAs}
 use Rattle.judge.proofs.Begins.{through-from, through-faulty}
-use Rattle.notes.specs.Reading.{stepped}
 use borrow.Author.Needs.{needs}
 use Rattle.judge.proofs.read_through.Statement.{statement}
 use Rattle.judge.proofs.read_through.Tie as tie
@@ -24,15 +26,10 @@ refuse-requires : tie.Need-refuse-requires
 refuse-requires c κs = search needs
 
 returns : tie.Need-returns
-returns c =
-    (through-from (c .before .before .before .before .before .before .args .m .now) (c .before .before .before .before .before .before .pre) (c .before .before .before .before .open-message .result) (c .before .before .before .before .open-message .ensures .0) (c .before .before .before .before .open-message .ensures .1) _ (c .before .before .p .given .1) (stepped (c .message .result)) (c .message .ensures .0), c .message .ensures .1)
+returns c = (through-from (c .before .before .before .before .before .before .args .m .now) (c .before .before .before .before .before .before .pre) (openedAs (c .before .before .before .before .open-message .result)) (c .before .before .before .before .open-message .ensures .0) (c .before .before .before .before .open-message .ensures .1) _ (ap openedAs (sym (c .before .before .p .given .1))) (stepped (c .message .result)) (c .message .ensures .0), c .message .ensures .1)
 
 returns-2 : tie.Need-returns-2
-returns-2 c =
-    through-faulty (c .before .before .before .before .before .before .before .args .m .now)
-    (c .before .before .before .before .before .before .before .pre) (c .before .before .before .before .before .open-message .result)
-    (c .before .before .before .before .before .open-message .ensures .0) (c .before .before .before .before .before .open-message .ensures .1) _ _
-    (c .before .before .before .number .given .1) (stepped (c .refuse .result)) (c .refuse .ensures)
+returns-2 c = through-faulty (c .before .before .before .before .before .before .before .args .m .now) (c .before .before .before .before .before .before .before .pre) (openedAs (c .before .before .before .before .before .open-message .result)) (c .before .before .before .before .before .open-message .ensures .0) (c .before .before .before .before .before .open-message .ensures .1) _ _ (ap openedAs (sym (c .before .before .before .number .given .1))) (stepped (c .refuse .result)) (c .refuse .ensures)
 
 pub read-through-spec : {M : Type 1} → statement M
 read-through-spec =

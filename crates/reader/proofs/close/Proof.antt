@@ -1,12 +1,16 @@
--- `reader::close` meets its contract. Assumes nothing.
-use native.Mathlib.Omega.{arith}
+-- `reader::close` meets its contract.
 use mathlib.Core.Path.{_∙_, ap}
-use Rattle.profile.specs.Table.{closesBy}
-use Rattle.notes.specs.Reading.{on, stepped}
+use native.Mathlib.Omega.{arith}
+use Rattle.table.specs.Table.{closesBy}
+use Rattle.reading.specs.Noted.{on}
+use Rattle.notes.specs.Steps.{stepped}
 use Rattle.reader.proofs.Steps.{close-fits, closed-whole, closed-cut, closed-other}
 use borrow.Author.Needs.{needs}
 use Rattle.reader.proofs.close.Statement.{statement}
 use Rattle.reader.proofs.close.Tie as tie
+
+cast-at : tie.Need-cast-at
+cast-at c = search needs
 
 sub-closing : tie.Need-sub-closing
 sub-closing c = search needs
@@ -27,9 +31,10 @@ cast-at-place : tie.Need-cast-at-place
 cast-at-place c = search needs
 
 add-at-place : tie.Need-add-at-place
-add-at-place c =
-    omega
-    (arith, close-fits (c .before .before .before .before .before .before .before .args .m .now) (c .before .before .before .before .before .before .before .args .st) (closesBy (c .before .before .before .before .before .before .before .args .names .now) (c .before .before .before .before .before .before .before .args .r)) (c .before .before .before .before .before .before .before .pre .0) (c .before .before .before .closing .result) (c .before .before .before .closing .ensures) (c .before .enum-told .given .1) (c .before .before .before .before .before .before .before .args .r .finish) (c .before .before .before .before .before .before .before .pre .1), c .before .before .before .before .before .before .before .pre .0)
+add-at-place c = omega (arith, close-fits (c .before .before .before .before .before .before .before .before .args .m .now) (c .before .before .before .before .before .before .before .before .args .st .at) (c .before .before .before .before .before .before .before .before .args .st .notes) (closesBy (c .before .before .before .before .before .before .before .before .args .names .now) (c .before .before .before .before .before .before .before .before .args .r)) (c .before .before .before .before .before .before .before .before .pre .0) (c .before .before .before .closing .result) (c .before .before .before .closing .ensures) (c .before .enum-told .given .1) (c .before .before .before .before .before .before .before .before .args .r .finish) (c .before .before .before .before .before .before .before .before .pre .1), c .before .before .before .before .before .before .before .before .pre .0 .small)
+
+cast-at-place-2 : tie.Need-cast-at-place-2
+cast-at-place-2 c = omega (arith, close-fits (c .before .before .before .before .before .before .before .before .args .m .now) (c .before .before .before .before .before .before .before .before .args .st .at) (c .before .before .before .before .before .before .before .before .args .st .notes) (closesBy (c .before .before .before .before .before .before .before .before .args .names .now) (c .before .before .before .before .before .before .before .before .args .r)) (c .before .before .before .before .before .before .before .before .pre .0) (c .before .before .before .closing .result) (c .before .before .before .closing .ensures) (c .before .enum-told .given .1) (c .before .before .before .before .before .before .before .before .args .r .finish) (c .before .before .before .before .before .before .before .before .pre .1), c .before .before .before .before .before .before .before .before .pre .0 .small)
 
 at-place-requires : tie.Need-at-place-requires
 at-place-requires c κs = search needs
@@ -46,40 +51,23 @@ refuse-requires c κs = search needs
 enum-told-3 : tie.Need-enum-told-3
 enum-told-3 c = search needs
 
-refuse-requires-2 : tie.Need-refuse-requires-2
-refuse-requires-2 c κs = search needs
+refuse-here-requires : tie.Need-refuse-here-requires
+refuse-here-requires c κs = search needs
 
 returns : tie.Need-returns
-returns c =
-    closed-whole (c .before .before .before .before .before .before .before .before .before .args .m .now)
-    (c .before .before .before .before .before .before .before .before .before .args .st)
-    (closesBy (c .before .before .before .before .before .before .before .before .before .args .names .now) (c .before .before .before .before .before .before .before .before .before .args .r))
-    (c .before .before .before .before .before .before .before .before .before .pre .0) (c .before .before .before .before .before .closing .result)
-    (c .before .before .before .before .before .closing .ensures) (c .before .before .before .enum-told .given .1)
-    (c .before .before .before .before .before .before .before .before .before .args .r .finish)
-    (c .before .before .before .before .before .before .before .before .before .pre .1) (stepped (c .read-on .result))
-    (c .read-on .ensures ∙ ap on (c .before .at-place .ensures))
+returns c = closed-whole (c .before .before .before .before .before .before .before .before .before .before .args .m .now) (c .before .before .before .before .before .before .before .before .before .before .args .st .at) (c .before .before .before .before .before .before .before .before .before .before .args .st .notes) (closesBy (c .before .before .before .before .before .before .before .before .before .before .args .names .now) (c .before .before .before .before .before .before .before .before .before .before .args .r)) (c .before .before .before .before .before .before .before .before .before .before .pre .0) (c .before .before .before .before .before .closing .result) (c .before .before .before .before .before .closing .ensures) (c .before .before .before .enum-told .given .1) (c .before .before .before .before .before .before .before .before .before .before .args .r .finish) (c .before .before .before .before .before .before .before .before .before .before .pre .1) (stepped (c .read-on .result)) (c .read-on .ensures ∙ ap on (c .before .at-place .ensures))
 
 returns-2 : tie.Need-returns-2
-returns-2 c =
-    closed-cut (c .before .before .before .before .before .before .before .args .m .now)
-    (c .before .before .before .before .before .before .before .args .st)
-    (closesBy (c .before .before .before .before .before .before .before .args .names .now) (c .before .before .before .before .before .before .before .args .r))
-    (c .before .before .before .before .before .before .before .pre .0) (c .before .before .before .closing .result)
-    (c .before .before .before .closing .ensures) (c .before .enum-told2 .given .1) (stepped (c .refuse .result)) (c .refuse .ensures)
+returns-2 c = closed-cut (c .before .before .before .before .before .before .before .before .args .m .now) (c .before .before .before .before .before .before .before .before .args .st .at) (c .before .before .before .before .before .before .before .before .args .st .notes) (closesBy (c .before .before .before .before .before .before .before .before .args .names .now) (c .before .before .before .before .before .before .before .before .args .r)) (c .before .before .before .before .before .before .before .before .pre .0) (c .before .before .before .closing .result) (c .before .before .before .closing .ensures) (c .before .enum-told2 .given .1) (stepped (c .refuse .result)) (c .refuse .ensures)
 
 returns-3 : tie.Need-returns-3
-returns-3 c =
-    closed-other (c .before .before .before .before .before .before .before .args .m .now)
-    (c .before .before .before .before .before .before .before .args .st)
-    (closesBy (c .before .before .before .before .before .before .before .args .names .now) (c .before .before .before .before .before .before .before .args .r))
-    (c .before .before .before .before .before .before .before .pre .0) (c .before .before .before .closing .result)
-    (c .before .before .before .closing .ensures) (c .before .enum-told3 .given .1) (stepped (c .refuse2 .result)) (c .refuse2 .ensures)
+returns-3 c = closed-other (c .before .before .before .before .before .before .before .before .args .m .now) (c .before .before .before .before .before .before .before .before .args .st .at) (c .before .before .before .before .before .before .before .before .args .st .notes) (closesBy (c .before .before .before .before .before .before .before .before .args .names .now) (c .before .before .before .before .before .before .before .before .args .r)) (c .before .before .before .before .before .before .before .before .pre .0) (c .before .before .before .closing .result) (c .before .before .before .closing .ensures) (c .before .enum-told3 .given .1) (stepped (c .refuse-here .result)) (c .refuse-here .ensures)
 
 pub close-spec : {M : Type 1} → statement M
 close-spec =
     tie.close
     (tie.spec
+    cast-at
     sub-closing
     part-closing-start
     part-closing-end
@@ -87,12 +75,13 @@ close-spec =
     enum-told
     cast-at-place
     add-at-place
+    cast-at-place-2
     at-place-requires
     read-on-requires
     enum-told-2
     refuse-requires
     enum-told-3
-    refuse-requires-2
+    refuse-here-requires
     returns
     returns-2
     returns-3)

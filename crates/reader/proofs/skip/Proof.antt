@@ -1,9 +1,13 @@
--- `reader::skip` meets its contract. Assumes nothing.
+-- `reader::skip` meets its contract.
 use native.Mathlib.Omega.{arith}
+use Rattle.notes.specs.Steps.{stated}
 use Rattle.reader.proofs.Steps.{spaces-fit, skips}
 use borrow.Author.Needs.{needs}
 use Rattle.reader.proofs.skip.Statement.{statement}
 use Rattle.reader.proofs.skip.Tie as tie
+
+cast-at : tie.Need-cast-at
+cast-at c = search needs
 
 sub-spaces : tie.Need-sub-spaces
 sub-spaces c = search needs
@@ -18,26 +22,27 @@ spaces-requires : tie.Need-spaces-requires
 spaces-requires c κs = search needs
 
 add-at-place : tie.Need-add-at-place
-add-at-place c =
-    omega
-    (arith, spaces-fit (c .before .before .before .args .m .now) (c .before .before .before .args .st .at) (c .spaces .result) (c .before .before .before .pre .within) (c .spaces .ensures))
+add-at-place c = omega (arith, spaces-fit (c .before .before .before .before .args .m .now) (c .before .before .before .before .args .st .at) (c .spaces .result) (c .before .before .before .before .pre .within) (c .spaces .ensures))
+
+cast-at-place : tie.Need-cast-at-place
+cast-at-place c = omega (arith, spaces-fit (c .before .before .before .before .args .m .now) (c .before .before .before .before .args .st .at) (c .spaces .result) (c .before .before .before .before .pre .within) (c .spaces .ensures), c .before .before .before .before .pre .small)
 
 at-place-requires : tie.Need-at-place-requires
 at-place-requires c κs = search needs
 
 returns : tie.Need-returns
-returns c =
-    skips (c .before .before .before .before .args .m .now) (c .before .before .before .before .args .st) (c .before .spaces .result)
-    (c .at-place .result) (c .before .before .before .before .pre) (c .before .spaces .ensures) (c .at-place .ensures)
+returns c = skips (c .before .before .before .before .before .args .m .now) (stated (c .before .before .before .before .before .args .st)) (c .before .spaces .result) (stated (c .at-place .result)) (c .before .before .before .before .before .pre) (c .before .spaces .ensures) (c .at-place .ensures)
 
 pub skip-spec : {M : Type 1} → statement M
 skip-spec =
     tie.close
     (tie.spec
+    cast-at
     sub-spaces
     part-spaces-start
     part-spaces-end
     spaces-requires
     add-at-place
+    cast-at-place
     at-place-requires
     returns)

@@ -1,25 +1,21 @@
--- `records::fill` meets its contract. The loop's invariant: what is due from here is what was due at the start, and the area is as long. The measure is how many items are left. Assumes nothing.
+-- `records::fill` meets its contract. The loop's invariant: the records of the items that are done stand in the area, and the others stand in the message from here on.
+use mathlib.Core.Path.{_∙_, ap, sym}
+use Prim.Native.Nat.{_-_}
 use borrow.Author.Needs.{needs}
 use native.Mathlib.Omega.{arith}
-use mathlib.Core.Path.{_≡_, refl, ap, sym, _∙_}
-use Prim.Native.Nat.{_≤_, _-_}
-use native.Mathlib.Nat.{sub-zero}
-use mathlib.Core.List.{[]}
-use lib.ListN.{length}
-use Rattle.notes.specs.Reading.{meant}
-use Rattle.records.specs.Area.{filled}
-use Rattle.records.proofs.Areas.{part-long, after-long, fill-stops, fill-on, fill-end}
+use Rattle.notes.specs.Steps.{stated, meant, stepped}
+use Rattle.records.proofs.Areas.{Filling, fill-begins, fill-ends, part-fits, part-long, never-stops, fill-on}
 use Rattle.records.proofs.fill.Statement.{statement}
 use Rattle.records.proofs.fill.Tie as tie
 
 abbrev Inv-loop : tie.InvT-loop
-Inv-loop m count first area₀ i₀ at₀ area i at = (i ≤ count) × (length area ≡ length area₀) × (filled (count - i) i m at area ≡ filled count 0 m first area₀)
+Inv-loop m count first area₀ i₀ at₀ area i at = Filling m count area₀ i at area
 
 abbrev μ-loop : tie.MeasureT-loop
 μ-loop m count first area₀ i₀ at₀ area i at = count - i
 
 loop-holds : tie.Need-loop-holds Inv-loop μ-loop
-loop-holds c = (search needs, refl, rw (sub-zero (c .before .before .args .count)))
+loop-holds c = fill-begins (c .before .before .args .m .now) (c .before .before .args .count) (c .before .before .args .first) (c .before .before .args .area .now) (c .before .before .pre)
 
 item-requires : tie.Need-item-requires Inv-loop μ-loop
 item-requires c κs = search needs
@@ -28,41 +24,37 @@ enum-told : tie.Need-enum-told Inv-loop μ-loop
 enum-told c = search needs
 
 same-length : tie.Need-same-length Inv-loop μ-loop
-same-length c = c .before .before .before .before .before .loop .inv .1
+same-length c = c .before .before .before .before .before .loop .inv .long
 
 returns : tie.Need-returns Inv-loop μ-loop
-returns c =
-    let a = c .before .before .before .before .before .before .before .before .args in
-    let l = c .before .before .before .before .before .loop in
-    let r = c .before .before .before .item in
-    fill-stops (a .m .now) (a .count) (l .i) (l .at) (l .area) _ (l .inv .2) (c .before .before .before .before .loop-test .taken) _ _
-    (ap (λ x. meant x (r .result .state)) (sym (c .enum-told .given .1)) ∙ r .ensures .0)
+returns c = never-stops (c .before .before .before .before .before .before .before .before .args .m .now) (c .before .before .before .before .before .before .before .before .args .count) (c .before .before .before .before .before .before .before .before .args .first) (c .before .before .before .before .before .before .before .before .args .area .now) (c .before .before .before .before .before .before .before .before .pre) (c .before .before .before .before .before .loop .i) (c .before .before .before .before .before .loop .at) (c .before .before .before .before .before .loop .area) (c .before .before .before .before .before .loop .inv) (c .before .before .before .before .loop-test .taken) (stepped (c .before .before .before .item .result)) (c .before .before .before .item .ensures .0) _ _ (ap (λ x. meant x (c .before .before .before .item .result .state)) (c .enum-told .given .1))
 
 enum-told-2 : tie.Need-enum-told-2 Inv-loop μ-loop
 enum-told-2 c = search needs
 
 mul-from : tie.Need-mul-from Inv-loop μ-loop
-mul-from c = search needs
+mul-from c = omega (arith, part-fits (c .before .before .before .before .before .before .before .before .args .m .now) (c .before .before .before .before .before .before .before .before .args .count) (c .before .before .before .before .before .before .before .before .args .first) (c .before .before .before .before .before .before .before .before .args .area .now) (c .before .before .before .before .before .before .before .before .pre) (c .before .before .before .before .before .loop .i) (c .before .before .before .before .before .loop .at) (c .before .before .before .before .before .loop .area) (c .before .before .before .before .before .loop .inv) (c .before .before .before .before .loop-test .taken))
 
 add-to : tie.Need-add-to Inv-loop μ-loop
-add-to c = search needs
+add-to c = omega (arith, part-fits (c .before .before .before .before .before .before .before .before .args .m .now) (c .before .before .before .before .before .before .before .before .args .count) (c .before .before .before .before .before .before .before .before .args .first) (c .before .before .before .before .before .before .before .before .args .area .now) (c .before .before .before .before .before .before .before .before .pre) (c .before .before .before .before .before .loop .i) (c .before .before .before .before .before .loop .at) (c .before .before .before .before .before .loop .area) (c .before .before .before .before .before .loop .inv) (c .before .before .before .before .loop-test .taken))
 
 sub-write : tie.Need-sub-write Inv-loop μ-loop
-sub-write c = search needs
+sub-write c = omega (arith, part-fits (c .before .before .before .before .before .before .before .before .before .args .m .now) (c .before .before .before .before .before .before .before .before .before .args .count) (c .before .before .before .before .before .before .before .before .before .args .first) (c .before .before .before .before .before .before .before .before .before .args .area .now) (c .before .before .before .before .before .before .before .before .before .pre) (c .before .before .before .before .before .before .loop .i) (c .before .before .before .before .before .before .loop .at) (c .before .before .before .before .before .before .loop .area) (c .before .before .before .before .before .before .loop .inv) (c .before .before .before .before .before .loop-test .taken))
 
 part-write-start : tie.Need-part-write-start Inv-loop μ-loop
-part-write-start c = search needs
+part-write-start c = omega (arith, part-fits (c .before .before .before .before .before .before .before .before .before .args .m .now) (c .before .before .before .before .before .before .before .before .before .args .count) (c .before .before .before .before .before .before .before .before .before .args .first) (c .before .before .before .before .before .before .before .before .before .args .area .now) (c .before .before .before .before .before .before .before .before .before .pre) (c .before .before .before .before .before .before .loop .i) (c .before .before .before .before .before .before .loop .at) (c .before .before .before .before .before .before .loop .area) (c .before .before .before .before .before .before .loop .inv) (c .before .before .before .before .before .loop-test .taken))
 
 part-write-end : tie.Need-part-write-end Inv-loop μ-loop
-part-write-end c = search needs
+part-write-end c = omega (arith, part-fits (c .before .before .before .before .before .before .before .before .before .args .m .now) (c .before .before .before .before .before .before .before .before .before .args .count) (c .before .before .before .before .before .before .before .before .before .args .first) (c .before .before .before .before .before .before .before .before .before .args .area .now) (c .before .before .before .before .before .before .before .before .before .pre) (c .before .before .before .before .before .before .loop .i) (c .before .before .before .before .before .before .loop .at) (c .before .before .before .before .before .before .loop .area) (c .before .before .before .before .before .before .loop .inv) (c .before .before .before .before .before .loop-test .taken))
 
 make-record-requires : tie.Need-make-record-requires Inv-loop μ-loop
 make-record-requires c κs = search needs
 
 write-requires : tie.Need-write-requires Inv-loop μ-loop
-write-requires c κs =
-    let l = c .before .before .before .before .before .before .before .loop in
-    part-long (l .area) [] (l .i) (omega arith)
+write-requires c κs = part-long (c .before .before .before .before .before .before .before .before .before .before .before .args .m .now) (c .before .before .before .before .before .before .before .before .before .before .before .args .count) (c .before .before .before .before .before .before .before .before .before .before .before .args .first) (c .before .before .before .before .before .before .before .before .before .before .before .args .area .now) (c .before .before .before .before .before .before .before .before .before .before .before .pre) (c .before .before .before .before .before .before .before .before .loop .i) (c .before .before .before .before .before .before .before .before .loop .at) (c .before .before .before .before .before .before .before .before .loop .area) (c .before .before .before .before .before .before .before .before .loop .inv) (c .before .before .before .before .before .before .before .loop-test .taken)
+
+cast-at : tie.Need-cast-at Inv-loop μ-loop
+cast-at c = search needs
 
 add-i : tie.Need-add-i Inv-loop μ-loop
 add-i c = search needs
@@ -71,21 +63,13 @@ loop-less : tie.Need-loop-less Inv-loop μ-loop
 loop-less c = search needs
 
 loop-again : tie.Need-loop-again Inv-loop μ-loop
-loop-again c =
-    let a = c .before .before .before .before .before .before .before .before .before .before .before .before .before .args in
-    let l = c .before .before .before .before .before .before .before .before .before .before .loop in
-    let r = c .before .before .before .before .before .before .before .before .item in
-    let w = c .before .before .write in
-    (search needs, after-long (l .area) (w .last .0) (l .i) (omega arith) (omega (arith, w .kept .0)) ∙ l .inv .1, fill-on (a .m .now) (a .count) (l .i) (l .at) (l .area) _ (l .inv .2) (c .before .before .before .before .before .before .before .before .before .loop-test .taken) (r .result .state) (ap (λ x. meant x (r .result .state)) (sym (c .before .before .before .before .before .enum-told2 .given .1)) ∙ r .ensures .0) (w .last .0) (w .ensures ∙ c .before .before .before .make-record .ensures))
+loop-again c = fill-on (c .before .before .before .before .before .before .before .before .before .before .before .before .before .before .before .args .m .now) (c .before .before .before .before .before .before .before .before .before .before .before .before .before .before .before .args .count) (c .before .before .before .before .before .before .before .before .before .before .before .before .before .before .before .args .first) (c .before .before .before .before .before .before .before .before .before .before .before .before .before .before .before .args .area .now) (c .before .before .before .before .before .before .before .before .before .before .before .before .before .before .before .pre) (c .before .before .before .before .before .before .before .before .before .before .before .before .loop .i) (c .before .before .before .before .before .before .before .before .before .before .before .before .loop .at) (c .before .before .before .before .before .before .before .before .before .before .before .before .loop .area) (c .before .before .before .before .before .before .before .before .before .before .before .before .loop .inv) (c .before .before .before .before .before .before .before .before .before .before .before .loop-test .taken) (stepped (c .before .before .before .before .before .before .before .before .before .before .item .result)) (c .before .before .before .before .before .before .before .before .before .before .item .ensures .0) (stated (c .before .before .before .before .before .before .before .before .before .before .item .result .state)) (ap (λ x. meant x (c .before .before .before .before .before .before .before .before .before .before .item .result .state)) (c .before .before .before .before .before .before .before .enum-told2 .given .1)) (c .before .before .before .write .last .0) (c .before .before .before .write .ensures ∙ c .before .before .before .before .make-record .ensures)
 
 same-length-2 : tie.Need-same-length-2 Inv-loop μ-loop
-same-length-2 c = c .before .loop .inv .1
+same-length-2 c = c .before .loop .inv .long
 
 returns-2 : tie.Need-returns-2 Inv-loop μ-loop
-returns-2 c =
-    let a = c .before .before .before .before .args in
-    let l = c .before .loop in
-    fill-end (a .m .now) (a .count) (l .i) (l .at) (l .area) _ (l .inv .2) (c .loop-test .left)
+returns-2 c = fill-ends (c .before .before .before .before .args .m .now) (c .before .before .before .before .args .count) (c .before .before .before .before .args .first) (c .before .before .before .before .args .area .now) (c .before .before .before .before .pre) (c .before .loop .i) (c .before .loop .at) (c .before .loop .area) (c .before .loop .inv) (c .loop-test .left)
 
 pub fill-spec : {M : Type 1} → statement M
 fill-spec =
@@ -106,6 +90,7 @@ fill-spec =
     part-write-end
     make-record-requires
     write-requires
+    cast-at
     add-i
     loop-less
     loop-again

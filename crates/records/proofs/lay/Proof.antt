@@ -1,4 +1,4 @@
--- `records::lay` meets its contract. The loop's invariant: the first i bytes of the value are laid. The measure is what is left of the value. Assumes nothing.
+-- `records::lay` meets its contract. The loop's invariant: the first i bytes of the value are laid. The measure is what is left of the value.
 use borrow.Author.Needs.{needs}
 use mathlib.Core.Path.{_≡_}
 use Prim.Native.Nat.{_≤_, _-_}

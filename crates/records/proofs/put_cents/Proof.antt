@@ -1,10 +1,11 @@
--- `records::put_cents` meets its contract. The loop's invariant: the first i digits of what is left, before those that are written, are all digits. The measure is i. Assumes nothing.
+-- `records::put_cents` meets its contract. The loop's invariant: the first i digits of what is left, before those that are written, are all digits. The measure is i.
 use borrow.Author.Needs.{needs}
 use native.Mathlib.Omega.{arith}
 use mathlib.Core.Path.{_≡_, sym, _∙_}
 use Prim.Native.Nat.{_≤_}
 use lib.ListN.{length}
-use Rattle.records.specs.Record.{digits, laid}
+use Rattle.postings.specs.Record.{digits}
+use Rattle.records.specs.Engine.{laid}
 use Rattle.records.proofs.Digits.{due, due-all, due-less, due-none}
 use Rattle.records.proofs.put_cents.Statement.{statement}
 use Rattle.records.proofs.put_cents.Tie as tie

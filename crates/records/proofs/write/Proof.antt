@@ -1,4 +1,4 @@
--- `records::write` meets its contract. The loop's invariant: the first i bytes are the record's. The measure is what is left of 256. Assumes nothing.
+-- `records::write` meets its contract. The loop's invariant: the first i bytes are the record's. The measure is what is left of 256.
 use borrow.Author.Needs.{needs}
 use native.Mathlib.Omega.{arith}
 use mathlib.Core.Path.{_≡_, refl}

@@ -1,6 +1,6 @@
--- `notes::State::begin_item` meets its contract. Assumes nothing.
+-- `notes::State::begin_item` meets its contract.
 use mathlib.Core.Path.{_∙_, ap}
-use Rattle.notes.specs.Reading.{on}
+use Rattle.reading.specs.Noted.{on}
 use Rattle.notes.proofs.Notings.{begins, too-many}
 use borrow.Author.Needs.{needs}
 use Rattle.notes.proofs.State.begin_item.Statement.{statement}
@@ -13,14 +13,14 @@ read-on-requires : tie.Need-read-on-requires
 read-on-requires c κs = search needs
 
 returns : tie.Need-returns
-returns c = c .read-on .ensures ∙ ap on (c .before .with-item .ensures) ∙ begins (c .before .before .before .before .args .self) (c .before .before .if1 .taken)
+returns c = c .read-on .ensures ∙ ap on (c .before .with-item .ensures) ∙ begins (c .before .before .before .before .args .self .at) (c .before .before .before .before .args .self .notes) (c .before .before .if1 .taken)
 
-refuse-requires : tie.Need-refuse-requires
-refuse-requires c κs = search needs
+refuse-here-requires : tie.Need-refuse-here-requires
+refuse-here-requires c κs = search needs
 
 returns-2 : tie.Need-returns-2
-returns-2 c = c .refuse .ensures ∙ too-many (c .before .before .before .args .self) (c .before .if1 .left)
+returns-2 c = c .refuse-here .ensures ∙ too-many (c .before .before .before .args .self .at) (c .before .before .before .args .self .notes) (c .before .if1 .left)
 
 pub begin-item-spec : {M : Type 1} → statement M
 begin-item-spec =
-    tie.close (tie.spec with-item-requires read-on-requires returns refuse-requires returns-2)
+    tie.close (tie.spec with-item-requires read-on-requires returns refuse-here-requires returns-2)

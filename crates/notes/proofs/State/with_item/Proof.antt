@@ -1,4 +1,4 @@
--- `notes::State::with_item` meets its contract. Assumes nothing.
+-- `notes::State::with_item` meets its contract.
 use borrow.Author.Tests.{eq-eqb, ne-eqb}
 use borrow.Author.Needs.{needs}
 use Rattle.notes.proofs.State.with_item.Statement.{statement}

@@ -1,0 +1,29 @@
+-- The records of an accepted message are those of its document's items, one for each, in order.
+use mathlib.Core.Path.{_≡_, refl, ap, _∙_}
+use mathlib.Core.List.{List, [], _∷_, _++_}
+use Prim.Native.Nat.{ℕ, _+_, _*_, _≤_}
+use borrow.Author.Tests.{le-ltb}
+use lib.ListN.{length}
+use Rattle.profile.specs.Version.{Version}
+use Rattle.reading.specs.Verdict.{accepted}
+use Rattle.reading.specs.Judged.{judged}
+use Rattle.reading.specs.Items.{theItems}
+use Rattle.postings.specs.Record.{recordLength}
+use Rattle.postings.specs.Area.{recordsFor, recorded}
+use Rattle.documents.specs.Document.{texts}
+use Rattle.bulks.specs.Bulk.{DocItem, itemText, front, itemsFrom, itemRecord}
+use Rattle.bulks.specs.Accepted.{Bulked, Posted}
+use Rattle.bulks.proofs.Items.{accepted-many, accepted-items}
+
+records-of : (v : Version) (l : List (DocItem v)) (p : ℕ) → recordsFor (itemsFrom v p l) ≡ texts (itemRecord v) l
+records-of v [] p = refl
+records-of v (x ∷ l) p = ap (λ (y : List ℕ). itemRecord v x ++ y) (records-of v l (p + length (itemText v x)))
+
+-- For an accepted message and an area with room: the records are those of its bulk's items, one for each, in order, and behind them stands what stood there.
+-- So a doubled item can never hide.
+pub accepted-posted : (m a : List ℕ) (n c : ℕ) → judged m ≡ accepted n c → recordLength * n ≤ length a → (k : Bulked m) → Posted m a n c (k .bulk)
+unfolding recorded
+accepted-posted m a n c e h k =
+    let z : recordsFor (theItems m) ≡ texts (itemRecord (k .version)) (k .bulk .items) =
+    ap recordsFor (accepted-items m n c e k) ∙ records-of (k .version) (k .bulk .items) (length (front (k .bulk))) in
+    record { as-many = accepted-many m n c e k; outcome = rw (e, le-ltb (length a) (recordLength * n) h, z) }

@@ -1,0 +1,404 @@
+-- What noting a list of entries one by one comes to: it goes through exactly where every value is of its kind and the rules are kept, and is then accepted
+-- exactly where the header's count and total are those of the list. No message is spoken of here.
+use mathlib.Core.Path.{_≡_, refl, sym, ap, _∙_}
+use mathlib.Core.Bool.{Bool, true, false}
+use mathlib.Core.List.{List, [], _∷_, _++_, append-nil, append-assoc}
+use Prim.Native.Nat.{ℕ, suc, _+_, _≤_}
+use native.Mathlib.Omega.{arith}
+use borrow.Author.Tests.{eqb-true, eq-eqb, ltb-true, lt-ltb, leb-true, le-leb}
+use lib.Dec.{eqb, leb, ltb}
+use lib.ListN.{length}
+use Rattle.text.specs.Truth.{pick, between}
+use Rattle.text.specs.Quoted.{alike, decimal}
+use Rattle.text.proofs.Truths.{between-true}
+use Rattle.answers.specs.Given.{Given, yes, worth, refused as no, _else_, inOrder}
+use Rattle.codes.specs.declared.Element.the-variants.{SttlmMtd, SvcLvl, LclInstrm, SeqTp, ChrgBr, Prtry}
+use Rattle.money.specs.declared.Range as range
+use Rattle.money.specs.Amount.{amountForm, cents, most, amountGiven}
+use Rattle.profile.specs.declared.Kind.{Kind}
+use Rattle.profile.specs.declared.Kind.the-variants.{Plain, Count, Total, Amount, Code}
+use Rattle.profile.specs.Limits.{mostItems}
+use Rattle.profile.specs.Kinds.{sameKind}
+use Rattle.kinds.specs.Given.{kindGiven}
+use Rattle.reading.specs.Trace.{What, itemBegins, itemEnds, there, absent, value, Entry, Trace, met, upTo, fault, message}
+use Rattle.reading.specs.Noted.{Reading, on, stop, onward, Ended, noted}
+use Rattle.reading.specs.Rules.{itemsIn, ofKind, valuesOf, sumOf, centsIn, firstOf, _so_, rules, ownKind, fitting, weighed}
+use Rattle.reading.specs.Verdict.{Judged, accepted, refused}
+use Rattle.reading.specs.Judged.{whats, orRefused, listed, lastOf, onlyOf, placeOf, compared, verdict, judged}
+use Rattle.reading.proofs.Lists.{whats-append, items-append, values-append, cents-append, alike-itself, alike-same}
+use Rattle.reading.proofs.Flat.{never, flat, Whole, same-end, through, taken, goes-whole}
+use Rattle.documents.specs.Document.{Each}
+use Rattle.documents.specs.Holds.{Passes, Alike, numbers, amounts, Holds}
+use Rattle.documents.proofs.Each.{each-both, each-first, each-rest}
+
+-- ---- the rules, kept by a list of what was read
+pub record Kept (ws : List What) : Type 0 where
+  -- every value is of its kind
+  pub kinds : Each (λ w. Passes (ownKind w)) ws
+  -- LclInstrm is the first one's
+  pub alike : Alike (valuesOf (Code LclInstrm) ws)
+  -- 10,000 items at most
+  pub few : itemsIn ws ≤ mostItems
+  -- the running sum is in the header total's range
+  pub summed : centsIn ws ≤ most range.the-variants.Total
+
+pub kept-none : Kept []
+kept-none = record { kinds = tt; alike = tt; few = omega arith; summed = omega arith }
+
+pub kept-first : (a b : List What) → Kept (a ++ b) → Kept a
+kept-first a b h =
+    record {
+      kinds = each-first (λ w. Passes (ownKind w)) a b (h .kinds);
+      alike = alike-first (valuesOf (Code LclInstrm) a) (valuesOf (Code LclInstrm) b) (rw (values-append (Code LclInstrm) a b) at (h .alike));
+      few = omega (arith, h .few, items-append a b);
+      summed = omega (arith, h .summed, cents-append a b);
+    }
+  where
+    alike-first : (x y : List (List ℕ)) → Alike (x ++ y) → Alike x
+    alike-first [] y e = tt
+    alike-first (v ∷ x) y e = each-first (λ w. w ≡ v) x y e
+
+-- ---- one more: it is kept exactly where what is met passes, after what was read before
+passes-both : (g h : Given) → Passes g → Passes h → Passes (fitting g h)
+passes-both yes h p q = q
+passes-both (worth n) h p q = q
+passes-both (no n) h p q = absurd p
+
+both-pass : (g h : Given) → Passes (fitting g h) → Passes g × Passes h
+both-pass yes h p = (tt, p)
+both-pass (worth n) h p = (tt, p)
+both-pass (no n) h p = absurd p
+
+rules-pass : (a b : Bool) (i j : ℕ) → Passes (inOrder (a else i ∷ b else j ∷ []) yes) → (a ≡ true) × (b ≡ true)
+rules-pass true true i j p = (refl, refl)
+rules-pass true false i j p = absurd p
+rules-pass false b i j p = absurd p
+
+-- LclInstrm, and the running sum, with one value more or none
+alike-more : (b : Bool) (l : List (List ℕ)) (v : List ℕ) → Alike l → (b so alike (firstOf v l) v) ≡ true → Alike (l ++ pick b (v ∷ []) [])
+alike-more false l v h e = rw (append-nil l) h
+alike-more true [] v h e = tt
+alike-more true (x ∷ l) v h e = each-both (λ w. w ≡ x) l (v ∷ []) h (sym (alike-same x v e), tt)
+
+alike-last : (b : Bool) (l : List (List ℕ)) (v : List ℕ) → Alike (l ++ pick b (v ∷ []) []) → (b so alike (firstOf v l) v) ≡ true
+alike-last false l v h = refl
+alike-last true [] v h = alike-itself v
+alike-last true (x ∷ l) v h = let e : v ≡ x = each-rest (λ w. w ≡ x) l (v ∷ []) h .0 in rw e (alike-itself x)
+
+sum-more : (b : Bool) (x y : ℕ) (v : List ℕ) → x ≤ y → (b so leb (x + cents v) y) ≡ true → x + sumOf (pick b (v ∷ []) []) ≤ y
+sum-more false x y v h e = omega arith
+sum-more true x y v h e = omega (arith, leb-true (x + cents v) y e)
+
+sum-last : (b : Bool) (x y : ℕ) (v : List ℕ) → x + sumOf (pick b (v ∷ []) []) ≤ y → (b so leb (x + cents v) y) ≡ true
+sum-last false x y v h = refl
+sum-last true x y v h = le-leb (x + cents v) y (omega arith)
+
+module _ (a : List What) where
+  pub values-more : (j : Kind) (w : What) → valuesOf j (a ++ (w ∷ [])) ≡ valuesOf j a ++ ofKind j w
+  values-more j w = values-append j a (w ∷ []) ∙ ap (λ (l : List (List ℕ)). valuesOf j a ++ l) (append-nil (ofKind j w))
+
+  pub sums-more : (w : What) → centsIn (a ++ (w ∷ [])) ≡ centsIn a + sumOf (ofKind Amount w)
+  sums-more w = cents-append a (w ∷ []) ∙ ap (λ (l : List (List ℕ)). centsIn a + sumOf l) (append-nil (ofKind Amount w))
+
+  -- what is no value and no item's beginning
+  still : (w : What) → ((j : Kind) → ofKind j w ≡ []) → itemsIn (w ∷ []) ≡ 0 → Passes (ownKind w) → Kept a → Kept (a ++ (w ∷ []))
+  still w v i p h =
+      record {
+        kinds = each-both (λ w. Passes (ownKind w)) a (w ∷ []) (h .kinds) (p, tt);
+        alike = rw (values-more (Code LclInstrm) w, v (Code LclInstrm), append-nil (valuesOf (Code LclInstrm) a)) (h .alike);
+        few = omega (arith, h .few, items-append a (w ∷ []), i);
+        summed = rw (sums-more w, v Amount) (omega (arith, h .summed));
+      }
+
+  pub kept-more : (w : What) → Kept a → Passes (weighed a w) → Kept (a ++ (w ∷ []))
+  kept-more itemEnds h p = still itemEnds (λ j. refl) refl tt h
+  kept-more (there n) h p = still (there n) (λ j. refl) refl tt h
+  kept-more (absent n) h p = still (absent n) (λ j. refl) refl tt h
+  kept-more itemBegins h p =
+      record {
+        kinds = each-both (λ w. Passes (ownKind w)) a (itemBegins ∷ []) (h .kinds) (tt, tt);
+        alike = rw (values-more (Code LclInstrm) itemBegins, append-nil (valuesOf (Code LclInstrm) a)) (h .alike);
+        few = omega (arith, items-append a (itemBegins ∷ []), below (ltb (itemsIn a) mostItems) refl p);
+        summed = rw (sums-more itemBegins) (omega (arith, h .summed));
+      }
+    where
+      below : (b : Bool) → ltb (itemsIn a) mostItems ≡ b → Passes (inOrder (b else 12 ∷ []) yes) → suc (itemsIn a) ≤ mostItems
+      below true e p = omega (arith, ltb-true (itemsIn a) mostItems e)
+      below false e p = absurd p
+  kept-more (value k f v) h p =
+      let b = both-pass (kindGiven k v) (inOrder (rules a (value k f v)) yes) p in
+      let r = rules-pass (sameKind k (Code LclInstrm) so alike (firstOf v (valuesOf (Code LclInstrm) a)) v)
+      (sameKind k Amount so leb (centsIn a + cents v) (most range.the-variants.Total)) 11 13 (b .1) in
+      record {
+        kinds = each-both (λ w. Passes (ownKind w)) a (value k f v ∷ []) (h .kinds) (b .0, tt);
+        alike = rw (values-more (Code LclInstrm) (value k f v)) (alike-more (sameKind k (Code LclInstrm)) (valuesOf (Code LclInstrm) a) v (h .alike) (r .0));
+        few = omega (arith, h .few, items-append a (value k f v ∷ []));
+        summed = rw (sums-more (value k f v)) (sum-more (sameKind k Amount) (centsIn a) (most range.the-variants.Total) v (h .summed) (r .1));
+      }
+
+  pub more-kept : (w : What) → Kept (a ++ (w ∷ [])) → Passes (weighed a w)
+  more-kept itemEnds h = tt
+  more-kept (there n) h = tt
+  more-kept (absent n) h = tt
+  more-kept itemBegins h = rw (lt-ltb (itemsIn a) mostItems (omega (arith, h .few, items-append a (itemBegins ∷ [])))) tt
+  more-kept (value k f v) h =
+      passes-both (kindGiven k v) (inOrder (rules a (value k f v)) yes)
+      (each-rest (λ w. Passes (ownKind w)) a (value k f v ∷ []) (h .kinds) .0)
+      (rw (
+        alike-last (sameKind k (Code LclInstrm)) (valuesOf (Code LclInstrm) a) v (rw (values-more (Code LclInstrm) (value k f v)) at (h .alike)),
+        sum-last (sameKind k Amount) (centsIn a) (most range.the-variants.Total) v (rw (sums-more (value k f v)) at (h .summed)),
+      ) tt)
+
+-- ---- entries noted one by one, after others
+abbrev pub listedAll : List Entry → List Entry → Reading (List Entry)
+listedAll [] es = on es
+listedAll (e ∷ l) es = onward (listed e es) (listedAll l)
+
+pub listed-on : (e : Entry) (es : List Entry) → Passes (weighed (whats es) (e .what)) → listed e es ≡ on (es ++ (e ∷ []))
+listed-on e es = go (weighed (whats es) (e .what))
+  where
+    go : (g : Given) → Passes g → orRefused g (e .place) (es ++ (e ∷ [])) ≡ on (es ++ (e ∷ []))
+    go yes h = refl
+    go (worth n) h = refl
+    go (no n) h = absurd h
+
+pub on-listed : (e : Entry) (es u : List Entry) → listed e es ≡ on u → Passes (weighed (whats es) (e .what))
+on-listed e es u = go (weighed (whats es) (e .what))
+  where
+    go : (g : Given) → orRefused g (e .place) (es ++ (e ∷ [])) ≡ on u → Passes g
+    go yes h = tt
+    go (worth n) h = tt
+    go (no n) h = never (cc)
+
+whats-more : (es : List Entry) (e : Entry) (l : List Entry) → whats ((es ++ (e ∷ [])) ++ l) ≡ whats (es ++ (e ∷ l))
+whats-more es e l = ap whats (append-assoc es (e ∷ []) l)
+
+-- where the rules are kept, noting goes through
+pub kept-listed : (l es : List Entry) → Kept (whats (es ++ l)) → listedAll l es ≡ on (es ++ l)
+kept-listed [] es h = rw (append-nil es)
+kept-listed (e ∷ l) es h =
+    let k : Kept (whats ((es ++ (e ∷ [])) ++ l)) = rw (whats-more es e l) h in
+    let f : Kept (whats es ++ (e .what ∷ [])) = rw (← whats-append es (e ∷ [])) (kept-first (whats (es ++ (e ∷ []))) (whats l) (rw (whats-append (es ++ (e ∷ [])) l) at k)) in
+    rw (listed-on e es (more-kept (whats es) (e .what) f)) (kept-listed l (es ++ (e ∷ [])) k ∙ ap on (append-assoc es (e ∷ []) l))
+
+-- and where it goes through, they are
+pub listed-kept : (l es u : List Entry) → Kept (whats es) → listedAll l es ≡ on u → Kept (whats (es ++ l)) × (u ≡ es ++ l)
+listed-kept [] es u h e =
+    let z : es ≡ u = same-end es u e in
+    (rw (append-nil es) h, rw (append-nil es) (sym z))
+listed-kept (x ∷ l) es u h e =
+    let t = through (listed x es) (listedAll l) u e in
+    let z : t .mid ≡ es ++ (x ∷ []) = taken x es (t .mid) (t .first) in
+    let k : Kept (whats (es ++ (x ∷ []))) = rw (whats-append es (x ∷ [])) (kept-more (whats es) (x .what) h (on-listed x es (t .mid) (t .first))) in
+    let r = listed-kept l (es ++ (x ∷ [])) u k (rw z at (t .then)) in
+    (rw (whats-more es x l) at (r .0), r .1 ∙ append-assoc es (x ∷ []) l)
+
+-- the first that does not pass is refused at its place
+pub listed-stops : (a : List Entry) (e : Entry) (b : List Entry) (n : ℕ) → Kept (whats a) → weighed (whats a) (e .what) ≡ no n → listedAll (a ++ (e ∷ b)) [] ≡ stop n (e .place)
+listed-stops a e b n h q = listed-then a [] (e ∷ b) ∙ rw (kept-listed a [] h, q)
+  where
+    listed-then : (a es b : List Entry) → listedAll (a ++ b) es ≡ onward (listedAll a es) (listedAll b)
+    listed-then [] es b = refl
+    listed-then (x ∷ a) es b = go (listed x es) (λ u. listed-then a u b)
+      where
+        go : (r : Reading (List Entry)) → ((u : List Entry) → listedAll (a ++ b) u ≡ onward (listedAll a u) (listedAll b))
+            → onward r (listedAll (a ++ b)) ≡ onward (onward r (listedAll a)) (listedAll b)
+        go (on u) k = k u
+        go (stop i p) k = refl
+
+-- ---- what the header says is compared
+pub record Compared (ws : List What) (n c : ℕ) : Type 0 where
+  pub items : itemsIn ws ≡ n
+  pub count : decimal (lastOf [] (valuesOf Count ws)) ≡ n
+  pub sum : centsIn ws ≡ c
+  pub total : cents (lastOf [] (valuesOf Total ws)) ≡ c
+
+pub compared-is : (es : List Entry) (n c : ℕ) → compared es ≡ accepted n c → Compared (whats es) n c
+unfolding compared
+compared-is es n c = go (eqb nb items) (eqb total sum) refl refl
+  where
+    nb : ℕ
+    nb = decimal (onlyOf Count es)
+
+    items : ℕ
+    items = itemsIn (whats es)
+
+    total : ℕ
+    total = cents (onlyOf Total es)
+
+    sum : ℕ
+    sum = centsIn (whats es)
+
+    go : (a b : Bool) → eqb nb items ≡ a → eqb total sum ≡ b → pick a (pick b (accepted items sum) (refused 15 (placeOf Total es))) (refused 14 (placeOf Count es)) ≡ accepted n c
+        → Compared (whats es) n c
+    go true true x y e =
+        let p : items ≡ n = cc in
+        let q : sum ≡ c = cc in
+        record { items = p; count = eqb-true nb items x ∙ p; sum = q; total = eqb-true total sum y ∙ q }
+    go true false x y e = never (cc)
+    go false b x y e = never (cc)
+
+pub is-compared : (es : List Entry) (n c : ℕ) → Compared (whats es) n c → compared es ≡ accepted n c
+unfolding compared
+is-compared es n c h = rw (h .items, h .count, h .sum, h .total, eq-eqb n n refl, eq-eqb c c refl)
+
+-- one of a kind: what it says
+pub lone : (l : List (List ℕ)) → length l ≡ 1 → l ≡ lastOf [] l ∷ []
+lone [] h = absurd (let z : ⊥ = omega arith in z)
+lone (x ∷ []) h = refl
+lone (x ∷ y ∷ l) h = absurd (let z : ⊥ = omega arith in z)
+
+module _ (f : List ℕ → ℕ) (fs : List (List ℕ) → List ℕ) (nil : fs [] ≡ []) (more : (v : List ℕ) (l : List (List ℕ)) → fs (v ∷ l) ≡ f v ∷ fs l) where
+  said-once : (l : List (List ℕ)) (n : ℕ) → length l ≡ 1 → f (lastOf [] l) ≡ n → fs l ≡ n ∷ []
+  said-once l n h e = ap fs (lone l h) ∙ more (lastOf [] l) [] ∙ rw (e, nil)
+
+  once-said : (l : List (List ℕ)) (n : ℕ) → fs l ≡ n ∷ [] → f (lastOf [] l) ≡ n
+  once-said [] n e = cc
+  once-said (x ∷ []) n e = let z : f x ∷ fs [] ≡ n ∷ [] = sym (more x []) ∙ e in cc
+  once-said (x ∷ y ∷ l) n e =
+      let z : f x ∷ f y ∷ fs l ≡ n ∷ [] = ap (λ (t : List ℕ). f x ∷ t) (sym (more y l)) ∙ sym (more x (y ∷ l)) ∙ e in
+      never (cc)
+
+-- ---- a total is in its range: so the running sum is, where the sum is the total
+is-total : (k : Kind) → sameKind k Total ≡ true → k ≡ Total
+is-total Total e = refl
+is-total (Plain j) e = never (cc)
+is-total Count e = never (cc)
+is-total Amount e = never (cc)
+is-total (Code SttlmMtd) e = never (cc)
+is-total (Code SvcLvl) e = never (cc)
+is-total (Code LclInstrm) e = never (cc)
+is-total (Code SeqTp) e = never (cc)
+is-total (Code ChrgBr) e = never (cc)
+is-total (Code Prtry) e = never (cc)
+
+pub in-range : (r : range.Range) (v : List ℕ) → Passes (amountGiven r v) → cents v ≤ most r
+unfolding amountGiven
+in-range r v = go (amountForm v) (between 1 (most r) (cents v)) refl
+  where
+    go : (a b : Bool) → between 1 (most r) (cents v) ≡ b → Passes (inOrder (a else 7 ∷ b else 9 ∷ []) (worth (cents v))) → cents v ≤ most r
+    go true true e h = between-true 1 (most r) (cents v) e .1
+    go true false e h = absurd h
+    go false b e h = absurd h
+
+pub totals-most : (ws : List What) → Each (λ w. Passes (ownKind w)) ws → Each (λ c. c ≤ most range.the-variants.Total) (amounts (valuesOf Total ws))
+totals-most [] h = tt
+totals-most (itemBegins ∷ l) h = totals-most l (h .1)
+totals-most (itemEnds ∷ l) h = totals-most l (h .1)
+totals-most (there n ∷ l) h = totals-most l (h .1)
+totals-most (absent n ∷ l) h = totals-most l (h .1)
+totals-most (value k f v ∷ l) h = go (sameKind k Total) refl (totals-most l (h .1))
+  where
+    go : (b : Bool) → sameKind k Total ≡ b → Each (λ c. c ≤ most range.the-variants.Total) (amounts (valuesOf Total l))
+        → Each (λ c. c ≤ most range.the-variants.Total) (amounts (pick b (v ∷ []) [] ++ valuesOf Total l))
+    go true e r = (in-range range.the-variants.Total v (rw (is-total k e) at (h .0)), r)
+    go false e r = r
+
+-- ---- the profile holds of a list exactly where its rules are kept and its header says what stands in it
+pub holds-kept : (ws : List What) (n c : ℕ) → Holds ws n c → Kept ws × Compared ws n c
+holds-kept ws n c h =
+    let z : Each (λ x. x ≤ most range.the-variants.Total) (c ∷ []) = rw (h .total) at (totals-most ws (h .kinds)) in (
+      record { kinds = h .kinds; alike = h .alike; few = omega (arith, h .items, h .few); summed = omega (arith, h .cents, z .0) },
+      record {
+        items = h .items;
+        count = once-said decimal numbers refl (λ v l. refl) (valuesOf Count ws) n (h .count);
+        sum = h .cents;
+        total = once-said cents amounts refl (λ v l. refl) (valuesOf Total ws) c (h .total);
+      },
+    )
+
+pub kept-holds : (ws : List What) (n c : ℕ) → length (valuesOf Count ws) ≡ 1 → length (valuesOf Total ws) ≡ 1 → Kept ws → Compared ws n c → Holds ws n c
+kept-holds ws n c a b k h =
+    record {
+      kinds = k .kinds;
+      alike = k .alike;
+      items = h .items;
+      few = omega (arith, k .few, h .items);
+      count = said-once decimal numbers refl (λ v l. refl) (valuesOf Count ws) n a (h .count);
+      cents = h .sum;
+      total = said-once cents amounts refl (λ v l. refl) (valuesOf Total ws) c b (h .total);
+    }
+
+-- A list is noted through and accepted exactly when the profile holds of it, where it has one count and one total.
+abbrev pub decided : Reading (List Entry) → Judged
+decided (on es) = compared es
+decided (stop n p) = refused n p
+
+pub holds-decided : (es : List Entry) (n c : ℕ) → Holds (whats es) n c → decided (listedAll es []) ≡ accepted n c
+holds-decided es n c h =
+    let k = holds-kept (whats es) n c h in
+    rw (kept-listed es [] (k .0)) (is-compared es n c (k .1))
+
+pub decided-holds : (es : List Entry) (n c : ℕ) → length (valuesOf Count (whats es)) ≡ 1 → length (valuesOf Total (whats es)) ≡ 1 → decided (listedAll es []) ≡ accepted n c → Holds (whats es) n c
+decided-holds es n c a b = go (listedAll es []) refl
+  where
+    go : (x : Reading (List Entry)) → listedAll es [] ≡ x → decided x ≡ accepted n c → Holds (whats es) n c
+    go (stop i p) q e = never (cc)
+    go (on u) q e =
+        let k = listed-kept es [] u kept-none q in
+        kept-holds (whats es) n c a b (k .0) (compared-is es n c (rw (k .1) at e))
+
+-- ---- a list that has something in it, and the entry that says it
+pub record Parted (es : List Entry) (a : List What) (w : What) (b : List What) : Type 0 where
+  pub before : List Entry
+  pub entry : Entry
+  pub behind : List Entry
+  pub is : es ≡ before ++ (entry ∷ behind)
+  pub first : whats before ≡ a
+  pub what : entry .what ≡ w
+  pub last : whats behind ≡ b
+
+pub parted : (es : List Entry) (a : List What) (w : What) (b : List What) → whats es ≡ a ++ (w ∷ b) → Parted es a w b
+parted [] [] w b q = never (cc)
+parted [] (x ∷ a) w b q = never (cc)
+parted (e ∷ es) [] w b q = record { before = []; entry = e; behind = es; is = refl; first = refl; what = cc; last = cc }
+parted (e ∷ es) (x ∷ a) w b q =
+    let z : e .what ≡ x = cc in
+    let r = parted es a w b (cc) in
+    record {
+      before = e ∷ r .before;
+      entry = r .entry;
+      behind = r .behind;
+      is = ap (λ (l : List Entry). e ∷ l) (r .is);
+      first = rw (z, r .first);
+      what = r .what;
+      last = r .last;
+    }
+
+-- what stands before it is in order, and it does not pass: it is refused at its place, whatever follows
+pub decided-refused : (es : List Entry) (a : List What) (w : What) (b : List What) (n : ℕ) (r : Parted es a w b) → Kept a → weighed a w ≡ no n → decided (listedAll es []) ≡ refused n (r .entry .place)
+decided-refused es a w b n r h q =
+    ap (λ (l : List Entry). decided (listedAll l [])) (r .is)
+    ∙ ap decided (listed-stops (r .before) (r .entry) (r .behind) n (rw (r .first) h) (rw (r .first, r .what) q))
+
+-- ---- the judge, of a message that is read through
+pub noted-listed : (t : Trace) (q : ℕ) → Whole t q → (es : List Entry) → noted listed t es ≡ onward (listedAll (flat t) es) (λ l. on (record { at = q; notes = l }))
+noted-listed (upTo p) q w es = rw w
+noted-listed (fault n p) q w es = absurd w
+noted-listed (met e t) q w es = go (listed e es) (noted-listed t q w)
+  where
+    go : (r : Reading (List Entry)) → ((u : List Entry) → noted listed t u ≡ onward (listedAll (flat t) u) (λ l. on (record { at = q; notes = l })))
+        → onward r (noted listed t) ≡ onward (onward r (listedAll (flat t))) (λ l. on (record { at = q; notes = l }))
+    go (on u) k = k u
+    go (stop n p) k = refl
+
+pub judged-listed : (m : List ℕ) (q : ℕ) → Whole (message m) q → judged m ≡ decided (listedAll (flat (message m)) [])
+unfolding judged
+judged-listed m q w = ap verdict (noted-listed (message m) q w []) ∙ go (listedAll (flat (message m)) [])
+  where
+    go : (r : Reading (List Entry)) → verdict (onward r (λ l. on (record { at = q; notes = l }))) ≡ decided r
+    go (on u) = refl
+    go (stop n p) = refl
+
+pub record ReadThrough (m : List ℕ) : Type 0 where
+  pub to : ℕ
+  pub whole : Whole (message m) to
+
+-- what is accepted is read through
+pub accepted-through : (m : List ℕ) (n c : ℕ) → judged m ≡ accepted n c → ReadThrough m
+unfolding judged
+accepted-through m n c = go (noted listed (message m) []) refl
+  where
+    go : (x : Reading (Ended (List Entry))) → noted listed (message m) [] ≡ x → verdict x ≡ accepted n c → ReadThrough m
+    go (on r) q e = record { to = r .at; whole = goes-whole (message m) [] r q }
+    go (stop i p) q e = never (cc)

@@ -1,0 +1,71 @@
+-- One count and one total in each message, one amount, two IBANs and one identifier in each item: computed on the tree, so true of each document.
+use mathlib.Core.Path.{_≡_, refl, _∙_}
+use mathlib.Core.Bool.{true}
+use lib.ListN.{length}
+use Rattle.profile.specs.declared.Kind.{Kind}
+use Rattle.profile.specs.declared.Kind.the-variants.{Count, Total, Amount}
+use Rattle.profile.specs.declared.Field.{Field}
+use Rattle.profile.specs.declared.Field.the-variants.{DbtrIban, CdtrIban, CdtrId}
+use Rattle.profile.specs.Version.{Version, v02}
+use Rattle.profile.specs.Tree.{Shape}
+use Rattle.profile.specs.Profile.{inItem, profile}
+use Rattle.reading.specs.Rules.{valuesOf, valuesAt}
+use Rattle.documents.specs.Document.{Doc, Proper}
+use Rattle.documents.specs.Said.{said}
+use Rattle.documents.specs.Standing.{OneHeader, OneItem}
+use Rattle.documents.proofs.Often.{aKind, aField, times, fixed, of-kind, at-field}
+
+-- what the tree must show: an element of the kind, or the field, stands once, and is neither left out nor repeated
+pub record OnceOf (j : Kind) (sh : Shape) : Type 0 where
+  pub fixed : fixed (aKind j) 0 sh ≡ true
+  pub once : times (aKind j) 0 sh ≡ 1
+
+pub record OnceAt (h : Field) (sh : Shape) : Type 0 where
+  pub fixed : fixed (aField h) 0 sh ≡ true
+  pub once : times (aField h) 0 sh ≡ 1
+
+module _ {sh : Shape} (d : Doc sh) (pr : Proper sh d) where
+  pub one-of : (j : Kind) → OnceOf j sh → length (valuesOf j (said sh d)) ≡ 1
+  one-of j o = of-kind j sh (o .fixed) d pr ∙ o .once
+
+  pub one-at : (h : Field) → OnceAt h sh → length (valuesAt h (said sh d)) ≡ 1
+  one-at h o = at-field h sh (o .fixed) d pr ∙ o .once
+
+-- ---- the profile's tree shows it
+pub counts : (v : Version) → OnceOf Count (profile v)
+unfolding profile
+counts v02 = record { fixed = refl; once = refl }
+
+pub totals : (v : Version) → OnceOf Total (profile v)
+unfolding profile
+totals v02 = record { fixed = refl; once = refl }
+
+pub item-amounts : (v : Version) → OnceOf Amount (inItem v)
+unfolding inItem
+item-amounts v02 = record { fixed = refl; once = refl }
+
+pub item-debtors : (v : Version) → OnceAt DbtrIban (inItem v)
+unfolding inItem
+item-debtors v02 = record { fixed = refl; once = refl }
+
+pub item-creditors : (v : Version) → OnceAt CdtrIban (inItem v)
+unfolding inItem
+item-creditors v02 = record { fixed = refl; once = refl }
+
+pub item-identifiers : (v : Version) → OnceAt CdtrId (inItem v)
+unfolding inItem
+item-identifiers v02 = record { fixed = refl; once = refl }
+
+-- In each message there stand one count and one total.
+pub one-header : (v : Version) (d : Doc (profile v)) → Proper (profile v) d → OneHeader (said (profile v) d)
+one-header v d pr = record { count = one-of d pr Count (counts v); total = one-of d pr Total (totals v) }
+
+-- In each item there stand one amount, the debtor's IBAN and the creditor's, and one creditor identifier.
+pub one-item : (v : Version) (d : Doc (inItem v)) → Proper (inItem v) d → OneItem (said (inItem v) d)
+one-item v d pr =
+    record {
+      amount = one-of d pr Amount (item-amounts v);
+      debtor = one-at d pr DbtrIban (item-debtors v);
+      creditor = one-at d pr CdtrIban (item-creditors v);
+      identifier = one-at d pr CdtrId (item-identifiers v);
+    }

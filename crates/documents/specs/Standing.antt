@@ -1,0 +1,20 @@
+-- What stands exactly once in what a document says: so nothing that is said of a count, a total, an amount, an account or an identifier is about nothing.
+use mathlib.Core.Path.{_≡_}
+use mathlib.Core.List.{List}
+use lib.ListN.{length}
+use Rattle.profile.specs.declared.Kind.the-variants.{Count, Total, Amount}
+use Rattle.profile.specs.declared.Field.the-variants.{DbtrIban, CdtrIban, CdtrId}
+use Rattle.reading.specs.Trace.{What}
+use Rattle.reading.specs.Rules.{valuesOf, valuesAt}
+
+-- in a message (or its header): one count and one total
+pub record OneHeader (ws : List What) : Type 0 where
+  pub count : length (valuesOf Count ws) ≡ 1
+  pub total : length (valuesOf Total ws) ≡ 1
+
+-- in an item: one amount, the debtor's IBAN and the creditor's, and one creditor identifier
+pub record OneItem (ws : List What) : Type 0 where
+  pub amount : length (valuesOf Amount ws) ≡ 1
+  pub debtor : length (valuesAt DbtrIban ws) ≡ 1
+  pub creditor : length (valuesAt CdtrIban ws) ≡ 1
+  pub identifier : length (valuesAt CdtrId ws) ≡ 1

@@ -1,0 +1,119 @@
+-- What is weighed of an entry is refused with a number of what is said, and never where the entry is an item's end.
+use mathlib.Core.Path.{_≡_, refl}
+use mathlib.Core.Bool.{Bool, true, false}
+use mathlib.Core.List.{List, [], _∷_}
+use Prim.Native.Nat.{ℕ, suc, _<_}
+use Prim.Native.String.{String}
+use native.Mathlib.Omega.{arith}
+use lib.Dec.{eqb}
+use Rattle.text.specs.Truth.{both, some, between}
+use Rattle.text.specs.Quoted.{is, decimal}
+use Rattle.text.proofs.Truths.{both-true}
+use Rattle.answers.specs.Given.{Given, yes, worth, refused, Rule, inOrder, _else_}
+use Rattle.words.specs.declared.Field.the-variants.{Nm, Ustrd}
+use Rattle.words.specs.Reference.{referenceForm, referenceGiven}
+use Rattle.words.specs.Text.{textForm, textGiven}
+use Rattle.codes.specs.Listed.{codesOf, orElse, place, codeGiven}
+use Rattle.calendar.specs.Date.{dateForm, dateGiven}
+use Rattle.calendar.specs.Time.{timeForm, timeGiven}
+use Rattle.money.specs.declared.Range.{Range}
+use Rattle.money.specs.declared.Range.the-variants as range
+use Rattle.money.specs.Count.{countForm, countGiven}
+use Rattle.money.specs.Amount.{most, cents, amountForm, amountGiven}
+use Rattle.check97.specs.Check.{ibanChecked, identifierChecked}
+use Rattle.accounts.specs.Bic.{bicForm, bicGiven}
+use Rattle.accounts.specs.Iban.{ibanForm, ibanGiven}
+use Rattle.accounts.specs.Identifier.{identifierForm, identifierGiven}
+use Rattle.profile.specs.declared.Kind.{Kind}
+use Rattle.profile.specs.declared.Kind.the-variants.{Plain, Count, Total, Amount, Code}
+use Rattle.profile.specs.declared.Simple.{Simple}
+use Rattle.profile.specs.declared.Simple.the-variants.{Reference, Text70, Text140, Date, Time, Bic, Iban, Identifier}
+use Rattle.kinds.specs.Given.{simpleGiven, kindGiven}
+use Rattle.reading.specs.Trace.{What, itemBegins, itemEnds, there, absent, value}
+use Rattle.reading.specs.Rules.{rules, ownKind, fitting, weighed}
+use Rattle.reading.proofs.Flat.{never}
+use Rattle.faults.specs.Refusals.{_among_, ofWhatIsSaid}
+use Rattle.faults.proofs.Extends.{needs}
+
+-- no refusal, or one of these numbers
+abbrev pub Said : Given → Type 0
+Said yes = Unit {0}
+Said (worth v) = Unit {0}
+Said (refused n) = n among ofWhatIsSaid
+
+abbrev allSaid : List Rule → Bool
+allSaid [] = true
+allSaid (r ∷ l) = both (some (eqb (r .number)) ofWhatIsSaid) (allSaid l)
+
+in-order : (l : List Rule) (g : Given) → allSaid l ≡ true → Said g → Said (inOrder l g)
+in-order [] g e h = h
+in-order (r ∷ l) g e h =
+    let t = both-true (some (eqb (r .number)) ofWhatIsSaid) (allSaid l) e in
+    go (r .test) (t .0) (in-order l g (t .1) h)
+  where
+    go : (b : Bool) → r .number among ofWhatIsSaid → Said (inOrder l g) → Said (inOrder (record { test = b; number = r .number } ∷ l) g)
+    go true n k = k
+    go false n k = n
+
+-- ---- by the kinds
+simple-said : (s : Simple) (v : List ℕ) → Said (simpleGiven s v)
+unfolding simpleGiven referenceGiven textGiven dateGiven timeGiven bicGiven ibanGiven identifierGiven
+simple-said Reference v = in-order (referenceForm v else 7 ∷ []) yes refl tt
+simple-said Text70 v = in-order (textForm Nm v else 7 ∷ []) yes refl tt
+simple-said Text140 v = in-order (textForm Ustrd v else 7 ∷ []) yes refl tt
+simple-said Date v = in-order (dateForm v else 7 ∷ []) yes refl tt
+simple-said Time v = in-order (timeForm v else 7 ∷ []) yes refl tt
+simple-said Bic v = in-order (bicForm v else 7 ∷ []) yes refl tt
+simple-said Iban v = in-order (ibanForm v else 7 ∷ ibanChecked v else 8 ∷ []) yes refl tt
+simple-said Identifier v = in-order (identifierForm v else 7 ∷ identifierChecked v else 8 ∷ []) yes refl tt
+
+amount-said : (k : Range) (v : List ℕ) → Said (amountGiven k v)
+unfolding amountGiven
+amount-said k v = in-order (amountForm v else 7 ∷ between 1 (most k) (cents v) else 9 ∷ []) (worth (cents v)) refl tt
+
+place-said : (i : ℕ) (l : List String) (v : List ℕ) → Said (place i l v)
+place-said i [] v = refl
+place-said i (t ∷ l) v = go (is t v) (place-said (suc i) l v)
+  where
+    go : (b : Bool) → Said (place (suc i) l v) → Said (orElse b i (place (suc i) l v))
+    go true h = tt
+    go false h = h
+
+kind-said : (k : Kind) (v : List ℕ) → Said (kindGiven k v)
+unfolding countGiven codeGiven
+kind-said (Plain s) v = simple-said s v
+kind-said Count v = in-order (countForm v else 7 ∷ []) (worth (decimal v)) refl tt
+kind-said Total v = amount-said range.Total v
+kind-said Amount v = amount-said range.Item v
+kind-said (Code e) v = place-said 0 (codesOf e) v
+
+-- ---- and by the rules
+fitting-said : (g h : Given) → Said g → Said h → Said (fitting g h)
+fitting-said yes h a b = b
+fitting-said (worth n) h a b = b
+fitting-said (refused n) h a b = a
+
+own-said : (w : What) → Said (ownKind w)
+own-said itemBegins = tt
+own-said itemEnds = tt
+own-said (there n) = tt
+own-said (absent n) = tt
+own-said (value k f v) = kind-said k v
+
+rules-said : (before : List What) (w : What) → allSaid (rules before w) ≡ true
+rules-said before itemBegins = refl
+rules-said before itemEnds = refl
+rules-said before (there n) = refl
+rules-said before (absent n) = refl
+rules-said before (value k f v) = refl
+
+pub weighed-said : (before : List What) (w : What) → Said (weighed before w)
+weighed-said before w = fitting-said (ownKind w) (inOrder (rules before w) yes) (own-said w) (in-order (rules before w) yes (rules-said before w) tt)
+
+-- an entry that is refused has a byte there
+pub weighed-there : (before : List What) (w : What) (n : ℕ) → weighed before w ≡ refused n → 0 < needs w
+weighed-there before itemBegins n e = omega arith
+weighed-there before itemEnds n e = never (cc)
+weighed-there before (there s) n e = omega arith
+weighed-there before (absent s) n e = omega arith
+weighed-there before (value k f v) n e = omega arith

@@ -1,0 +1,36 @@
+-- The lent record area, before and after.
+use Prim.Native.Nat.{ℕ, _*_}
+use mathlib.Core.List.{List, [], _∷_, _++_}
+use lib.ListN.{length, drop}
+use lib.Dec.{ltb}
+use Rattle.text.specs.Truth.{pick}
+use Rattle.reading.specs.Verdict.{Judged, accepted, refused}
+use Rattle.reading.specs.Judged.{judged}
+use Rattle.reading.specs.Items.{Item, theItems}
+use Rattle.postings.specs.Record.{recordLength, recordFor}
+
+-- the records of items, in their order
+abbrev pub recordsFor : List Item → List ℕ
+recordsFor [] = []
+recordsFor (x ∷ l) = recordFor (x .holds) ++ recordsFor l
+
+-- what is answered, and the area afterwards
+pub record Outcome : Type 0 where
+  pub verdict : Judged
+  pub area : List ℕ
+
+-- "Each gives its number and a place [..] and leaves the record area exactly as lent."
+abbrev pub asLent : ℕ → ℕ → List ℕ → Outcome
+asLent n p a = record { verdict = refused n p; area = a }
+
+-- the judge's own refusal; 17 "record area under 256 times the count", at 0; else "record i goes to bytes 256i to 256i+255" and
+-- "Bytes beyond the last record keep what they held."
+abbrev pub written : List Item → List ℕ → Judged → Outcome
+written l a (refused n p) = asLent n p a
+written l a (accepted count cents) =
+    pick (ltb (length a) (recordLength * count))
+    (asLent 17 0 a)
+    (record { verdict = accepted count cents; area = recordsFor l ++ drop (recordLength * count) a })
+
+unfoldable pub recorded : List ℕ → List ℕ → Outcome
+recorded m a = written (theItems m) a (judged m)

@@ -1,0 +1,105 @@
+-- The rules of what a message says, each on the list of what was read before, in the paper's words.
+use Prim.Native.Nat.{ℕ, suc, _+_}
+use mathlib.Core.Bool.{Bool, true, false}
+use mathlib.Core.List.{List, [], _∷_, _++_}
+use lib.Dec.{leb, ltb}
+use Rattle.text.specs.Truth.{pick}
+use Rattle.text.specs.Quoted.{alike}
+use Rattle.answers.specs.Given.{Given, yes, worth, refused, Rule, _else_, inOrder}
+use Rattle.codes.specs.declared.Element as code
+use Rattle.money.specs.declared.Range as range
+use Rattle.money.specs.Amount.{cents, most}
+use Rattle.profile.specs.declared.Kind.{Kind}
+use Rattle.profile.specs.declared.Kind.the-variants.{Amount, Code}
+use Rattle.profile.specs.declared.Field.{Field}
+use Rattle.profile.specs.Limits.{mostItems}
+use Rattle.profile.specs.Kinds.{sameKind}
+use Rattle.profile.specs.Fields.{sameField}
+use Rattle.kinds.specs.Given.{kindGiven}
+use Rattle.reading.specs.Trace.{What, itemBegins, itemEnds, there, absent, value, Entry}
+
+-- ---- what stands in a list
+abbrev pub begun : What → ℕ
+begun itemBegins = 1
+begun itemEnds = 0
+begun (there n) = 0
+begun (absent n) = 0
+begun (value k f v) = 0
+
+abbrev pub itemsIn : List What → ℕ
+itemsIn [] = 0
+itemsIn (w ∷ l) = begun w + itemsIn l
+
+-- the values of a kind, and those of a field, in their order
+abbrev pub ofKind : Kind → What → List (List ℕ)
+ofKind j itemBegins = []
+ofKind j itemEnds = []
+ofKind j (there n) = []
+ofKind j (absent n) = []
+ofKind j (value k f v) = pick (sameKind k j) (v ∷ []) []
+
+abbrev pub valuesOf : Kind → List What → List (List ℕ)
+valuesOf j [] = []
+valuesOf j (w ∷ l) = ofKind j w ++ valuesOf j l
+
+abbrev pub ofField : Field → What → List (List ℕ)
+ofField g itemBegins = []
+ofField g itemEnds = []
+ofField g (there n) = []
+ofField g (absent n) = []
+ofField g (value k f v) = pick (sameField f g) (v ∷ []) []
+
+abbrev pub valuesAt : Field → List What → List (List ℕ)
+valuesAt g [] = []
+valuesAt g (w ∷ l) = ofField g w ++ valuesAt g l
+
+-- the cents of all items
+abbrev pub sumOf : List (List ℕ) → ℕ
+sumOf [] = 0
+sumOf (v ∷ l) = cents v + sumOf l
+
+abbrev pub centsIn : List What → ℕ
+centsIn ws = sumOf (valuesOf Amount ws)
+
+-- the first of some values, or else v
+abbrev pub firstOf : List ℕ → List (List ℕ) → List ℕ
+firstOf v [] = v
+firstOf v (w ∷ l) = w
+
+-- ---- the rules of what is met, after what was read before
+infix 82 _so_
+abbrev pub _so_ : Bool → Bool → Bool
+_so_ true b = b
+_so_ false b = true
+
+abbrev pub rules : List What → What → List Rule
+rules before itemBegins =
+    -- "item 10,001 begins"
+    ltb (itemsIn before) mostItems else 12
+    ∷ []
+rules before itemEnds = []
+rules before (there n) = []
+rules before (absent n) = []
+rules before (value k f v) =
+    -- "LclInstrm differs from the first item's"
+    (sameKind k (Code code.the-variants.LclInstrm) so alike (firstOf v (valuesOf (Code code.the-variants.LclInstrm) before)) v) else 11
+    -- "running sum over the header total's upper range"
+    ∷ (sameKind k Amount so leb (centsIn before + cents v) (most range.the-variants.Total)) else 13
+    ∷ []
+
+-- "Then its kind is judged (7, then 8, then 9; codes 10 [..])"
+abbrev pub ownKind : What → Given
+ownKind itemBegins = yes
+ownKind itemEnds = yes
+ownKind (there n) = yes
+ownKind (absent n) = yes
+ownKind (value k f v) = kindGiven k v
+
+-- its kind, and then the rules
+abbrev pub fitting : Given → Given → Given
+fitting yes g = g
+fitting (worth n) g = g
+fitting (refused n) g = refused n
+
+abbrev pub weighed : List What → What → Given
+weighed before w = fitting (ownKind w) (inOrder (rules before w) yes)

@@ -1,0 +1,9 @@
+pub mod Along
+pub mod Alike
+pub mod Beside
+pub mod Side
+pub mod Whole
+pub mod Tests
+pub mod Near
+pub mod Behind
+pub mod Values

@@ -1,0 +1,4 @@
+pub mod Numbers
+pub mod Opens
+pub mod Tied
+pub mod Rows

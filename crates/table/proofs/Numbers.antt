@@ -1,0 +1,99 @@
+-- The numbers of kinds, fields and occurrences name what they are the numbers of.
+use mathlib.Core.Path.{_≡_, refl, sym}
+use mathlib.Core.List.{List}
+use Prim.Native.Nat.{ℕ, zero, suc, _+_, _-_, _≤_, _<_}
+use native.Mathlib.Omega.{arith}
+use lib.ListN.{length, getD, List·getD-eq-default}
+use Rattle.codes.specs.declared.Element.the-variants as code
+use Rattle.profile.specs.declared.Kind.{Kind}
+use Rattle.profile.specs.declared.Kind.the-variants.{Plain, Count, Total, Amount, Code}
+use Rattle.profile.specs.declared.Simple.the-variants.{Reference, Text70, Text140, Date, Time, Bic, Iban, Identifier}
+use Rattle.profile.specs.declared.Field.{Field}
+use Rattle.profile.specs.declared.Field.the-variants as field
+use Rattle.profile.specs.Fields.{fields, numberOf}
+use Rattle.profile.specs.Kinds.{isAmount}
+use Rattle.profile.specs.Tree.{Occ, once, optional, many, more}
+use Rattle.table.specs.Table.{kinds, kindOf, kindNumber, amountKind, fieldOf, occOf, occNumber}
+
+-- ---- a number that is none of the m numbers behind b lies outside a list of their entries
+abbrev None : ℕ → ℕ → ℕ → Type 0
+None b n zero = Unit {0}
+None b n (suc m) = None b n m × (n ≡ suc (b + m) → ⊥)
+
+beyond : (b n m : ℕ) → None b n m → b < n → b + m < n
+beyond b n zero h g = omega arith
+beyond b n (suc m) h g = let i : b + m < n = beyond b n m (h .0) g in let z : n ≡ suc (b + m) → ⊥ = h .1 in omega arith
+
+outside : {A : Type 0} (l : List A) (d : A) → getD l 0 d ≡ d → (n : ℕ) → (0 < n → length l ≤ n) → d ≡ getD l n d
+outside l d e zero h = sym e
+outside l d e (suc n) h = sym (List·getD-eq-default l d (h (omega arith)))
+
+pub other-kind : (n : ℕ) → None 2 n 16 → Plain Reference ≡ kindOf n
+unfolding kindOf
+other-kind n h = outside kinds (Plain Reference) refl (n - 2) (λ g. omega (arith, beyond 2 n 16 h (omega arith)))
+
+pub other-field : (n : ℕ) → None 0 n 26 → field.MsgId ≡ fieldOf n
+unfolding fieldOf
+other-field n h = outside fields field.MsgId refl n (λ g. omega (arith, beyond 0 n 26 h g))
+
+-- ---- and the number of each names it
+pub occ-of : (o : Occ) → occOf (occNumber o) ≡ o
+occ-of once = refl
+occ-of optional = refl
+occ-of many = refl
+occ-of more = refl
+
+pub record Numbers (k : Kind) (n : ℕ) : Type 0 where
+  pub kind : 2 ≤ n
+  pub judged : kindOf n ≡ k
+  pub amount : amountKind n ≡ isAmount k
+
+pub kind-numbers : (k : Kind) → Numbers k (kindNumber k)
+unfolding kindOf
+kind-numbers (Plain Reference) = record { kind = omega arith; judged = refl; amount = refl }
+kind-numbers Total = record { kind = omega arith; judged = refl; amount = refl }
+kind-numbers Amount = record { kind = omega arith; judged = refl; amount = refl }
+kind-numbers Count = record { kind = omega arith; judged = refl; amount = refl }
+kind-numbers (Plain Text70) = record { kind = omega arith; judged = refl; amount = refl }
+kind-numbers (Plain Text140) = record { kind = omega arith; judged = refl; amount = refl }
+kind-numbers (Plain Date) = record { kind = omega arith; judged = refl; amount = refl }
+kind-numbers (Plain Time) = record { kind = omega arith; judged = refl; amount = refl }
+kind-numbers (Plain Bic) = record { kind = omega arith; judged = refl; amount = refl }
+kind-numbers (Plain Iban) = record { kind = omega arith; judged = refl; amount = refl }
+kind-numbers (Plain Identifier) = record { kind = omega arith; judged = refl; amount = refl }
+kind-numbers (Code code.SttlmMtd) = record { kind = omega arith; judged = refl; amount = refl }
+kind-numbers (Code code.SvcLvl) = record { kind = omega arith; judged = refl; amount = refl }
+kind-numbers (Code code.LclInstrm) = record { kind = omega arith; judged = refl; amount = refl }
+kind-numbers (Code code.SeqTp) = record { kind = omega arith; judged = refl; amount = refl }
+kind-numbers (Code code.ChrgBr) = record { kind = omega arith; judged = refl; amount = refl }
+kind-numbers (Code code.Prtry) = record { kind = omega arith; judged = refl; amount = refl }
+
+pub field-of : (f : Field) → fieldOf (numberOf f) ≡ f
+unfolding fieldOf
+field-of field.MsgId = refl
+field-of field.CreDtTm = refl
+field-of field.NbOfTxs = refl
+field-of field.TtlIntrBkSttlmAmt = refl
+field-of field.IntrBkSttlmDt = refl
+field-of field.SttlmMtd = refl
+field-of field.InstgBic = refl
+field-of field.InstrId = refl
+field-of field.EndToEndId = refl
+field-of field.TxId = refl
+field-of field.SvcLvl = refl
+field-of field.LclInstrm = refl
+field-of field.SeqTp = refl
+field-of field.IntrBkSttlmAmt = refl
+field-of field.ChrgBr = refl
+field-of field.ReqdColltnDt = refl
+field-of field.MndtId = refl
+field-of field.DtOfSgntr = refl
+field-of field.CdtrId = refl
+field-of field.Prtry = refl
+field-of field.CdtrNm = refl
+field-of field.CdtrIban = refl
+field-of field.CdtrBic = refl
+field-of field.DbtrNm = refl
+field-of field.DbtrIban = refl
+field-of field.DbtrBic = refl
+field-of field.Ustrd = refl

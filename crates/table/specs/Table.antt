@@ -1,0 +1,179 @@
+-- The table that the code goes by, computed from the tree: a row for each element in the order of the profile, and one for each group's end.
+use Prim.Native.Nat.{ℕ, zero, suc, _+_, _-_}
+use Prim.Native.String.{String}
+use mathlib.Core.Bool.{Bool}
+use mathlib.Core.List.{List, [], _∷_, _++_}
+use lib.ListN.{length, getD}
+use lib.Dec.{eqb}
+use Rattle.text.specs.Truth.{either, pick, part}
+use Rattle.codes.specs.declared.Element as code
+use Rattle.tags.specs.Tags.{exactly, endTag, plainTag, amountTag, currency}
+use Rattle.profile.specs.declared.Kind.{Kind}
+use Rattle.profile.specs.declared.Kind.the-variants.{Plain, Count, Total, Amount, Code}
+use Rattle.profile.specs.declared.Simple.{Simple}
+use Rattle.profile.specs.declared.Simple.the-variants.{Reference, Text70, Text140, Date, Time, Bic, Iban, Identifier}
+use Rattle.profile.specs.declared.Field.{Field}
+use Rattle.profile.specs.declared.Field.the-variants.{MsgId}
+use Rattle.profile.specs.Version.{Version}
+use Rattle.profile.specs.Fields.{fields, numberOf}
+use Rattle.profile.specs.Kinds.{isAmount}
+use Rattle.profile.specs.Tree.{Occ, once, optional, many, more, Shape, end, leaf, group}
+use Rattle.profile.specs.Profile.{inHeader, profile}
+use Rattle.table.specs.declared.Row.{Row}
+
+-- ---- what a row's numbers mean
+-- the kinds of values by their numbers, from 2 on (0 is an end, 1 a group); every other number is a reference
+abbrev pub kinds : List Kind
+kinds =
+    Plain Reference
+    ∷ Total
+    ∷ Amount
+    ∷ Count
+    ∷ Plain Text70
+    ∷ Plain Text140
+    ∷ Plain Date
+    ∷ Plain Time
+    ∷ Plain Bic
+    ∷ Plain Iban
+    ∷ Plain Identifier
+    ∷ Code code.the-variants.SttlmMtd
+    ∷ Code code.the-variants.SvcLvl
+    ∷ Code code.the-variants.LclInstrm
+    ∷ Code code.the-variants.SeqTp
+    ∷ Code code.the-variants.ChrgBr
+    ∷ Code code.the-variants.Prtry
+    ∷ []
+
+unfoldable pub kindOf : ℕ → Kind
+kindOf n = getD kinds (n - 2) (Plain Reference)
+
+abbrev simpleNumber : Simple → ℕ
+simpleNumber Reference = 2
+simpleNumber Text70 = 6
+simpleNumber Text140 = 7
+simpleNumber Date = 8
+simpleNumber Time = 9
+simpleNumber Bic = 10
+simpleNumber Iban = 11
+simpleNumber Identifier = 12
+
+abbrev codeNumber : code.Element → ℕ
+codeNumber code.the-variants.SttlmMtd = 13
+codeNumber code.the-variants.SvcLvl = 14
+codeNumber code.the-variants.LclInstrm = 15
+codeNumber code.the-variants.SeqTp = 16
+codeNumber code.the-variants.ChrgBr = 17
+codeNumber code.the-variants.Prtry = 18
+
+abbrev pub kindNumber : Kind → ℕ
+kindNumber (Plain s) = simpleNumber s
+kindNumber Total = 3
+kindNumber Amount = 4
+kindNumber Count = 5
+kindNumber (Code e) = codeNumber e
+
+abbrev pub amountKind : ℕ → Bool
+amountKind n = either (eqb n 3) (eqb n 4)
+
+-- how often an element may come
+abbrev pub occOf : ℕ → Occ
+occOf zero = once
+occOf (suc zero) = optional
+occOf (suc (suc zero)) = many
+occOf (suc (suc (suc n))) = more
+
+abbrev pub occNumber : Occ → ℕ
+occNumber once = 0
+occNumber optional = 1
+occNumber many = 2
+occNumber more = 3
+
+-- the fields by their numbers
+unfoldable pub fieldOf : ℕ → Field
+fieldOf n = getD fields n MsgId
+
+-- ---- the rows of a tree
+-- a shape and all that is due later, in the order of the list: a row for each
+abbrev pub rowsOf : Shape → List Shape
+rowsOf (end n) = end n ∷ []
+rowsOf (leaf o n k f rest) = leaf o n k f rest ∷ rowsOf rest
+rowsOf (group o n inner rest) = group o n inner rest ∷ (rowsOf inner ++ rowsOf rest)
+
+-- its tags, one behind the other, as a message with nothing in it has them: an amount's start tag as far as its quotation mark
+abbrev pub startText : Bool → String → List ℕ
+startText amount n = pick amount (amountTag n) (plainTag n)
+
+abbrev pub tagsOf : Shape → List ℕ
+tagsOf (end n) = endTag n
+tagsOf (leaf o n k f rest) = startText (isAmount k) n ++ (endTag n ++ tagsOf rest)
+tagsOf (group o n inner rest) = plainTag n ++ (tagsOf inner ++ tagsOf rest)
+
+-- the numbers of row k, whose tags stand from p on: where they stand; how many bytes its start tag has there, and its end tag behind it; 0 for an end, 1 for a group, else the kind;
+-- how often it may come; the row of what is due after it (a group's first child is the row below); a value's field
+abbrev pub numbersAt : ℕ → ℕ → Shape → List ℕ
+numbersAt k p (end n) = p ∷ 0 ∷ length (endTag n) ∷ 0 ∷ 0 ∷ 0 ∷ 0 ∷ []
+numbersAt k p (leaf o n kd f rest) =
+    p ∷ length (startText (isAmount kd) n) ∷ length (endTag n) ∷ kindNumber kd ∷ occNumber o ∷ suc k ∷ numberOf f ∷ []
+numbersAt k p (group o n inner rest) =
+    p ∷ length (plainTag n) ∷ 0 ∷ 1 ∷ occNumber o ∷ (suc k + length (rowsOf inner)) ∷ 0 ∷ []
+
+-- the numbers of all rows, of which the first is row k
+abbrev pub numbersOf : ℕ → ℕ → Shape → List (List ℕ)
+numbersOf k p (end n) = numbersAt k p (end n) ∷ []
+numbersOf k p (leaf o n kd f rest) =
+    numbersAt k p (leaf o n kd f rest) ∷ numbersOf (suc k) (p + length (startText (isAmount kd) n) + length (endTag n)) rest
+numbersOf k p (group o n inner rest) =
+    numbersAt k p (group o n inner rest)
+    ∷ (numbersOf (suc k) (p + length (plainTag n)) inner
+    ++ numbersOf (suc k + length (rowsOf inner)) (p + length (plainTag n) + length (tagsOf inner)) rest)
+
+-- ---- of a version
+unfoldable pub tags : Version → List ℕ
+tags v = tagsOf (profile v)
+
+unfoldable pub table : Version → List (List ℕ)
+table v = numbersOf 0 0 (profile v)
+
+unfoldable pub manyRows : Version → ℕ
+manyRows v = length (rowsOf (profile v))
+
+-- what is due from row k on
+unfoldable pub due : Version → ℕ → Shape
+due v k = getD (rowsOf (profile v)) k (end "")
+
+-- the item's row: behind that of the bulk, that of the header and those of what the header holds
+unfoldable pub itemRow : Version → ℕ
+itemRow v = 2 + length (rowsOf (inHeader v))
+
+-- ---- row k of a table
+abbrev pub rowOf : List ℕ → Row
+rowOf r =
+    record {
+      tag = getD r 0 0;
+      start = getD r 1 0;
+      finish = getD r 2 0;
+      kind = getD r 3 0;
+      occ = getD r 4 0;
+      next = getD r 5 0;
+      field = getD r 6 0;
+    }
+
+abbrev pub rowIn : List (List ℕ) → ℕ → Row
+rowIn t k = rowOf (getD t k [])
+
+-- the tests of a row's tags, by all tags
+unfoldable pub opensBy : List ℕ → Row → List (ℕ → Bool)
+opensBy t r = exactly (part (r .tag) (r .start) t) ++ pick (amountKind (r .kind)) currency []
+
+unfoldable pub closesBy : List ℕ → Row → List (ℕ → Bool)
+closesBy t r = exactly (part (r .tag + r .start) (r .finish) t)
+
+-- how many bytes a row's start tag has
+abbrev pub width : Row → ℕ
+width r = r .start + pick (amountKind (r .kind)) (length currency) 0
+
+-- no end of a group
+abbrev pub Element : Shape → Type 0
+Element (end n) = ⊥
+Element (leaf o n kd f rest) = Unit {0}
+Element (group o n inner rest) = Unit {0}

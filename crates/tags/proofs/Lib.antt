@@ -1,0 +1,3 @@
+pub mod Looks
+pub mod Question
+pub mod Euro

@@ -1,0 +1,163 @@
+// The fixed bytes of a message: white space, tags and the currency in them, the declaration, and how they lie at a place.
+use text::Class;
+ghost use mathlib.Core.Path.{_≡_};
+ghost use Prim.Native.Nat.{_<_};
+ghost use lib.ListN.{getD};
+ghost use Rattle.text.specs.Truth.{lead};
+ghost use Rattle.text.specs.Classes.{capital};
+ghost use Rattle.tags.specs.Tags.{look, exactly, currency, white, startsQuestion, declaration, currencyPlace, inEuro};
+ghost use Rattle.tags.specs.Values.{inValue};
+
+// How fixed bytes lie at a place.
+pub enum Look {
+    Whole,
+    Cut,
+    Other,
+}
+
+// Whether c is white space.
+fn is_white(c: u8) -> bool
+    ensures { λ r. ⌜ r ≡ white c ⌝ }
+{
+    if c == 32 {
+        return true;
+    }
+    if c == 9 {
+        return true;
+    }
+    if c == 13 {
+        return true;
+    }
+    if c == 10 {
+        return true;
+    }
+    false
+}
+
+// How many bytes of white space stand first.
+pub fn spaces(s: &[u8]) -> usize
+    ensures { λ r. ⌜ r ≡ lead white (now (s .entry)) ⌝ }
+{
+    let mut i = 0;
+    while i < s.len() {
+        if is_white(s[i]) {
+            i += 1;
+        } else {
+            return i;
+        }
+    }
+    i
+}
+
+// How many bytes stand before the first `<`: all, where there is none.
+pub fn upto(s: &[u8]) -> usize
+    ensures { λ r. ⌜ r ≡ lead inValue (now (s .entry)) ⌝ }
+{
+    let mut i = 0;
+    while i < s.len() {
+        if s[i] == b'<' {
+            return i;
+        }
+        i += 1;
+    }
+    i
+}
+
+// How the bytes of `text` lie at the beginning of s.
+pub fn text_at(text: &[u8], s: &[u8]) -> Look
+    ensures { λ r. ⌜ r ≡ look (exactly (now (text .entry))) (now (s .entry)) ⌝ }
+{
+    let mut i = 0;
+    while i < text.len() {
+        if s.len() <= i {
+            return Look::Cut;
+        }
+        if s[i] != text[i] {
+            return Look::Other;
+        }
+        i += 1;
+    }
+    Look::Whole
+}
+
+// Whether c passes test i of a currency: three capitals, `"`, `>`.
+fn passes(i: usize, c: u8) -> bool
+    requires { ⌜ i < 5 ⌝ }
+    ensures { λ r. ⌜ r ≡ getD currency i capital c ⌝ }
+{
+    if i < 3 {
+        return text::is_in(Class::Capital, c);
+    }
+    if i == 3 {
+        return c == b'"';
+    }
+    c == b'>'
+}
+
+// How a currency and the end of an amount's tag lie at the beginning of s.
+pub fn currency_at(s: &[u8]) -> Look
+    ensures { λ r. ⌜ r ≡ look currency (now (s .entry)) ⌝ }
+{
+    let mut i = 0;
+    while i < 5 {
+        if s.len() <= i {
+            return Look::Cut;
+        }
+        if !passes(i, s[i]) {
+            return Look::Other;
+        }
+        i += 1;
+    }
+    Look::Whole
+}
+
+// Whether s starts `<?`, so that a declaration is due.
+pub fn has_question(s: &[u8]) -> bool
+    ensures { λ r. ⌜ r ≡ startsQuestion (now (s .entry)) ⌝ }
+{
+    if s.len() < 2 {
+        return false;
+    }
+    if s[0] != b'<' {
+        return false;
+    }
+    s[1] == b'?'
+}
+
+// How many bytes the declaration has.
+pub const DECLARATION: usize = 38;
+
+// How the declaration lies at the beginning of s.
+pub fn declaration_at(s: &[u8]) -> Look
+    ensures { λ r. ⌜ r ≡ look (exactly declaration) (now (s .entry)) ⌝ }
+{
+    text_at(b"<?xml version=\"1.0\" encoding=\"UTF-8\"?>", s)
+}
+
+// How many bytes a currency takes, with the end of its tag.
+pub const CURRENCY: usize = 5;
+
+// Where the currency of an amount's start tag stands that ends at a place.
+pub fn currency_place(at: usize) -> usize
+    ensures { λ r. ⌜ r ≡ currencyPlace at ⌝ }
+{
+    if at < CURRENCY {
+        return 0;
+    }
+    at - CURRENCY
+}
+
+// Whether the currency of an amount's start tag that ends at a place is EUR.
+pub fn in_euro(m: &[u8], at: usize) -> bool
+    ensures { λ r. ⌜ r ≡ inEuro (now (m .entry)) at ⌝ }
+{
+    let from = currency_place(at);
+    if m.len() < from {
+        return false;
+    }
+    match text_at(b"EUR", &m[from..]) {
+        Look::Whole => true,
+        Look::Cut => false,
+        Look::Other => false,
+    }
+}
