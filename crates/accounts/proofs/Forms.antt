@@ -1,5 +1,4 @@
 -- What the forms of BIC, IBAN and identifier say, and that an identifier's check reads what stands from its eighth character on and the first four.
--- Assumes nothing.
 use mathlib.Core.Path.{_≡_, refl, ap, sym, _∙_}
 use mathlib.Core.Bool.{Bool, true, false}
 use mathlib.Core.Logic.{_⊎_, ⊎-elim}

@@ -1,5 +1,5 @@
 -- An accepted IBAN, and an accepted creditor identifier outside positions 5 to 7, with one digit replaced by another, or with two unequal neighbouring
--- digits exchanged, is refused, and with exactly 8: its form stays, and its check digits fail. Assumes nothing.
+-- digits exchanged, is refused, and with exactly 8: its form stays, and its check digits fail.
 use mathlib.Core.Path.{_≡_, refl, ap, sym, _∙_}
 use mathlib.Core.Bool.{Bool, true, false}
 use mathlib.Core.Logic.{_≢_, _⊎_, inl, inr, ⊎-elim}

@@ -45,6 +45,7 @@ fn is_length(n: usize) -> bool
     n == 11
 }
 
+// The form of a BIC.
 fn is_bic(s: &[u8]) -> bool
     ensures { λ r. ⌜ r ≡ bicForm (now (s .entry)) ⌝ }
 {
@@ -99,6 +100,7 @@ fn is_checked(s: &[u8], m: usize) -> bool
     check97::leaves_one(&s[m..], &s[..4])
 }
 
+// The form of an IBAN.
 fn is_iban(s: &[u8]) -> bool
     ensures { λ r. ⌜ r ≡ ibanForm (now (s .entry)) ⌝ }
 {
@@ -127,6 +129,7 @@ pub fn iban(s: &[u8]) -> Answer
     Answer::CheckDigits
 }
 
+// The form of a creditor identifier.
 fn is_identifier(s: &[u8]) -> bool
     ensures { λ r. ⌜ r ≡ identifierForm (now (s .entry)) ⌝ }
 {

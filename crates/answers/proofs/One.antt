@@ -1,4 +1,4 @@
--- Two answers of one meaning are one: so two answers that one contract allows are equal. Assumes nothing.
+-- Two answers of one meaning are one: so two answers that one contract allows are equal.
 use mathlib.Core.Path.{_≡_, refl, ap, sym, _∙_}
 use mathlib.Core.Bool.{Bool, true, false}
 use lib.Dec.{eqb}

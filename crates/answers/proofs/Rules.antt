@@ -1,4 +1,4 @@
--- What rules in their order give: the first that fails decides, and where all hold the answer stands. Assumes nothing.
+-- What rules in their order give: the first that fails decides, and where all hold the answer stands.
 use mathlib.Core.Path.{_≡_}
 use mathlib.Core.Bool.{Bool, true, false}
 use mathlib.Core.List.{List, _∷_}

@@ -1,4 +1,4 @@
--- What is told is the number, the value and 0, whatever is given. Assumes nothing.
+-- What is told is the number, the value and 0, whatever is given.
 use mathlib.Core.Path.{_≡_, refl}
 use Prim.Native.Nat.{ℕ}
 use mathlib.Core.List.{List, [], _∷_}

@@ -5,6 +5,7 @@ use Prim.Native.Nat.{ℕ, _+_}
 use native.Mathlib.Omega.{arith}
 use lib.ListN.{length, drop, length-append}
 use lib.Seq.{drop-append-seam}
+use Rattle.text.proofs.Truths.{never}
 use Rattle.tags.specs.Tags.{skipped, plainTag}
 use Rattle.tags.proofs.Looks.{look-text}
 use Rattle.profile.specs.Version.{Version}
@@ -83,8 +84,8 @@ module _ (v : Version) (m : List ℕ) where
   aligned : {p : ℕ} {l : List Item} → Chained v m p l → (es : List (DocItem v)) → Each (LedBy (Proper (inItem v))) es → (s : List ℕ) → drop p m ≡ texts (itemText v) es ++ s
       → length l ≡ length es → l ≡ itemsFrom v p es
   aligned none [] pr s h n = refl
-  aligned none (e ∷ es) pr s h n = absurd (let z : ⊥ = omega arith in z)
-  aligned (next k c) [] pr s h n = absurd (let z : ⊥ = omega arith in z)
+  aligned none (e ∷ es) pr s h n = never (omega arith)
+  aligned (next k c) [] pr s h n = never (omega arith)
   aligned {p} (next {x = x} {l = l} k c) (e ∷ es) pr s h n =
       let g : drop p m ≡ itemText v e ++ (texts (itemText v) es ++ s) = h ∙ append-assoc (itemText v e) (texts (itemText v) es) s in
       let y : x ≡ lying p e = stands-itself e (pr .0) p (texts (itemText v) es ++ s) g x k in

@@ -5,6 +5,7 @@ use Prim.Native.Nat.{ℕ, zero, suc, _+_, _-_, _<_}
 use native.Mathlib.Omega.{arith}
 use lib.ListN.{length, take, drop, length-append}
 use lib.Seq.{take-at, drop-at}
+use Rattle.text.proofs.Truths.{never}
 use Rattle.profile.specs.Version.{Version}
 use Rattle.profile.specs.Tree.{many}
 use Rattle.reading.specs.Verdict.{accepted, lies}
@@ -27,7 +28,7 @@ pub record Split {A : Type 0} (l : List A) (i : ℕ) : Type 0 where
   pub at : length before ≡ i
 
 pub split-at : {A : Type 0} (l : List A) (i : ℕ) → i < length l → Split l i
-split-at [] i h = absurd (let z : ⊥ = omega arith in z)
+split-at [] i h = never (omega arith)
 split-at (x ∷ l) zero h = record { before = []; it = x; after = l; is = refl; at = refl }
 split-at {A} (x ∷ l) (suc i) h =
     let s = split-at l i (omega arith) in

@@ -5,3 +5,4 @@ pub mod Itself
 pub mod Posted
 pub mod Refused
 pub mod Slips
+pub mod Present

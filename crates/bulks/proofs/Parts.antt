@@ -5,6 +5,7 @@ use mathlib.Core.List.{List, [], _∷_, _++_, append-nil, append-assoc}
 use Prim.Native.Nat.{ℕ, _+_}
 use native.Mathlib.Omega.{arith}
 use lib.ListN.{length}
+use Rattle.text.proofs.Truths.{never}
 use Rattle.tags.specs.Tags.{plainTag, endTag}
 use Rattle.profile.specs.declared.Kind.the-variants.{Count}
 use Rattle.profile.specs.Version.{Version, v02}
@@ -60,7 +61,7 @@ no-items sh h d pr = weight-items (said sh d) ∙ as-often (λ k f. 0) 1 sh (h .
 
 no-values : (l : List (List ℕ)) → length l ≡ 0 → l ≡ []
 no-values [] e = refl
-no-values (x ∷ l) e = absurd (let z : ⊥ = omega arith in z)
+no-values (x ∷ l) e = never (omega arith)
 
 no-counts : (v : Version) (d : Doc (inItem v)) → Proper (inItem v) d → valuesOf Count (said (inItem v) d) ≡ []
 no-counts v d pr = no-values (valuesOf Count (said (inItem v) d)) (of-kind Count (inItem v) (item-countless v .0) d pr ∙ item-countless v .1)

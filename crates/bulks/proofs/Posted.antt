@@ -20,7 +20,7 @@ records-of v [] p = refl
 records-of v (x ∷ l) p = ap (λ (y : List ℕ). itemRecord v x ++ y) (records-of v l (p + length (itemText v x)))
 
 -- For an accepted message and an area with room: the records are those of its bulk's items, one for each, in order, and behind them stands what stood there.
--- So a doubled item can never hide.
+-- So an item that stands twice has two records.
 pub accepted-posted : (m a : List ℕ) (n c : ℕ) → judged m ≡ accepted n c → recordLength * n ≤ length a → (k : Bulked m) → Posted m a n c (k .bulk)
 unfolding recorded
 accepted-posted m a n c e h k =

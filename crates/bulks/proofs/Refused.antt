@@ -9,7 +9,7 @@ use Rattle.profile.specs.Version.{Version}
 use Rattle.profile.specs.Tree.{Occ, once, many, more, Shape, end, group}
 use Rattle.profile.specs.Profile.{bulkName, headerName, itemName, inHeader, inItem}
 use Rattle.reading.specs.Rules.{valuesOf}
-use Rattle.reading.specs.Verdict.{Judged, accepted, refused}
+use Rattle.reading.specs.Verdict.{Refusal, Judged, accepted, refused}
 use Rattle.reading.specs.Judged.{judged}
 use Rattle.documents.specs.Document.{Led, Doc, text, Each, LedBy, Proper}
 use Rattle.documents.specs.Said.{said}
@@ -18,7 +18,6 @@ use Rattle.documents.specs.Holds.{numbers, Holds}
 use Rattle.documents.proofs.Messages.{opens}
 use Rattle.documents.proofs.One.{message-one}
 use Rattle.bulks.specs.Bulk.{tree, DocItem, Bulk, message, withItems}
-use Rattle.bulks.specs.Accepted.{Refusal}
 use Rattle.bulks.proofs.Trees.{more-sure, Of, accepted-of}
 use Rattle.bulks.proofs.Parts.{items-said, count-said}
 use Rattle.bulks.proofs.Items.{items-proper, header-proper, bulk-holds, many-items}

@@ -13,7 +13,7 @@ use Rattle.tags.specs.Tags.{white}
 use Rattle.profile.specs.Version.{Version}
 use Rattle.profile.specs.Tree.{many, more}
 use Rattle.profile.specs.Profile.{inItem}
-use Rattle.reading.specs.Verdict.{accepted, lies, notThere}
+use Rattle.reading.specs.Verdict.{Refusal, accepted, lies, notThere}
 use Rattle.reading.specs.Judged.{judged}
 use Rattle.reading.specs.Items.{item}
 use Rattle.reading.proofs.Flat.{never}
@@ -22,7 +22,7 @@ use Rattle.documents.specs.Message.{whole, Lawful}
 use Rattle.documents.proofs.Each.{each-both, each-first, each-rest}
 use Rattle.items.proofs.Accepted.{item-past}
 use Rattle.bulks.specs.Bulk.{DocItem, Bulk, message, withItems, itemText, front, bareText}
-use Rattle.bulks.specs.Accepted.{Refusal, Bulked}
+use Rattle.bulks.specs.Accepted.{Bulked}
 use Rattle.bulks.proofs.Trees.{accepted-bulk}
 use Rattle.bulks.proofs.Parts.{back, whole-parts}
 use Rattle.bulks.proofs.Items.{items-proper, its-judgement}

@@ -5,6 +5,7 @@ use mathlib.Core.List.{List, [], _∷_, _++_}
 use Prim.Native.Nat.{ℕ}
 use native.Mathlib.Omega.{arith}
 use lib.ListN.{length}
+use Rattle.text.proofs.Truths.{never}
 use Rattle.profile.specs.Version.{Version, v02}
 use Rattle.profile.specs.Tree.{once, many, more, Shape, end, group}
 use Rattle.profile.specs.Profile.{bulkName, headerName, itemName, inHeader, inItem, profile}
@@ -58,15 +59,15 @@ module _ (v : Version) (declared : Bool) (before last behind : List ℕ) where
     with-header h = around (record { blank = blank; held = record { all = h; others = record { all = items; others = close } } } ∷ [])
 
     one-header : (h : List (Led (Doc (inHeader v)))) → Lawful (with-header h) → Put (with-header h)
-    one-header [] law = absurd (let h = law .inside .1 .0 .1 .0 in let z : ⊥ = omega (arith, h) in z)
+    one-header [] law = never (let h = law .inside .1 .0 .1 .0 in omega (arith, h))
     one-header (x ∷ []) law =
         record { bulk = record { declared = declared; before = before; blank = blank; header = x; items = items; close = close; last = last; behind = behind }; is = refl }
-    one-header (x ∷ y ∷ l) law = absurd (let h = law .inside .1 .0 .1 .0 in let z : ⊥ = omega (arith, h) in z)
+    one-header (x ∷ y ∷ l) law = never (let h = law .inside .1 .0 .1 .0 in omega (arith, h))
 
   one-content : (l : List (Led Content)) → Lawful (around l) → Put (around l)
-  one-content [] law = absurd (let h = law .inside .0 in let z : ⊥ = omega (arith, h) in z)
+  one-content [] law = never (let h = law .inside .0 in omega (arith, h))
   one-content (x ∷ []) law = one-header (x .blank) (x .held .others .others) (x .held .others .all) (x .held .all) law
-  one-content (x ∷ y ∷ l) law = absurd (let h = law .inside .0 in let z : ⊥ = omega (arith, h) in z)
+  one-content (x ∷ y ∷ l) law = never (let h = law .inside .0 in omega (arith, h))
 
 pub document-bulk : {v : Version} (d : Message v (tree many v)) → Lawful d → Put d
 document-bulk {v} d law = one-content v (d .declared) (d .before) (d .inside .others) (d .behind) (d .inside .all) law

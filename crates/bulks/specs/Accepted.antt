@@ -14,12 +14,6 @@ use Rattle.documents.specs.Document.{texts}
 use Rattle.documents.specs.Message.{whole, Lawful}
 use Rattle.bulks.specs.Bulk.{DocItem, Bulk, message, bareText, itemRecord}
 
--- an answer that is a refusal
-pub record Refusal (j : Judged) : Type 0 where
-  pub number : ℕ
-  pub place : ℕ
-  pub is : j ≡ refused number place
-
 -- a message is the text of a bulk
 pub record Bulked (m : List ℕ) : Type 0 where
   pub version : Version

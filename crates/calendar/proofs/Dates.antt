@@ -1,4 +1,4 @@
--- A date's year by its two pairs of digits, and its bounds; a date by the year, month and day. Assumes nothing.
+-- A date's year by its two pairs of digits, and its bounds; a date by the year, month and day.
 use mathlib.Core.Path.{_≡_, refl, sym}
 use mathlib.Core.Bool.{true, false}
 use mathlib.Core.List.{List, [], _∷_}

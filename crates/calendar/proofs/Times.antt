@@ -1,4 +1,4 @@
--- A time's parts of a wrong length; the three ways that a zone is written; a fraction, which no zone begins with. Assumes nothing.
+-- A time's parts of a wrong length; the three ways that a zone is written; a fraction, which no zone begins with.
 use mathlib.Core.Path.{_≡_, refl, sym, _∙_}
 use mathlib.Core.Bool.{Bool, true, false}
 use mathlib.Core.List.{List, [], _∷_}
@@ -8,7 +8,7 @@ use lib.ListN.{length, take, drop, length-take, length-drop}
 use lib.Seq.{getD-take}
 use Rattle.text.specs.Truth.{both, either, allOf, first}
 use Rattle.text.specs.Quoted.{is, among, equal}
-use Rattle.text.proofs.Truths.{either-same, fails, either-none}
+use Rattle.text.proofs.Truths.{never, either-same, fails, either-none}
 use Rattle.text.proofs.Scan.{paired-length}
 use Rattle.calendar.specs.Pattern.{letter, written}
 use Rattle.calendar.specs.Time.{clockForm, offsetForm, zoneForm, endForm, timeForm}
@@ -31,7 +31,7 @@ time-short s h =
 pub zone-none : (s : List ℕ) → length s ≡ 0 → true ≡ zoneForm s
 unfolding zoneForm
 zone-none [] e = refl
-zone-none (c ∷ s) e = absurd (let z : ⊥ = omega arith in z)
+zone-none (c ∷ s) e = never (omega arith)
 
 second : (a b d : Bool) → b ≡ true → true ≡ either a (either b d)
 second a b d e = rw e (sym (either-same a))
@@ -51,7 +51,7 @@ module _ (s : List ℕ) where
 -- ---- a fraction
 no-dot : (s : List ℕ) → first s ≡ 46 → zoneForm s ≡ false
 unfolding zoneForm offsetForm allOf among
-no-dot [] e = absurd (let z : ⊥ = omega arith in z)
+no-dot [] e = never (omega arith)
 no-dot (c ∷ s) e = rw e
 
 plain : (a b d : Bool) → b ≡ false → a ≡ either a (both b d)

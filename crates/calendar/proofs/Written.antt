@@ -1,4 +1,4 @@
--- What a value tells that is written as a pattern: its length, and what stands at each of its places. Assumes nothing.
+-- What a value tells that is written as a pattern: its length, and what stands at each of its places.
 use mathlib.Core.Path.{_≡_, ap}
 use mathlib.Core.Bool.{true, false}
 use mathlib.Core.List.{List}

@@ -11,6 +11,7 @@ ghost use Rattle.calendar.specs.Pattern.{letter, stands, matches};
 ghost use Rattle.calendar.specs.Date.{leap, daysIn, realDay, dateForm, dateGiven};
 ghost use Rattle.calendar.specs.Time.{clockForm, offsetForm, zoneForm, endForm, timeForm, timeGiven};
 
+// Whether p is a letter, for which a pattern asks a digit.
 fn is_letter(p: u8) -> bool
     ensures { λ r. ⌜ r ≡ letter p ⌝ }
 {
@@ -62,6 +63,7 @@ fn two_at(s: &[u8], i: usize) -> u32
     text::pair(s[i], s[i + 1])
 }
 
+// Whether y is a leap year.
 fn is_leap(y: u32) -> bool
     ensures { λ r. ⌜ r ≡ leap y ⌝ }
 {
@@ -74,6 +76,7 @@ fn is_leap(y: u32) -> bool
     y % 400 == 0
 }
 
+// How many days the month m of the year y has.
 fn days_in(y: u32, m: u32) -> u32
     ensures { λ r. ⌜ r ≡ daysIn y m ⌝ }
 {
@@ -114,6 +117,7 @@ fn is_day(y: u32, m: u32, d: u32) -> bool
     d <= days_in(y, m)
 }
 
+// Whether s writes a day of the calendar, `YYYY-MM-DD`.
 fn is_date(s: &[u8]) -> bool
     ensures { λ r. ⌜ r ≡ dateForm (now (s .entry)) ⌝ }
 {
@@ -139,6 +143,7 @@ pub fn date(s: &[u8]) -> Answer
     Answer::Form
 }
 
+// Whether s writes a time of day, `hh:mm:ss`.
 fn is_clock(s: &[u8]) -> bool
     ensures { λ r. ⌜ r ≡ clockForm (now (s .entry)) ⌝ }
 {
@@ -154,6 +159,7 @@ fn is_clock(s: &[u8]) -> bool
     two_at(s, 6) <= 59
 }
 
+// Whether s writes an offset of at most 14 hours, `+hh:mm` or `-hh:mm`.
 fn is_offset(s: &[u8]) -> bool
     ensures { λ r. ⌜ r ≡ offsetForm (now (s .entry)) ⌝ }
 {
@@ -174,6 +180,7 @@ fn is_offset(s: &[u8]) -> bool
     two_at(s, 1) * 60 + m <= 840
 }
 
+// Whether c is one of `+ -`.
 fn is_sign(c: u8) -> bool
     ensures { λ r. ⌜ r ≡ among "+ -" c ⌝ }
 {
@@ -183,6 +190,7 @@ fn is_sign(c: u8) -> bool
     c == b'-'
 }
 
+// Whether s writes a zone: nothing, `Z`, or an offset.
 fn is_zone(s: &[u8]) -> bool
     ensures { λ r. ⌜ r ≡ zoneForm (now (s .entry)) ⌝ }
 {
@@ -208,6 +216,7 @@ fn is_end(s: &[u8]) -> bool
     is_zone(s)
 }
 
+// Whether s writes a date, `T`, a time of day and what may end it.
 fn is_time(s: &[u8]) -> bool
     ensures { λ r. ⌜ r ≡ timeForm (now (s .entry)) ⌝ }
 {

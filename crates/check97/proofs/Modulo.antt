@@ -1,13 +1,13 @@
--- Ten is cancelled by 97: what the remainder tells of what stands before, and what it keeps of what stands behind. Assumes nothing.
+-- Ten is cancelled by 97: what the remainder tells of what stands before, and what it keeps of what stands behind.
 use mathlib.Core.Path.{_≡_, ap, sym, _∙_}
 use mathlib.Core.List.{List}
 use Prim.Native.Nat.{ℕ, zero, suc, _+_, _-_, _*_, _^_, _%_, _/_, _<_, _≤_}
 use native.Mathlib.Nat.{add-mul-mod-self-left, pow-suc, mul-assoc, div-add-mod'}
 use native.Mathlib.Omega.{arith}
 use lib.ListN.{length, drop, getD, drop-of-length-le}
-use Rattle.text.specs.Quoted.{onward}
+use Rattle.text.specs.Quoted.{followedBy}
 use Rattle.text.proofs.Scan.{next}
-use Rattle.text.proofs.Decimal.{linear, onward-append}
+use Rattle.text.proofs.Decimal.{linear, followed-append}
 use Rattle.check97.specs.Check.{spell, spelled}
 
 -- two numbers that differ by multiples of 97 leave the same
@@ -22,16 +22,16 @@ cancel : (k a b : ℕ) → a * 10 ^ k % 97 ≡ b * 10 ^ k % 97 → a % 97 ≡ b 
 cancel zero a b e = omega arith
 cancel (suc k) a b e = cancel k a b (cancel-ten (a * 10 ^ k) (b * 10 ^ k) (simp (mul-assoc, ← pow-suc) e))
 
-pub same-before : (m n : ℕ) (s : List ℕ) → onward m s % 97 ≡ onward n s % 97 → m % 97 ≡ n % 97
+pub same-before : (m n : ℕ) (s : List ℕ) → followedBy m s % 97 ≡ followedBy n s % 97 → m % 97 ≡ n % 97
 same-before m n s e = cancel (length s) m n (omega (arith, linear m s, linear n s))
 
 -- what is written behind depends on the remainder only
 scaled : (m n p : ℕ) → m % 97 ≡ n % 97 → m * p + 97 * (n / 97 * p) ≡ n * p + 97 * (m / 97 * p)
 scaled m n p e = omega (arith, ap (λ (k : ℕ). k * p) (div-add-mod' m 97), ap (λ (k : ℕ). k * p) (div-add-mod' n 97), ap (λ (k : ℕ). k * p) e)
 
-pub same-behind : (m n : ℕ) (s : List ℕ) → m % 97 ≡ n % 97 → onward m s % 97 ≡ onward n s % 97
+pub same-behind : (m n : ℕ) (s : List ℕ) → m % 97 ≡ n % 97 → followedBy m s % 97 ≡ followedBy n s % 97
 same-behind m n s e =
-    mod-by (n / 97 * 10 ^ length s) (m / 97 * 10 ^ length s) (onward m s) (onward n s)
+    mod-by (n / 97 * 10 ^ length s) (m / 97 * 10 ^ length s) (followedBy m s) (followedBy n s)
     (omega (arith, linear m s, linear n s, scaled m n (10 ^ length s) e))
 
 -- what two numbers of one remainder differ by leaves the same
@@ -40,8 +40,8 @@ differ a b q d e f = mod-by (a / 97) (b / 97) q d (omega arith)
 
 -- ---- how a loop reads it
 module _ (n : ℕ) (s : List ℕ) (i : ℕ) where
-  pub spelled-next : i < length s → onward n (spelled (drop i s)) ≡ onward (onward n (spell (getD s i 0))) (spelled (drop (i + 1) s))
-  spelled-next h = rw (next s i h) (onward-append n (spell (getD s i 0)) (spelled (drop (i + 1) s)))
+  pub spelled-next : i < length s → followedBy n (spelled (drop i s)) ≡ followedBy (followedBy n (spell (getD s i 0))) (spelled (drop (i + 1) s))
+  spelled-next h = rw (next s i h) (followed-append n (spell (getD s i 0)) (spelled (drop (i + 1) s)))
 
-  pub spelled-end : length s ≤ i → onward n (spelled (drop i s)) ≡ n
+  pub spelled-end : length s ≤ i → followedBy n (spelled (drop i s)) ≡ n
   spelled-end h = rw drop-of-length-le

@@ -1,4 +1,4 @@
--- What a character writes: its places, its worth, and that what is no letter or digit writes nothing. Assumes nothing.
+-- What a character writes: its places, its worth, and that what is no letter or digit writes nothing.
 use mathlib.Core.Path.{_≡_, refl, ap, sym, _∙_}
 use mathlib.Core.Bool.{Bool, true, false}
 use mathlib.Core.List.{List, [], _∷_, _++_, append-assoc}
@@ -6,11 +6,11 @@ use Prim.Native.Nat.{ℕ, _+_, _-_, _*_, _^_, _<_, _≤_}
 use native.Mathlib.Omega.{arith}
 use lib.ListN.{length, length-append}
 use Rattle.text.specs.Truth.{pick, only, either, between}
-use Rattle.text.specs.Quoted.{onward, among}
+use Rattle.text.specs.Quoted.{followedBy, among}
 use Rattle.text.specs.Classes.{digit, capital, small, letterOrDigit}
 use Rattle.text.proofs.Truths.{between-true}
 use Rattle.text.proofs.Digits.{digit-range, capital-range, small-range}
-use Rattle.text.proofs.Decimal.{linear, decimal-onward}
+use Rattle.text.proofs.Decimal.{linear, decimal-followed}
 use Rattle.check97.specs.Check.{twoDigits, spell, spelled, places, worth}
 
 pub spelled-append : (s t : List ℕ) → spelled (s ++ t) ≡ spelled s ++ spelled t
@@ -35,39 +35,39 @@ module _ (c : ℕ) where
   unfolding spell
   spell-none h g f = rw (h, g, f)
 
-two-digits : (n w : ℕ) → w < 100 → onward n (twoDigits w) ≡ n * 100 + w
+two-digits : (n w : ℕ) → w < 100 → followedBy n (twoDigits w) ≡ n * 100 + w
 two-digits n w h = omega arith
 
 -- a character behind n: n times a power of ten, and its worth
 module _ (n c : ℕ) where
-  pub onto-digit : digit c ≡ true → onward n (spell c) ≡ n * 10 + (c - 48)
+  pub onto-digit : digit c ≡ true → followedBy n (spell c) ≡ n * 10 + (c - 48)
   onto-digit h = rw (spell-digit c h)
 
-  pub onto-capital : digit c ≡ false → capital c ≡ true → onward n (spell c) ≡ n * 100 + (c - 55)
+  pub onto-capital : digit c ≡ false → capital c ≡ true → followedBy n (spell c) ≡ n * 100 + (c - 55)
   onto-capital h g =
       let r = between-true 65 90 c (rw capital-range at g) in
       rw (spell-capital c h g) (two-digits n (10 + (c - 65)) (omega arith) ∙ ap (λ (k : ℕ). n * 100 + k) (omega arith))
 
-  pub onto-small : digit c ≡ false → capital c ≡ false → small c ≡ true → onward n (spell c) ≡ n * 100 + (c - 87)
+  pub onto-small : digit c ≡ false → capital c ≡ false → small c ≡ true → followedBy n (spell c) ≡ n * 100 + (c - 87)
   onto-small h g f =
       let r = between-true 97 122 c (rw small-range at f) in
       rw (spell-small c h g f) (two-digits n (10 + (c - 97)) (omega arith) ∙ ap (λ (k : ℕ). n * 100 + k) (omega arith))
 
-  pub onto-none : digit c ≡ false → capital c ≡ false → small c ≡ false → onward n (spell c) ≡ n
+  pub onto-none : digit c ≡ false → capital c ≡ false → small c ≡ false → followedBy n (spell c) ≡ n
   onto-none h g f = rw (spell-none c h g f)
 
-  pub onto : onward n (spell c) ≡ n * 10 ^ places c + worth c
-  onto = linear n (spell c) ∙ ap (λ (k : ℕ). n * 10 ^ places c + k) (sym (decimal-onward (spell c)))
+  pub onto : followedBy n (spell c) ≡ n * 10 ^ places c + worth c
+  onto = linear n (spell c) ∙ ap (λ (k : ℕ). n * 10 ^ places c + k) (sym (decimal-followed (spell c)))
 
 -- every character takes at most two places and is worth less than 36
 pub worth-small : (c : ℕ) → worth c < 36
 worth-small c = go (digit c) (capital c) (small c) refl refl refl
   where
     go : (x y z : Bool) → digit c ≡ x → capital c ≡ y → small c ≡ z → worth c < 36
-    go true y z h g f = omega (arith, decimal-onward (spell c), onto-digit 0 c h, between-true 48 57 c (rw digit-range at h))
-    go false true z h g f = omega (arith, decimal-onward (spell c), onto-capital 0 c h g, between-true 65 90 c (rw capital-range at g))
-    go false false true h g f = omega (arith, decimal-onward (spell c), onto-small 0 c h g f, between-true 97 122 c (rw small-range at f))
-    go false false false h g f = omega (arith, decimal-onward (spell c), onto-none 0 c h g f)
+    go true y z h g f = omega (arith, decimal-followed (spell c), onto-digit 0 c h, between-true 48 57 c (rw digit-range at h))
+    go false true z h g f = omega (arith, decimal-followed (spell c), onto-capital 0 c h g, between-true 65 90 c (rw capital-range at g))
+    go false false true h g f = omega (arith, decimal-followed (spell c), onto-small 0 c h g f, between-true 97 122 c (rw small-range at f))
+    go false false false h g f = omega (arith, decimal-followed (spell c), onto-none 0 c h g f)
 
 pub places-two : (c : ℕ) → places c ≤ 2
 places-two c = go (digit c) (capital c) (small c) refl refl refl

@@ -1,6 +1,6 @@
 -- The first four characters go to the end, and what stands from m on comes first: m is 4 for an IBAN, and 7 for an identifier.
 -- One character replaced, or two neighbours exchanged, of which one counts at least, also across the seam: the remainder changes.
--- Stated once over m, for digits and letters at once. Assumes nothing.
+-- Stated once over m, for digits and letters at once.
 use mathlib.Core.Path.{_≡_, ap, sym, _∙_}
 use mathlib.Core.Bool.{true}
 use mathlib.Core.Logic.{_≢_, _⊎_, inl, inr}
@@ -13,7 +13,7 @@ use lib.Seq.{take-append-le, drop-append-le, take-append-add, drop-append-add}
 use lib.Dec.{eqb}
 use Rattle.text.specs.Classes.{digit}
 use Rattle.text.proofs.Digits.{digit-bounds}
-use Rattle.text.proofs.Decimal.{decimal-onward}
+use Rattle.text.proofs.Decimal.{decimal-followed}
 use Rattle.check97.specs.Check.{spell, spelled, places, worth, leavesOne}
 use Rattle.check97.proofs.Spelled.{spell-digit, onto-digit, places-two, spelled-twice}
 use Rattle.check97.proofs.Modulo.{same-behind}
@@ -42,8 +42,8 @@ digits-unlike a b ha hb ne =
       apart = λ e. ne (omega (
         arith,
         e,
-        decimal-onward (spell a),
-        decimal-onward (spell b),
+        decimal-followed (spell a),
+        decimal-followed (spell b),
         onto-digit 0 a ha,
         onto-digit 0 b hb,
         digit-bounds a ha,
@@ -139,7 +139,7 @@ module _ (m : ℕ) (p q : List ℕ) (x y : ℕ) (u : Unlike x y) where
 pub two-runs : (s r : List ℕ) (t u : ℕ) → t ≡ number 0 s % 97 → u ≡ number t r % 97 → u ≡ remains (s ++ r)
 two-runs s r t u e f =
     f ∙ same-behind t (number 0 s) (spelled r) (omega arith)
-    ∙ ap (λ (k : ℕ). k % 97) (sym (number-append 0 s r) ∙ sym (decimal-onward (spelled (s ++ r))))
+    ∙ ap (λ (k : ℕ). k % 97) (sym (number-append 0 s r) ∙ sym (decimal-followed (spelled (s ++ r))))
 
 pub leaves-one : (s r : List ℕ) (t u : ℕ) → t ≡ number 0 s % 97 → u ≡ number t r % 97 → eqb u 1 ≡ leavesOne (s ++ r)
 unfolding leavesOne

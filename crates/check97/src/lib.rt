@@ -3,13 +3,13 @@ use text::Class;
 ghost use mathlib.Core.Path.{_≡_};
 ghost use mathlib.Core.List.{_++_};
 ghost use Prim.Native.Nat.{_+_, _-_, _<_, _%_};
-ghost use Rattle.text.specs.Quoted.{onward};
+ghost use Rattle.text.specs.Quoted.{followedBy};
 ghost use Rattle.check97.specs.Check.{spell, spelled, leavesOne};
 
 // The remainder r of a number, with one more character written behind that number.
 fn step(r: u32, c: u8) -> u32
     requires { ⌜ r < 97 ⌝ }
-    ensures { λ t. ⌜ t ≡ onward r (spell c) % 97 ⌝ }
+    ensures { λ t. ⌜ t ≡ followedBy r (spell c) % 97 ⌝ }
 {
     if text::is_in(Class::Digit, c) {
         return (r * 10 + (c - 48) as u32) % 97;
@@ -26,7 +26,7 @@ fn step(r: u32, c: u8) -> u32
 // The remainder of a number of remainder r with s written behind it.
 fn remainder(r: u32, s: &[u8]) -> u32
     requires { ⌜ r < 97 ⌝ }
-    ensures { λ t. ⌜ t ≡ onward r (spelled (now (s .entry))) % 97 ⌝ }
+    ensures { λ t. ⌜ t ≡ followedBy r (spelled (now (s .entry))) % 97 ⌝ }
 {
     let mut t = r;
     let mut i = 0;

@@ -1,4 +1,4 @@
--- Where a code stands in a list: at the entry that it is, or further on. Assumes nothing.
+-- Where a code stands in a list: at the entry that it is, or further on.
 use mathlib.Core.Path.{_≡_}
 use mathlib.Core.Bool.{Bool, true, false}
 use Prim.Native.Nat.{ℕ}

@@ -7,7 +7,7 @@ use Prim.Native.String.{String}
 use native.Mathlib.Omega.{arith}
 use borrow.Author.Tests.{lt-ltb}
 use lib.ListN.{length, take, drop, length-append, length-drop}
-use lib.Seq.{take-append-seam, drop-append-seam}
+use lib.Seq.{take-append-seam}
 use Rattle.text.specs.Truth.{both, pick, lead}
 use Rattle.text.specs.Quoted.{bytes}
 use Rattle.text.proofs.Truths.{both-true}
@@ -16,6 +16,7 @@ use Rattle.tags.specs.declared.Look.the-variants.{Other}
 use Rattle.tags.specs.Tags.{skipped, look, exactly, endTag, plainTag, amountTag, startTag, currencyPlace, inEuro}
 use Rattle.tags.specs.Values.{inValue}
 use Rattle.tags.proofs.Looks.{look-text, isOther, other-before}
+use Rattle.tags.proofs.White.{skip-twice}
 use Rattle.profile.specs.declared.Kind.{Kind}
 use Rattle.profile.specs.declared.Field.{Field}
 use Rattle.profile.specs.Kinds.{isAmount}
@@ -24,7 +25,7 @@ use Rattle.reading.specs.Trace.{What, value, Trace, upTo, andThen, begins, ends
 use Rattle.documents.specs.Document.{Led, Doc, opening, ledText, texts, text, Often, Each, White, Tagless, LedBy, Proper}
 use Rattle.documents.specs.Said.{one, said}
 use Rattle.documents.proofs.Sure.{unlessOnce, unlessDue, apart, sure}
-use Rattle.documents.proofs.Texts.{past, look-opening, opening-length, Starts, opening-starts, plain-starts, end-starts, skip-to, skipped-twice}
+use Rattle.documents.proofs.Texts.{past, look-opening, opening-length, Starts, opening-starts, plain-starts, end-starts, skip-to}
 use Rattle.documents.proofs.Told.{Told, told-then, told-as}
 use Rattle.documents.proofs.Rows.{turn-skipped, Tells, Passing, child-tells}
 
@@ -149,7 +150,7 @@ module _ (m : List ℕ) where
       (λ z. apart-other tag rest z (d .others) (pr .2)) p s e
 
   pub trace-skips : (sh : Shape) (p : ℕ) → trace sh m (skipped m p) ≡ trace sh m p
-  trace-skips (end n) p = ap (closed n m) (skipped-twice m p)
+  trace-skips (end n) p = ap (closed n m) (skip-twice m p)
   trace-skips (leaf o n k f rest) p =
       let tag = startTag (isAmount k) n in
       turn-skipped m o n tag (leafBody o n k f m) (follow o (length m) n tag m (leafBody o n k f m) (trace rest m)) (trace rest m) p
@@ -184,7 +185,3 @@ module _ (m : List ℕ) where
 
       c : (sure inner ≡ true) × (sure rest ≡ true)
       c = both-true (sure inner) (sure rest) (b .1)
-
--- so behind any bytes x
-pub text-traced : (sh : Shape) → sure sh ≡ true → (d : Doc sh) → Proper sh d → (x s : List ℕ) → Told (trace sh (x ++ (text sh d ++ s)) (length x)) (length x + length (text sh d)) (said sh d)
-text-traced sh a d pr x s = trace-tells (x ++ (text sh d ++ s)) sh a d pr (length x) s (drop-append-seam x (text sh d ++ s))

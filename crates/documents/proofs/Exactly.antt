@@ -1,23 +1,21 @@
 -- A message is accepted exactly when the profile holds of it.
 use mathlib.Core.Path.{_≡_, sym, ap, _∙_}
-use mathlib.Core.List.{List, [], _∷_, _++_}
+use mathlib.Core.List.{List, []}
 use Prim.Native.Nat.{ℕ, _≤_}
 use lib.ListN.{length}
-use Rattle.answers.specs.Given.{refused as no}
 use Rattle.profile.specs.Version.{Version}
 use Rattle.profile.specs.Limits.{mostBytes}
 use Rattle.profile.specs.Profile.{profile}
-use Rattle.reading.specs.Trace.{What, message}
-use Rattle.reading.specs.Rules.{weighed}
-use Rattle.reading.specs.Verdict.{accepted, refused}
-use Rattle.reading.specs.Judged.{compared, judged}
+use Rattle.reading.specs.Trace.{message}
+use Rattle.reading.specs.Verdict.{accepted}
+use Rattle.reading.specs.Judged.{judged}
 use Rattle.reading.proofs.Flat.{flat}
 use Rattle.documents.specs.Said.{said}
 use Rattle.documents.specs.Message.{Message, whole, Lawful}
 use Rattle.documents.specs.Holds.{Holds, Profiled}
 use Rattle.documents.proofs.Messages.{message-told, message-found}
 use Rattle.documents.proofs.Standing.{one-header}
-use Rattle.documents.proofs.Lists.{Kept, kept-listed, decided, listedAll, holds-decided, decided-holds, Parted, parted, decided-refused, judged-listed, accepted-through}
+use Rattle.documents.proofs.Lists.{decided, listedAll, holds-decided, decided-holds, judged-listed, accepted-through}
 
 -- a document's message is judged by the list of what it says
 pub judged-told : {v : Version} (d : Message v (profile v)) → Lawful d → length (whole d) ≤ mostBytes → judged (whole d) ≡ decided (listedAll (flat (message (whole d))) [])
@@ -36,19 +34,6 @@ module _ {v : Version} (d : Message v (profile v)) (law : Lawful d) (n c : ℕ) 
   -- and there it is
   pub accepted-document : length (whole d) ≤ mostBytes → Holds (said (profile v) (d .inside)) n c → judged (whole d) ≡ accepted n c
   accepted-document h k = judged-told d law h ∙ holds-decided (flat (message (whole d))) n c (rw (message-told d law h .says) k)
-
--- ---- and where it does not hold
-module _ {v : Version} (d : Message v (profile v)) (law : Lawful d) (short : length (whole d) ≤ mostBytes) where
-  -- what a document says is in order up to something that does not pass: its message is refused there, with that number
-  pub document-refused : (a : List What) (w : What) (b : List What) (n : ℕ) → said (profile v) (d .inside) ≡ a ++ (w ∷ b) → Kept a → weighed a w ≡ no n
-      → (r : Parted (flat (message (whole d))) a w b) × (judged (whole d) ≡ refused n (r .entry .place))
-  document-refused a w b n e h q =
-      let r = parted (flat (message (whole d))) a w b (message-told d law short .says ∙ e) in
-      (r, judged-told d law short ∙ decided-refused (flat (message (whole d))) a w b n r h q)
-
-  -- all that it says is in order: its header is held against it
-  pub document-compared : Kept (said (profile v) (d .inside)) → judged (whole d) ≡ compared (flat (message (whole d)))
-  document-compared h = judged-told d law short ∙ ap decided (kept-listed (flat (message (whole d))) [] (rw (message-told d law short .says) h))
 
 -- Accepted with a count and a sum of cents: exactly the messages that are the text of a document of the profile, in which every value is of its kind,
 -- the codes are listed and LclInstrm is the same in all items, with as many items and as many cents as the header says, within the limits.

@@ -244,9 +244,9 @@ is-compared es n c h = rw (h .items, h .count, h .sum, h .total, eq-eqb n n refl
 
 -- one of a kind: what it says
 pub lone : (l : List (List ℕ)) → length l ≡ 1 → l ≡ lastOf [] l ∷ []
-lone [] h = absurd (let z : ⊥ = omega arith in z)
+lone [] h = never (omega arith)
 lone (x ∷ []) h = refl
-lone (x ∷ y ∷ l) h = absurd (let z : ⊥ = omega arith in z)
+lone (x ∷ y ∷ l) h = never (omega arith)
 
 module _ (f : List ℕ → ℕ) (fs : List (List ℕ) → List ℕ) (nil : fs [] ≡ []) (more : (v : List ℕ) (l : List (List ℕ)) → fs (v ∷ l) ≡ f v ∷ fs l) where
   said-once : (l : List (List ℕ)) (n : ℕ) → length l ≡ 1 → f (lastOf [] l) ≡ n → fs l ≡ n ∷ []
@@ -337,39 +337,6 @@ decided-holds es n c a b = go (listedAll es []) refl
     go (on u) q e =
         let k = listed-kept es [] u kept-none q in
         kept-holds (whats es) n c a b (k .0) (compared-is es n c (rw (k .1) at e))
-
--- ---- a list that has something in it, and the entry that says it
-pub record Parted (es : List Entry) (a : List What) (w : What) (b : List What) : Type 0 where
-  pub before : List Entry
-  pub entry : Entry
-  pub behind : List Entry
-  pub is : es ≡ before ++ (entry ∷ behind)
-  pub first : whats before ≡ a
-  pub what : entry .what ≡ w
-  pub last : whats behind ≡ b
-
-pub parted : (es : List Entry) (a : List What) (w : What) (b : List What) → whats es ≡ a ++ (w ∷ b) → Parted es a w b
-parted [] [] w b q = never (cc)
-parted [] (x ∷ a) w b q = never (cc)
-parted (e ∷ es) [] w b q = record { before = []; entry = e; behind = es; is = refl; first = refl; what = cc; last = cc }
-parted (e ∷ es) (x ∷ a) w b q =
-    let z : e .what ≡ x = cc in
-    let r = parted es a w b (cc) in
-    record {
-      before = e ∷ r .before;
-      entry = r .entry;
-      behind = r .behind;
-      is = ap (λ (l : List Entry). e ∷ l) (r .is);
-      first = rw (z, r .first);
-      what = r .what;
-      last = r .last;
-    }
-
--- what stands before it is in order, and it does not pass: it is refused at its place, whatever follows
-pub decided-refused : (es : List Entry) (a : List What) (w : What) (b : List What) (n : ℕ) (r : Parted es a w b) → Kept a → weighed a w ≡ no n → decided (listedAll es []) ≡ refused n (r .entry .place)
-decided-refused es a w b n r h q =
-    ap (λ (l : List Entry). decided (listedAll l [])) (r .is)
-    ∙ ap decided (listed-stops (r .before) (r .entry) (r .behind) n (rw (r .first) h) (rw (r .first, r .what) q))
 
 -- ---- the judge, of a message that is read through
 pub noted-listed : (t : Trace) (q : ℕ) → Whole t q → (es : List Entry) → noted listed t es ≡ onward (listedAll (flat t) es) (λ l. on (record { at = q; notes = l }))

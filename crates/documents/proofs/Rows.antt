@@ -6,13 +6,15 @@ use Prim.Native.Nat.{ℕ, zero, suc, _+_, _≤_}
 use Prim.Native.String.{String}
 use native.Mathlib.Omega.{arith}
 use lib.ListN.{length, drop, length-append, length-drop}
+use Rattle.text.proofs.Truths.{never}
 use Rattle.tags.specs.declared.Look.the-variants.{Whole, Other}
 use Rattle.tags.specs.Tags.{skipped, look, onLook}
+use Rattle.tags.proofs.White.{skip-twice}
 use Rattle.profile.specs.Tree.{Occ, once, optional, many, more}
 use Rattle.reading.specs.Trace.{What, absent, Trace, fault, andThen, missing, turn, again, follow, child}
 use Rattle.documents.specs.Document.{Led, ledText, texts, Often, Each, LedBy}
 use Rattle.documents.specs.Said.{one, each, none}
-use Rattle.documents.proofs.Texts.{past, Starts, skip-to, skipped-twice}
+use Rattle.documents.proofs.Texts.{past, Starts, skip-to}
 use Rattle.documents.proofs.Told.{Told, told-then, told-as}
 
 -- an element that need not come where it is looked for, or not again
@@ -34,7 +36,7 @@ module _ (m : List ℕ) where
   pub turn-skipped : (o : Occ) (n : String) (tag : List (ℕ → Bool)) (body next rest : ℕ → Trace) (p : ℕ)
       → turn o n tag m body next rest (skipped m p) ≡ turn o n tag m body next rest p
   turn-skipped o n tag body next rest p =
-      ap (λ (q : ℕ). onLook (look tag (drop q m)) (andThen (body q) next) (fault 3 (length m)) (missing o n q (rest q))) (skipped-twice m p)
+      ap (λ (q : ℕ). onLook (look tag (drop q m)) (andThen (body q) next) (fault 3 (length m)) (missing o n q (rest q))) (skip-twice m p)
 
   -- a reader that reads through a text, whatever follows, and is told something by it
   abbrev pub Tells : (ℕ → Trace) → List ℕ → List What → Type 0
@@ -106,7 +108,7 @@ module _ (m : List ℕ) where
       pub again-tells : (l : List (Led A)) → Each (LedBy P) l → Passing o → (i : ℕ) → length (texts elementText l) ≤ i → Tells (again i n tag m body rest) (rowText l) (rowSaid l)
       again-tells [] pr a zero h p s e = rest-tells p s e
       again-tells [] pr a (suc i) h p s e = rw (other a p s e, rest-skips p) (rest-tells p s e)
-      again-tells (x ∷ l) pr a zero h p s e = absurd (let z : ⊥ = omega (arith, length-append (elementText x) (texts elementText l), some-bytes x) in z)
+      again-tells (x ∷ l) pr a zero h p s e = never (omega (arith, length-append (elementText x) (texts elementText l), some-bytes x))
       again-tells (x ∷ l) pr a (suc i) h p s e =
           more-one more x (pr .0) l (again i n tag m body rest) (again-tells l (pr .1) a i (omega (arith, length-append (elementText x) (texts elementText l), some-bytes x))) p s e
 
@@ -118,9 +120,9 @@ module _ (m : List ℕ) where
           go : (o′ : Occ) (l : List (Led A)) → o′ ≡ o → Each (LedBy P) l → Often o′ (suc (length l)) → length (texts elementText l) ≤ i
               → Tells (follow o′ i n tag m body rest) (rowText l) (rowSaid l)
           go once [] e pr h b = rest-tells
-          go once (x ∷ l) e pr h b = absurd (let z : ⊥ = omega arith in z)
+          go once (x ∷ l) e pr h b = never (omega arith)
           go optional [] e pr h b = rest-tells
-          go optional (x ∷ l) e pr h b = absurd (let z : ⊥ = omega arith in z)
+          go optional (x ∷ l) e pr h b = never (omega arith)
           go many l e pr h b = again-tells l pr (rw (← e) tt) i b
           go more l e pr h b = again-tells l pr (rw (← e) tt) i b
 

@@ -67,26 +67,12 @@ pub white-bracket : white 60 ≡ false
 unfolding white
 white-bracket = refl
 
-lead-over : (f : ℕ → Bool) (s : List ℕ) → lead f (drop (lead f s) s) ≡ 0
-lead-over f [] = refl
-lead-over f (c ∷ s) = go (f c) refl (lead-over f s)
-  where
-    go : (b : Bool) → f c ≡ b → lead f (drop (lead f s) s) ≡ 0 → lead f (drop (pick b (suc (lead f s)) 0) (c ∷ s)) ≡ 0
-    go true e h = h
-    go false e h = rw e
-
 module _ (m : List ℕ) where
   -- it ends where a tag begins
   pub skip-to : (p : ℕ) (w s : List ℕ) → White w → Starts s → drop p m ≡ w ++ s → skipped m p ≡ p + length w
   skip-to p w s h b e =
       ap (λ (x : List ℕ). p + lead white x) (e ∙ ap (λ (x : List ℕ). w ++ x) (b .is))
       ∙ ap (λ (n : ℕ). p + n) (lead-before white w 60 (b .rest) h white-bracket)
-
-  -- and is passed once
-  pub skipped-twice : (p : ℕ) → skipped m (skipped m p) ≡ skipped m p
-  skipped-twice p =
-      ap (λ (n : ℕ). skipped m p + n) (ap (lead white) (sym (drop-drop (lead white (drop p m)) p m)) ∙ lead-over white (drop p m))
-      ∙ add-zero (skipped m p)
 
   -- what was passed, as text
   abbrev pub space : ℕ → List ℕ

@@ -9,6 +9,7 @@ use borrow.Author.Tests.{eqb-true}
 use lib.Dec.{eqb}
 use lib.ListN.{length, drop}
 use Rattle.text.specs.Truth.{pick}
+use Rattle.text.proofs.Truths.{never}
 use Rattle.tags.specs.declared.Look.{Look}
 use Rattle.tags.specs.Tags.{white, skipped, look, onLook, exactly, declaration, startsQuestion}
 use Rattle.tags.proofs.Looks.{exactly-length}
@@ -50,7 +51,7 @@ module _ (m x : List ℕ) where
       go k l (other w) z = z (omega arith)
 
   pub rooted-ends : (vs : List Version) → 0 < length vs → inDocument m (rooted vs m (length m)) ≡ fault 3 (length m)
-  rooted-ends [] h = absurd (let z : ⊥ = omega arith in z)
+  rooted-ends [] h = never (omega arith)
   rooted-ends (v ∷ vs) h = rw (none-left (exactly (root v)) (omega arith) m)
 
   -- behind white space

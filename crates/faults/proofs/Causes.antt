@@ -22,7 +22,7 @@ use Rattle.reading.specs.Rules.{itemsIn, centsIn, ofKind, weighed}
 use Rattle.reading.specs.Verdict.{Judged, accepted, refused}
 use Rattle.reading.specs.Judged.{whats, onlyOf, orRefused, listed, placeIn, placeOf, compared, verdict, judged}
 use Rattle.reading.proofs.Lists.{place-append}
-use Rattle.reading.proofs.Flat.{never, Whole, split, noted-then}
+use Rattle.reading.proofs.Flat.{never, Whole, noted-then}
 use Rattle.faults.specs.Refusals.{_among_, ofForm, ofWhatIsSaid, whileReading, afterTheEnd, inDocument, ReadTo, NoneLeft, Behind, left, count, total}
 use Rattle.faults.proofs.Numbers.{among-left, among-right, not-among}
 use Rattle.faults.proofs.Extends.{needs, Placed, Extends, also, done, wrong, ended}
@@ -82,7 +82,7 @@ noted-stops (met x t) es n p e = go (weighed (whats es) (x .what)) (weighed-said
     go (worth v) s k e = k e
     go (no i) s k e = let z : i ≡ n = cc in inl (rw z at s)
 
-whole-unbroken : (t : Trace) (q n : ℕ) → Whole t q → Breaks n t → ⊥
+pub whole-unbroken : (t : Trace) (q n : ℕ) → Whole t q → Breaks n t → ⊥
 whole-unbroken (met e t) q n w b = whole-unbroken t q n w b
 whole-unbroken (upTo p) q n w b = b
 whole-unbroken (fault k p) q n w b = w
@@ -106,20 +106,6 @@ module _ (m : List ℕ) where
   judged-as : length m ≤ mostBytes → judged m ≡ concluded (documentRead m)
   unfolding judged message
   judged-as h = rw (le-ltb mostBytes (length m) h, as-parts (opened m), noted-then listed (inDocument m (opened m)) (behindAll m) [])
-
-  -- a message that breaks off nowhere is refused for what it says alone
-  pub whole-said : (q : ℕ) → Whole (message m) q → (n p : ℕ) → documentRead m ≡ stop n p → n among ofWhatIsSaid
-  unfolding message
-  whole-said q w n p = go (ltb mostBytes (length m)) w
-    where
-      go : (b : Bool) → Whole (pick b (fault 1 0) (inside m (opened m))) q → documentRead m ≡ stop n p → n among ofWhatIsSaid
-      go true w e = absurd w
-      go false w e =
-          let s = split (inDocument m (opened m)) (behindAll m) q (rw (as-parts (opened m)) at w) in
-          elim (noted-stops (inDocument m (opened m)) [] n p e) [
-            | inl a ↦ a
-            | inr b ↦ absurd (whole-unbroken (inDocument m (opened m)) (s .mid) n (s .first) b)
-          ]
 
   pub refuses : (n p : ℕ) → length m ≤ mostBytes → documentRead m ≡ stop n p → judged m ≡ refused n p
   refuses n p h e = judged-as h ∙ rw e

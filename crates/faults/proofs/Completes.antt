@@ -17,23 +17,26 @@ use Rattle.tags.specs.declared.Look.{Look}
 use Rattle.tags.specs.declared.Look.the-variants.{Whole as Complete, Cut, Other}
 use Rattle.tags.specs.Tags.{white, skipped, look, onLook, exactly, endTag, plainTag, startTag, currencyPlace, inEuro}
 use Rattle.tags.specs.Values.{inValue, valueAt, behindValue}
-use Rattle.tags.proofs.Looks.{exactly-length, look-text, look-fits, isOther}
+use Rattle.tags.proofs.Looks.{exactly-length, look-text, look-fits}
 use Rattle.profile.specs.declared.Kind.{Kind}
 use Rattle.profile.specs.declared.Field.{Field}
 use Rattle.profile.specs.Kinds.{isAmount}
 use Rattle.profile.specs.Tree.{Occ, once, optional, many, more, Shape, end, leaf, group}
 use Rattle.reading.specs.Trace.{value, _at_, Trace, met, upTo, fault, andThen, begins, ends, priced, closed, valued, leafBody, groupBody, missing, turn, again, follow, child, trace}
 use Rattle.reading.proofs.Flat.{never}
+use Rattle.documents.specs.Document.{opening}
+use Rattle.documents.proofs.Sure.{unlessOnce, apart, sure}
+use Rattle.documents.proofs.Texts.{look-opening, opening-length, Starts, opening-starts, white-bracket}
 use Rattle.faults.specs.Completed.{full}
 use Rattle.faults.proofs.Fronts.{Sights, whole, cut, other, seen, none-left}
 use Rattle.faults.proofs.Extends.{Extends, also, done, wrong, ended, start-wide, priced-ext, valued-ext, then-ext, leaf-ext, group-ext, trace-ext}
-use Rattle.faults.proofs.Fills.{begins-by, ends-by, Fills, Led, opening, closed-fills, valued-fills, leaf-fills, group-fills, follow-fills, trace-fills, least, least-led, sure, asOften, asked, opening-led, opening-length, look-opening, plain-led}
+use Rattle.faults.proofs.Fills.{begins-by, ends-by, closed-fills, valued-fills, least, least-full, leaf-follows, group-follows}
 use Rattle.faults.proofs.Made.{Due, Fine, Made, made-now, made-as, made-more, filled, filled-up, first-made, then-made, run-same, mend}
 
 abbrev pub Comes : (List ℕ → ℕ → Trace) → ℕ → Type 0
 Comes F b = (m : List ℕ) (p : ℕ) → p ≤ length m → Due (length m) (F m p) → Made b m (λ n. F n p)
 
-text-led : (n : String) → Led (endTag n)
+text-led : (n : String) → Starts (endTag n)
 text-led n = record { rest = _; is = refl }
 
 pub whole-text : (t : List ℕ) → look (exactly t) t ≡ Complete
@@ -42,14 +45,10 @@ whole-text t = rw (append-nil t) at (look-text t [])
 -- ---- a place of a message, which stays where it is when the message is continued, if it is not its end or a `<` comes there
 pub record Place (g : List ℕ → ℕ) (m : List ℕ) : Type 0 where
   pub within : g m ≤ length m
-  pub kept : (x : List ℕ) → (g m ≡ length m → Led x) → g (m ++ x) ≡ g m
-
-white-not : white 60 ≡ false
-unfolding white
-white-not = refl
+  pub kept : (x : List ℕ) → (g m ≡ length m → Starts x) → g (m ++ x) ≡ g m
 
 pub behind-white : (m : List ℕ) (p : ℕ) → p ≤ length m → Place (λ k. skipped k p) m
-behind-white m p h = record { within = omega (arith, lead-le white (drop p m), length-drop p m); kept = λ x l. run-same white white-not m x p h l }
+behind-white m p h = record { within = omega (arith, lead-le white (drop p m), length-drop p m); kept = λ x l. run-same white white-bracket m x p h l }
 
 -- ---- an end tag at a place
 closed-at : (n : String) (g : List ℕ → ℕ) (m : List ℕ) → Place g m
@@ -192,7 +191,7 @@ stays tag some g m x q w s l e no-cut = go (look tag (drop q m)) (look tag (drop
     go k j (cut h) e = absurd (no-cut (sym e))
     go k j (other h) e = (same h, e)
 
-module _ (n : String) (tag : List (ℕ → Bool)) (some : 0 < length tag) (first : List ℕ) (led : Led first) (fits : look tag first ≡ Complete) (same : length first ≡ length tag)
+module _ (n : String) (tag : List (ℕ → Bool)) (some : 0 < length tag) (first : List ℕ) (led : Starts first) (fits : look tag first ≡ Complete) (same : length first ≡ length tag)
     (B R : List ℕ → ℕ → Trace) (bb br : ℕ)
     (bext : (m x : List ℕ) (p : ℕ) → p + length tag ≤ length m → Extends (length m) (p + length tag) (B m p) (B (m ++ x) p))
     (bcom : (m : List ℕ) (p : ℕ) → p + length tag ≤ length m → Due (length m) (B m p) → Made bb m (λ k. B k p))
@@ -247,8 +246,8 @@ module _ (n : String) (tag : List (ℕ → Bool)) (some : 0 < length tag) (first
   rows m = again (length m) n tag m (B m) (R m)
 
   again-same : (m : List ℕ) (i j p : ℕ) → p ≤ length m → length m < i + p → length m < j + p → again i n tag m (B m) (R m) p ≡ again j n tag m (B m) (R m) p
-  again-same m zero j p h d e = absurd (let z : ⊥ = omega arith in z)
-  again-same m (suc i) zero p h d e = absurd (let z : ⊥ = omega arith in z)
+  again-same m zero j p h d e = never (omega arith)
+  again-same m (suc i) zero p h d e = never (omega arith)
   again-same m (suc i) (suc j) p h d e = go (look tag (drop q m)) refl (λ t u v. again-same m i j t v (omega arith) (omega arith))
     where
       q : ℕ
@@ -268,7 +267,7 @@ module _ (n : String) (tag : List (ℕ → Bool)) (some : 0 < length tag) (first
   module _ (be b : ℕ) (enough : length tag + bb + be ≤ b) (wide : br ≤ b) where
     rows-comes : ((m : List ℕ) → Made be m (λ k. rows k (length m))) → (i : ℕ) (m : List ℕ) (p : ℕ) → 1 ≤ p → p ≤ length m → length m < i + p
         → Due (length m) (rows m p) → Made b m (λ k. rows k p)
-    rows-comes ef zero m p l h g d = absurd (let z : ⊥ = omega arith in z)
+    rows-comes ef zero m p l h g d = never (omega arith)
     rows-comes ef (suc i) m p l h g d =
         made-as b (λ k. rows k p)
         (turn-comes more rows be b ef enough wide m p h (λ q u v w. rows-comes ef i m q (omega arith) v (omega arith) w) (rw (rows-turn m p l h) at d)) (omega arith)
@@ -286,19 +285,6 @@ module _ (n : String) (tag : List (ℕ → Bool)) (some : 0 < length tag) (first
         turn-comes o (λ k. follow o (length k) n tag k (B k) (R k)) be b ef enough wide m p h (λ q u v w. follow-comes o ef m q (omega arith) v w) d
 
 -- ---- by the tree: one text of every element
-often-full : (o : Occ) (y z : List ℕ) → length (asOften o y z) ≤ length y + length z
-often-full once y z = omega (arith, length-append y z)
-often-full optional y z = omega arith
-often-full many y z = omega (arith, length-append y z)
-often-full more y z = omega arith
-
-pub least-full : (sh : Shape) → length (least sh) ≤ full sh
-least-full (end n) = omega arith
-least-full (leaf o n k f rest) =
-    omega (arith, often-full o (opening (isAmount k) n ++ endTag n) (least rest), length-append (opening (isAmount k) n) (endTag n), opening-length (isAmount k) n, least-full rest)
-least-full (group o n inner rest) =
-    omega (arith, often-full o (plainTag n ++ least inner) (least rest), length-append (plainTag n) (least inner), least-full inner, least-full rest)
-
 -- a body of which what it holds is due is due
 body-due : (o : Occ) (n : String) (p l : ℕ) (t : Trace) → Due l t → Due l (begins o n p (andThen t (ends o)))
 body-due o n p l t d = begins-by (Due l) (λ e t h. h) o n p (andThen t (ends o)) (go t d)
@@ -308,53 +294,50 @@ body-due o n p l t d = begins-by (Due l) (λ e t h. h) o n p (andThen t (ends o)
     go (fault n q) d = d
     go (upTo q) d = ends-by (Due l) (λ e t h. h) o q d
 
-module _ (o : Occ) (n : String) (k : Kind) (f : Field) (rest : Shape) (t : asked o (isOther (look (startTag (isAmount k) n) (least rest))) ≡ true)
-    (rf : Fills (trace rest) (least rest)) (rcom : Comes (trace rest) (full rest)) where
-  abbrev a : Bool
-  a = isAmount k
-
-  abbrev tag : List (ℕ → Bool)
-  tag = startTag (isAmount k) n
-
-  five : (p : ℕ) → isAmount k ≡ true → 5 ≤ p + length tag
-  five p e = omega (arith, start-wide (isAmount k) n .1 e)
-
-  leaf-comes : Comes (trace (leaf o n k f rest)) (full (leaf o n k f rest))
-  leaf-comes =
-      child-comes n tag (start-wide a n .0) (opening a n) (opening-led a n) (rw (append-nil (opening a n)) at (look-opening a n [])) (opening-length a n) (leafBody o n k f) (trace rest)
-      (length (endTag n)) (full rest) (λ m x p h. leaf-ext m x o n k f p h)
+module _ (o : Occ) (n : String) (rest : Shape) (s : sure rest ≡ true) (rcom : Comes (trace rest) (full rest)) where
+  leaf-comes : (k : Kind) (f : Field) → unlessOnce o (apart (startTag (isAmount k) n) rest) ≡ true → Comes (trace (leaf o n k f rest)) (full (leaf o n k f rest))
+  leaf-comes k f t =
+      child-comes n tag (start-wide a n .0) (opening k n) (rw (append-nil (opening k n)) at (opening-starts k n [])) (rw (append-nil (opening k n)) at (look-opening k n []))
+      (sym (opening-length k n)) (leafBody o n k f) (trace rest) (length (endTag n)) (full rest) (λ m x p h. leaf-ext m x o n k f p h)
       (λ m p h d. body-comes o n (λ m. pricedValue n k f m (p + length tag)) p (p + length tag) (length (endTag n))
       (λ m x h. then-ext (valued n k f m) (valued n k f (m ++ x)) (priced-ext m x a (p + length tag) h (five p)) (λ q u v. valued-ext m x n k f q v))
       (λ m h d. pv-comes n k f m (p + length tag) (five p) h d) m h d)
       (λ m p e. body-due o n p (length m) (pricedValue n k f m (p + length tag)) (rw e (pv-due n k f m))) rcom
       (length (least rest)) (full (leaf o n k f rest)) (omega (arith, least-full rest)) (omega arith) o
-      (filled-up (λ m. follow o (length m) n tag m (leafBody o n k f m) (trace rest m)) (least rest)
-      (follow-fills n tag (opening a n) (opening-led a n) (look-opening a n) (leafBody o n k f) (trace rest) (endTag n) (least rest) (leaf-fills o n k f) rf (least-led rest) o t))
+      (filled-up (λ m. follow o (length m) n tag m (leafBody o n k f m) (trace rest m)) (least rest) (leaf-follows o n rest s k f t))
+    where
+      a : Bool
+      a = isAmount k
 
-module _ (o : Occ) (n : String) (inner rest : Shape) (t : asked o (isOther (look (exactly (plainTag n)) (least rest))) ≡ true) (jf : Fills (trace inner) (least inner))
-    (jcom : Comes (trace inner) (full inner)) (rf : Fills (trace rest) (least rest)) (rcom : Comes (trace rest) (full rest)) where
-  group-comes : Comes (trace (group o n inner rest)) (full (group o n inner rest))
-  group-comes =
-      child-comes n (exactly (plainTag n)) (omega arith) (plainTag n) (plain-led n) (whole-text (plainTag n)) (sym (exactly-length (plainTag n))) (λ m. groupBody o n (trace inner m)) (trace rest)
+      tag : List (ℕ → Bool)
+      tag = startTag (isAmount k) n
+
+      five : (p : ℕ) → isAmount k ≡ true → 5 ≤ p + length tag
+      five p e = omega (arith, start-wide (isAmount k) n .1 e)
+
+  group-comes : (inner : Shape) → sure inner ≡ true → Comes (trace inner) (full inner) → unlessOnce o (apart (exactly (plainTag n)) rest) ≡ true
+      → Comes (trace (group o n inner rest)) (full (group o n inner rest))
+  group-comes inner i jcom t =
+      child-comes n tag (omega arith) (plainTag n) (record { rest = _; is = refl }) (whole-text (plainTag n)) (sym (exactly-length (plainTag n))) (λ m. groupBody o n (trace inner m)) (trace rest)
       (full inner) (full rest) (λ m x p h. group-ext m x o n (trace inner m) (trace inner (m ++ x)) (λ q u v. trace-ext m x inner q v) p h)
       (λ m p h d. body-comes o n (λ m. trace inner m (p + length (plainTag n))) p (p + length (plainTag n)) (full inner) (λ m x h. trace-ext m x inner (p + length (plainTag n)) h)
       (λ m h d. jcom m (p + length (plainTag n)) h d) m (omega (arith, exactly-length (plainTag n))) d)
       (λ m p e. body-due o n p (length m) (trace inner m (p + length (plainTag n))) (here m p (omega (arith, e, exactly-length (plainTag n))))) rcom
       (length (least rest)) (full (group o n inner rest)) (omega (arith, least-full rest, exactly-length (plainTag n))) (omega arith) o
-      (filled-up (λ m. follow o (length m) n (exactly (plainTag n)) m (groupBody o n (trace inner m)) (trace rest m)) (least rest)
-      (follow-fills n (exactly (plainTag n)) (plainTag n) (plain-led n) (look-text (plainTag n)) (λ m. groupBody o n (trace inner m)) (trace rest) (least inner) (least rest)
-      (group-fills o n (trace inner) (least inner) jf) rf (least-led rest) o t))
+      (filled-up (λ m. follow o (length m) n tag m (groupBody o n (trace inner m)) (trace rest m)) (least rest) (group-follows o n rest s inner i t))
     where
+      tag : List (ℕ → Bool)
+      tag = exactly (plainTag n)
+
       here : (m : List ℕ) (p : ℕ) → p + length (plainTag n) ≡ length m → Due (length m) (trace inner m (p + length (plainTag n)))
       here m p e = rw (e, trace-ends inner m) (inl refl)
 
 pub trace-comes : (sh : Shape) → sure sh ≡ true → Comes (trace sh) (full sh)
-trace-comes (end n) t =
-    λ m p h d. closed-at n (λ k. skipped k p) m (behind-white m p h) d
+trace-comes (end n) t = λ m p h d. closed-at n (λ k. skipped k p) m (behind-white m p h) d
 trace-comes (leaf o n k f rest) t =
-    let h = both-true (asked o (isOther (look (startTag (isAmount k) n) (least rest)))) (sure rest) t in
-    leaf-comes o n k f rest (h .0) (trace-fills rest (h .1)) (trace-comes rest (h .1))
+    let h = both-true (unlessOnce o (apart (startTag (isAmount k) n) rest)) (sure rest) t in
+    leaf-comes o n rest (h .1) (trace-comes rest (h .1)) k f (h .0)
 trace-comes (group o n inner rest) t =
-    let h = both-true (asked o (isOther (look (exactly (plainTag n)) (least rest)))) (both (sure inner) (sure rest)) t in
+    let h = both-true (unlessOnce o (apart (exactly (plainTag n)) rest)) (both (sure inner) (sure rest)) t in
     let g = both-true (sure inner) (sure rest) (h .1) in
-    group-comes o n inner rest (h .0) (trace-fills inner (g .0)) (trace-comes inner (g .0)) (trace-fills rest (g .1)) (trace-comes rest (g .1))
+    group-comes o n rest (g .1) (trace-comes rest (g .1)) inner (g .0) (trace-comes inner (g .0)) (h .0)

@@ -127,7 +127,7 @@ module _ (m x : List ℕ) where
     where
       go : (k l : Look) → Sights (p - 5) (p - 5 + 3) (length m) k l → onLook l true false false ≡ onLook k true false false
       go k l (whole g) = refl
-      go k l (cut g) = absurd (let z : ⊥ = omega arith in z)
+      go k l (cut g) = never (omega arith)
       go k l (other g) = refl
 
   pub priced-ext : (b : Bool) (p : ℕ) → p ≤ length m → (b ≡ true → 5 ≤ p) → Ext p (priced b m p) (priced b (m ++ x) p)
@@ -147,7 +147,7 @@ module _ (m x : List ℕ) where
           → Ext p (pick b (met (value k f (valueAt m p) at p) (closed n m (behindValue m p))) (fault 3 (length m)))
           (pick (ltb (behindValue (m ++ x) p) (length (m ++ x))) (met (value k f (valueAt (m ++ x) p) at p) (closed n (m ++ x) (behindValue (m ++ x) p))) (fault 3 (length (m ++ x))))
       go false e r = ended
-      go true e (inl i) = absurd (let z : ⊥ = omega (arith, ltb-true (behindValue m p) (length m) e) in z)
+      go true e (inl i) = never (omega (arith, ltb-true (behindValue m p) (length m) e))
       go true e (inr i) =
           let g : behindValue m p < length m = ltb-true (behindValue m p) (length m) e in
           rw (i, lies-in m x p h (lead inValue (drop p m)) (omega arith), lt-ltb (behindValue m p) (length (m ++ x)) (omega (arith, length-append m x)))
@@ -172,8 +172,8 @@ module _ (m x : List ℕ) where
 
     -- each time round moves on, so there is room for as many as there are bytes
     again-ext : (i j p : ℕ) → p ≤ length m → length m < i + p → length m < j + p → Ext p (again i n tag m b r p) (again j n tag (m ++ x) c s p)
-    again-ext zero j p h d e = absurd (let z : ⊥ = omega arith in z)
-    again-ext (suc i) zero p h d e = absurd (let z : ⊥ = omega arith in z)
+    again-ext zero j p h d e = never (omega arith)
+    again-ext (suc i) zero p h d e = never (omega arith)
     again-ext (suc i) (suc j) p h d e =
         turn-ext more (again i n tag m b r) (again j n tag (m ++ x) c s) p h (λ q u v. again-ext i j q v (omega arith) (omega arith))
 

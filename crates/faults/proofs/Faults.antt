@@ -13,10 +13,10 @@ use Rattle.reading.specs.Trace.{Entry, message}
 use Rattle.reading.specs.Noted.{Reading, stop, Ended}
 use Rattle.reading.specs.Verdict.{accepted, refused}
 use Rattle.reading.specs.Judged.{judged}
-use Rattle.reading.proofs.Flat.{never, Whole, same-end}
-use Rattle.faults.specs.Refusals.{_among_, ofForm, ofWhatIsSaid, whileReading, afterTheEnd, whenAsked, ofTheJudge, ReadTo, InOrder, Behind}
+use Rattle.reading.proofs.Flat.{never, same-end}
+use Rattle.faults.specs.Refusals.{_among_, whileReading, afterTheEnd, whenAsked, ofTheJudge, ReadTo, InOrder, Behind}
 use Rattle.faults.proofs.Numbers.{among-left, among-right, not-among, none-common}
-use Rattle.faults.proofs.Causes.{Both, through, before, ends, documentRead, document-both, refuses, whole-said, long, reading, after, cause}
+use Rattle.faults.proofs.Causes.{Both, through, before, ends, documentRead, document-both, refuses, long, reading, after, cause}
 
 -- No number is met at two of these times.
 pub apart : (n : ℕ) → n among whileReading → n among afterTheEnd → ⊥
@@ -36,7 +36,7 @@ module _ (m : List ℕ) where
   pub three-at-end : (p : ℕ) → judged m ≡ refused 3 p → p ≡ length m
   three-at-end p e =
       elim (cause m 3 p e) [
-        | long h f g ↦ absurd (let z : ⊥ = omega arith in z)
+        | long h f g ↦ never (omega arith)
         | reading h f w l z ↦ z refl
         | after r f b w l ↦ absurd (apart 3 refl w)
       ]
@@ -97,7 +97,7 @@ module _ (m : List ℕ) where
 
       go : (x y : Reading (Ended (List Entry))) → Both (length (take q m)) x y → y ≡ stop n p → x ≡ stop 3 (length (take q m))
       go x y (through r g) f = never (cc)
-      go x y (before k i r z g) f = let a : i ≡ p = cc in absurd (let z : ⊥ = omega (arith, size) in z)
+      go x y (before k i r z g) f = let a : i ≡ p = cc in never (omega (arith, size))
       go x y ends f = refl
 
   -- A refusal met while reading is the first fault: the bytes before its place alone are refused only because they end there.
@@ -117,7 +117,7 @@ module _ (m : List ℕ) where
 
   -- ---- the message continued in any way
   module _ (n p : ℕ) (e : judged m ≡ refused n p) (w : n among whileReading) (o : n ≡ 3 → ⊥) (x : List ℕ) where
-    same-read : documentRead (m ++ x) ≡ stop n p
+    pub same-read : documentRead (m ++ x) ≡ stop n p
     same-read = go (documentRead m) (documentRead (m ++ x)) (document-both m x) (met-reading n p e w .1)
       where
         go : (y z : Reading (Ended (List Entry))) → Both (length m) y z → y ≡ stop n p → z ≡ stop n p
@@ -136,7 +136,3 @@ module _ (m : List ℕ) where
           | inl h ↦ let z : refused 1 0 ≡ accepted i c = sym (too-long (m ++ x) h) ∙ f in never (cc)
           | inr h ↦ let z : refused n p ≡ accepted i c = sym (same-continued h) ∙ f in never (cc)
         ]
-
-    -- And with a fault of form (2, 4, 6) it breaks off somewhere, whatever comes: nothing that begins with these bytes is read through.
-    pub never-whole : n among ofForm → (q : ℕ) → Whole (message (m ++ x)) q → ⊥
-    never-whole f q h = none-common ofForm ofWhatIsSaid refl n f (whole-said (m ++ x) q h n p same-read)

@@ -8,6 +8,7 @@ use native.Mathlib.Omega.{arith}
 use lib.ListN.{length, take, drop, length-drop, drop-of-length-le}
 use lib.Seq.{take-append-le, drop-append-le}
 use Rattle.text.specs.Truth.{pick, lead}
+use Rattle.text.proofs.Truths.{never}
 use Rattle.tags.specs.declared.Look.{Look}
 use Rattle.tags.specs.declared.Look.the-variants.{Whole, Cut, Other}
 use Rattle.tags.specs.Tags.{look}
@@ -64,5 +65,5 @@ module _ (m x : List ℕ) (a : ℕ) (h : a ≤ length m) where
 
 -- where nothing is left, tests are cut
 pub none-left : (t : List (ℕ → Bool)) → 0 < length t → (m : List ℕ) → look t (drop (length m) m) ≡ Cut
-none-left [] h m = absurd (let z : ⊥ = omega arith in z)
+none-left [] h m = never (omega arith)
 none-left (f ∷ t) h m = rw (drop-of-length-le m {i = length m} (omega arith))

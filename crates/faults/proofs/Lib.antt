@@ -9,3 +9,4 @@ pub mod Fills
 pub mod Made
 pub mod Completes
 pub mod Three
+pub mod Documents

@@ -16,7 +16,8 @@ use Rattle.reading.specs.Trace.{Trace, met, upTo, fault, andThen}
 use Rattle.reading.proofs.Flat.{never, Whole}
 use Rattle.faults.proofs.Fronts.{runs}
 use Rattle.faults.proofs.Extends.{Extends, also, done, wrong, ended}
-use Rattle.faults.proofs.Fills.{Fills, Led}
+use Rattle.documents.proofs.Texts.{Starts}
+use Rattle.faults.proofs.Fills.{Fills}
 
 -- ---- of a trace of l bytes: all was read and nothing is left, or more is due (3), or a currency is wrong (6); and without the 3
 abbrev pub Due : ℕ → Trace → Type 0
@@ -124,11 +125,11 @@ module _ (S : List ℕ → Trace) (F : List ℕ → ℕ → Trace) (m : List ℕ
           (λ x f. fine-then (S (m ++ x)) (F (m ++ x)) (o .at) (length (m ++ x)) (rw (extends-whole (o .at) (ext m x (omega arith)) (o .first) .0) at (o .first)) f)
 
 -- ---- a run of bytes that pass ends where it did, if what comes behind the message begins with another
-pub run-same : (f : ℕ → Bool) → f 60 ≡ false → (m x : List ℕ) (p : ℕ) → p ≤ length m → (p + lead f (drop p m) ≡ length m → Led x)
+pub run-same : (f : ℕ → Bool) → f 60 ≡ false → (m x : List ℕ) (p : ℕ) → p ≤ length m → (p + lead f (drop p m) ≡ length m → Starts x)
     → p + lead f (drop p (m ++ x)) ≡ p + lead f (drop p m)
 run-same f z m x p h k = elim (runs m x p h f) [ inr e ↦ rw e | inl e ↦ go e (k e) ]
   where
-    go : p + lead f (drop p m) ≡ length m → Led x → p + lead f (drop p (m ++ x)) ≡ p + lead f (drop p m)
+    go : p + lead f (drop p m) ≡ length m → Starts x → p + lead f (drop p (m ++ x)) ≡ p + lead f (drop p m)
     go e l =
         let all : lead f (drop p m) ≡ length (drop p m) = omega (arith, length-drop p m) in
         let each : every f (drop p m) ≡ true = sym (every-lead f (drop p m)) ∙ eq-eqb (lead f (drop p m)) (length (drop p m)) all in
@@ -140,7 +141,7 @@ pub record Mended (t : List (ℕ → Bool)) (m : List ℕ) (p : ℕ) : Type 0 wh
   pub short : length more ≤ length t
   pub whole : look t (drop p (m ++ more)) ≡ Complete
   pub size : length (m ++ more) ≡ p + length t
-  pub led : p ≡ length m → Led more
+  pub led : p ≡ length m → Starts more
 
 cut-fits : (t : List (ℕ → Bool)) (y s : List ℕ) → look t y ≡ Complete → length y ≡ length t → look t s ≡ Cut
     → (look t (s ++ drop (length s) y) ≡ Complete) × (length s + length (drop (length s) y) ≡ length t)
@@ -156,7 +157,7 @@ cut-fits (f ∷ t) (b ∷ y) (d ∷ s) e l c = go (f b) (f d) e c (cut-fits t y 
     go true false e c k = never (cc)
     go false v e c k = never (cc)
 
-pub mend : (t : List (ℕ → Bool)) (y : List ℕ) → Led y → look t y ≡ Complete → length y ≡ length t → (m : List ℕ) (p : ℕ) → p ≤ length m → look t (drop p m) ≡ Cut → Mended t m p
+pub mend : (t : List (ℕ → Bool)) (y : List ℕ) → Starts y → look t y ≡ Complete → length y ≡ length t → (m : List ℕ) (p : ℕ) → p ≤ length m → look t (drop p m) ≡ Cut → Mended t m p
 mend t y l e s m p h c =
     let r = cut-fits t y (drop p m) e s c in
     let x : List ℕ = drop (length (drop p m)) y in

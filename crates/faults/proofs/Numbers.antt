@@ -6,7 +6,7 @@ use Prim.Native.Nat.{ℕ}
 use borrow.Author.Tests.{eqb-true}
 use lib.Dec.{eqb}
 use Rattle.text.specs.Truth.{either, some, every}
-use Rattle.text.proofs.Truths.{both-true}
+use Rattle.text.proofs.Truths.{both-true, either-same}
 use Rattle.reading.proofs.Flat.{never}
 use Rattle.faults.specs.Refusals.{_among_}
 
@@ -23,11 +23,7 @@ pub among-left : (n : ℕ) (a b : List ℕ) → n among a → n among (a ++ b)
 among-left n a b h = rw (some-append (eqb n) a b, h)
 
 pub among-right : (n : ℕ) (a b : List ℕ) → n among b → n among (a ++ b)
-among-right n a b h = rw (some-append (eqb n) a b, h) (go (some (eqb n) a))
-  where
-    go : (t : Bool) → either t true ≡ true
-    go true = refl
-    go false = refl
+among-right n a b h = rw (some-append (eqb n) a b, h) (either-same (some (eqb n) a))
 
 -- a number that is not of a list
 pub not-among : (k : ℕ) (l : List ℕ) (n : ℕ) → some (eqb k) l ≡ false → n among l → n ≡ k → ⊥

@@ -27,15 +27,17 @@ use Rattle.faults.proofs.Numbers.{not-among, none-common, among-left}
 use Rattle.faults.proofs.Causes.{as-parts, Breaks, noted-stops}
 use Rattle.faults.proofs.Faults.{met-reading}
 use Rattle.faults.proofs.Begins.{rooted-ends}
-use Rattle.faults.proofs.Fills.{Led, led-more, least, trace-fills, profile-sure}
+use Rattle.documents.proofs.Sure.{profile-sure}
+use Rattle.documents.proofs.Texts.{Starts}
+use Rattle.faults.proofs.Fills.{starts-more, least, least-full, trace-fills}
 use Rattle.faults.proofs.Made.{Due, Fine, Made, made-as, made-more, filled-up, mend}
-use Rattle.faults.proofs.Completes.{Place, behind-white, stays, whole-text, none-white, trace-comes, least-full}
+use Rattle.faults.proofs.Completes.{Place, behind-white, stays, whole-text, none-white, trace-comes}
 
-place-more : {g : List ℕ → ℕ} (m y : List ℕ) → Place g m → (g m ≡ length m → Led y) → Place g (m ++ y)
+place-more : {g : List ℕ → ℕ} (m y : List ℕ) → Place g m → (g m ≡ length m → Starts y) → Place g (m ++ y)
 place-more {g} m y w l =
     record {
       within = omega (arith, w .kept y l, w .within, length-append m y);
-      kept = λ x i. ap g (append-assoc m y x) ∙ (w .kept (y ++ x) (λ z. led-more y x (l z)) ∙ sym (w .kept y l));
+      kept = λ x i. ap g (append-assoc m y x) ∙ (w .kept (y ++ x) (λ z. starts-more y x (l z)) ∙ sym (w .kept y l));
     }
 
 -- ---- the root tag of one of some versions, at a place, and what follows it

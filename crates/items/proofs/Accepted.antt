@@ -108,13 +108,13 @@ module _ (m : List ℕ) (n c : ℕ) where
 -- ---- item i, walking from item to item
 module _ (v : Version) (m : List ℕ) where
   pub chain-walked : {p : ℕ} {l : List Item} → Chained v m p l → (i : ℕ) → i < length l → itemFrom i l ≡ walked i v m p
-  chain-walked none i h = absurd (let z : ⊥ = omega arith in z)
+  chain-walked none i h = never (omega arith)
   chain-walked (next s c) zero h = rw (s .alone, s .from)
   chain-walked (next s c) (suc i) h = rw (s .alone) (chain-walked c i (omega arith))
 
 none-there : (l : List Item) (i : ℕ) → length l ≤ i → itemFrom i l ≡ notThere 18 0
 none-there [] i h = refl
-none-there (x ∷ l) zero h = absurd (let z : ⊥ = omega arith in z)
+none-there (x ∷ l) zero h = never (omega arith)
 none-there (x ∷ l) (suc i) h = none-there l i (omega arith)
 
 -- a message is opened in one way, and read in one way

@@ -9,6 +9,7 @@ use Rattle.tags.specs.declared.Look.{Look}
 use Rattle.tags.specs.declared.Look.the-variants.{Whole as Lies, Cut, Other}
 use Rattle.tags.specs.Tags.{skipped, look, onLook, exactly, endTag, plainTag}
 use Rattle.tags.proofs.Looks.{text-fits}
+use Rattle.tags.proofs.White.{skip-twice}
 use Rattle.profile.specs.Version.{Version}
 use Rattle.profile.specs.Tree.{once, many, more, Shape, end, group}
 use Rattle.profile.specs.Profile.{bulkName, headerName, itemName, inHeader, inItem, profile}
@@ -19,7 +20,7 @@ use Rattle.reading.specs.Items.{Item, orEnd, upToEnd, endOr, nextEnd, itemOr, i
 use Rattle.reading.proofs.Flat.{flat, Goes, goes-through, Whole, goes-whole, split, one-end}
 use Rattle.items.specs.Alone.{itemTag, itemBody, alone, beginOr, firstIn}
 use Rattle.items.specs.Chain.{LiesAt, AllLie, Chained, none, next}
-use Rattle.items.proofs.Parts.{skip-twice, Turned, enters, passes, turned}
+use Rattle.items.proofs.Parts.{Turned, enters, passes, turned}
 use Rattle.items.proofs.Inner.{item-lies, header-lies}
 use Rattle.items.proofs.Stands.{then-none, inside, item-flat, item-stands}
 

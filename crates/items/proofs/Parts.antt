@@ -28,20 +28,6 @@ use Rattle.reading.proofs.Lists.{whats-append, at-append}
 use Rattle.reading.proofs.Flat.{never, flat, Whole, split}
 use Rattle.items.specs.Sure.{always, sure}
 
--- ---- white space that was passed is passed
-lead-over : (f : ℕ → Bool) (l : List ℕ) → lead f (drop (lead f l) l) ≡ 0
-lead-over f [] = refl
-lead-over f (c ∷ l) = go (f c) refl (lead-over f l)
-  where
-    go : (b : Bool) → f c ≡ b → lead f (drop (lead f l) l) ≡ 0 → lead f (drop (pick b (suc (lead f l)) 0) (c ∷ l)) ≡ 0
-    go true e h = h
-    go false e h = rw e
-
-pub skip-twice : (m : List ℕ) (p : ℕ) → skipped m (skipped m p) ≡ skipped m p
-skip-twice m p =
-    let z : lead white (drop (skipped m p) m) ≡ 0 = ap (lead white) (sym (drop-drop (lead white (drop p m)) p m)) ∙ lead-over white (drop p m) in
-    omega arith
-
 module _ (m : List ℕ) where
   -- ---- a child of a group: entered, or passed over
   pub data Turned (o : Occ) (n : String) (tag : List (ℕ → Bool)) (body next rest : ℕ → Trace) (p q : ℕ) : Type 0 where

@@ -6,6 +6,7 @@ use Prim.Native.Nat.{ℕ, _≤_}
 use native.Mathlib.Omega.{arith}
 use lib.ListN.{length}
 use Rattle.text.specs.Truth.{pick}
+use Rattle.text.proofs.Truths.{never}
 use Rattle.tags.specs.Values.{valueAt}
 use Rattle.profile.specs.declared.Kind.{Kind}
 use Rattle.profile.specs.declared.Field.{Field}
@@ -74,7 +75,7 @@ module _ (m : List ℕ) (f : Field) where
   placed (x ∷ l) q d h e = one-placed (x .what) (x .place) q d (valuesAt f (whats l)) (λ q. fieldFrom q f l) (h .0) e (λ q d. placed l q d (h .1))
 
   last-any : (l : List (List ℕ)) (d b : List ℕ) → 1 ≤ length l → lastOf d l ≡ lastOf b l
-  last-any [] d b h = absurd (let z : ⊥ = omega arith in z)
+  last-any [] d b h = never (omega arith)
   last-any (v ∷ l) d b h = refl
 
   -- where one is surely there, its place gives it

@@ -5,6 +5,7 @@ use mathlib.Core.List.{List, []}
 use Prim.Native.Nat.{ℕ, zero, suc, _-_, _≤_, _<_}
 use native.Mathlib.Omega.{arith}
 use lib.ListN.{length}
+use Rattle.text.proofs.Truths.{never}
 use Rattle.tags.specs.Tags.{skipped}
 use Rattle.profile.specs.Version.{Version, v02}
 use Rattle.profile.specs.Limits.{mostBytes}
@@ -61,7 +62,7 @@ module _ (v : Version) (m : List ℕ) (i first left at : ℕ) (same : walkedIn l
 -- ---- the items of an accepted message, read again one behind the other
 module _ (v : Version) (m : List ℕ) (small : length m ≤ mostBytes) where
   pub chain-walked-in : {p : ℕ} {l : List Item} → Chained v m p l → p ≤ length m → (i : ℕ) → i < length l → walkedIn i v m p ≡ itemFrom i l
-  chain-walked-in none h i g = absurd (let z : ⊥ = omega arith in z)
+  chain-walked-in none h i g = never (omega arith)
   chain-walked-in {p = p} (next {x = x} s c) h zero g =
       let a = stands-again v m p x small h s in
       rw (a .is, s .from, a .to)

@@ -150,8 +150,8 @@ pub fn judge(m: &[u8]) -> Verdict
     ensures { λ r. ⌜ meant r ≡ judged (now (m .entry)) ⌝ }
 {
     let f = find(m);
-    let v = f.verdict;
-    v
+    let answer = f.verdict;
+    answer
 }
 
 // Where what stands at a place begins, after white space.

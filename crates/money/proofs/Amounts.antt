@@ -1,4 +1,4 @@
--- What the amount's checker answers. Assumes nothing.
+-- What the amount's checker answers.
 use mathlib.Core.Path.{_≡_, refl, _∙_}
 use mathlib.Core.Bool.{Bool, true, false}
 use mathlib.Core.List.{List, [], _∷_}

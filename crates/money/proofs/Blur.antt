@@ -1,4 +1,4 @@
--- The forms ask where digits stand, and not which: a text with every digit blurred to a zero is of the form where the text is. Assumes nothing.
+-- The forms ask where digits stand, and not which: a text with every digit blurred to a zero is of the form where the text is.
 use mathlib.Core.Path.{_≡_, refl, ap, sym, _∙_}
 use mathlib.Core.Bool.{Bool, true, false}
 use mathlib.Core.List.{List, [], _∷_}
@@ -13,7 +13,7 @@ use Rattle.text.specs.Classes.{digit}
 use Rattle.text.proofs.Digits.{digit-bounds}
 use Rattle.text.proofs.Blur.{blur, blurred, digit-blind, blurred-take, blurred-drop, every-blurred, lead-blurred, blurred-length}
 use Rattle.money.specs.Count.{countForm}
-use Rattle.money.specs.Amount.{whole, behind, pointForm, amountForm}
+use Rattle.money.specs.Amount.{euros, behindEuros, pointForm, amountForm}
 
 point-blur : (c : ℕ) → eqb (blur c) (byte ".") ≡ eqb c (byte ".")
 point-blur c = go (digit c) refl
@@ -23,18 +23,18 @@ point-blur c = go (digit c) refl
     go false e = refl
 
 -- ---- the parts of a blurred text
-behind-blurred : (s : List ℕ) → behind (blurred s) ≡ blurred (behind s)
+behind-blurred : (s : List ℕ) → behindEuros (blurred s) ≡ blurred (behindEuros s)
 behind-blurred s = rw (lead-blurred digit digit-blind s) (blurred-drop (lead digit s) s)
 
-whole-blurred : (s : List ℕ) → whole (blurred s) ≡ blurred (whole s)
+whole-blurred : (s : List ℕ) → euros (blurred s) ≡ blurred (euros s)
 whole-blurred s = rw (lead-blurred digit digit-blind s) (blurred-take (lead digit s) s)
 
 -- how many digits stand behind the point
 abbrev pub places : List ℕ → ℕ
-places s = length (drop 1 (behind s))
+places s = length (drop 1 (behindEuros s))
 
 places-blurred : (s : List ℕ) → places (blurred s) ≡ places s
-places-blurred s = rw (behind-blurred s, blurred-drop 1 (behind s)) (blurred-length (drop 1 (behind s)))
+places-blurred s = rw (behind-blurred s, blurred-drop 1 (behindEuros s)) (blurred-length (drop 1 (behindEuros s)))
 
 -- ---- the forms
 none-blurred : (s : List ℕ) → is "" (blurred s) ≡ is "" s
@@ -49,7 +49,7 @@ point-form-blurred (c ∷ s) = rw (point-blur c, blurred-length s, every-blurred
 amount-form-blurred : (s : List ℕ) → amountForm (blurred s) ≡ amountForm s
 unfolding amountForm
 amount-form-blurred s =
-    rw (whole-blurred s, blurred-length (whole s), behind-blurred s, none-blurred (behind s), point-form-blurred (behind s))
+    rw (whole-blurred s, blurred-length (euros s), behind-blurred s, none-blurred (behindEuros s), point-form-blurred (behindEuros s))
 
 count-form-blurred : (s : List ℕ) → countForm (blurred s) ≡ countForm s
 unfolding countForm

@@ -1,4 +1,4 @@
--- What the count's checker answers. Assumes nothing.
+-- What the count's checker answers.
 use mathlib.Core.Path.{_≡_, ap}
 use mathlib.Core.Bool.{true, false}
 use mathlib.Core.List.{List}

@@ -1,4 +1,4 @@
--- A fraction: its form, and what it is worth in cents. Assumes nothing.
+-- A fraction: its form, and what it is worth in cents.
 use mathlib.Core.Path.{_≡_, refl, ap, sym, _∙_}
 use mathlib.Core.Bool.{Bool, true, false}
 use mathlib.Core.List.{List, [], _∷_, _++_}
@@ -10,10 +10,10 @@ use lib.ListN.{length, take, drop, length-drop}
 use Rattle.text.specs.Truth.{either, every, first}
 use Rattle.text.specs.Quoted.{is, equal, byte, decimal}
 use Rattle.text.specs.Classes.{digit}
-use Rattle.text.proofs.Truths.{both-true, between-true, between-of, fails, passes, pass, between-under, between-over, lastly}
+use Rattle.text.proofs.Truths.{never, both-true, between-true, between-of, fails, passes, pass, between-under, between-over, lastly}
 use Rattle.text.proofs.Scan.{rest-of, paired-length}
 use Rattle.text.proofs.Digits.{digit-bounds}
-use Rattle.text.proofs.Decimal.{onward-append}
+use Rattle.text.proofs.Decimal.{followed-append}
 use Rattle.money.specs.Amount.{pointForm, asTwoDigits}
 
 -- nothing, or a point and digits
@@ -22,7 +22,7 @@ fractional s = either (is "" s) (pointForm s)
 
 pub nothing : (s : List ℕ) → length s ≡ 0 → true ≡ fractional s
 nothing [] e = refl
-nothing (c ∷ s) e = absurd (let z : ⊥ = omega arith in z)
+nothing (c ∷ s) e = never (omega arith)
 
 pub something : (s : List ℕ) → length s ≢ 0 → fractional s ≡ pointForm s
 something s ne = rw (paired-length equal [] s (λ e. ne (sym e)))
@@ -64,9 +64,9 @@ point s e =
 -- w before the point and t behind it: one digit is tenths, and two are hundredths
 pub joined : (w t : List ℕ) → length t ≤ 2 → decimal w * 100 + decimal (asTwoDigits t) ≡ decimal (w ++ t) * 10 ^ (2 - length t)
 unfolding decimal
-joined w [] h = rw (onward-append 0 w []) (omega arith)
-joined w (a ∷ []) h = rw (onward-append 0 w (a ∷ [])) (omega arith)
-joined w (a ∷ b ∷ []) h = rw (onward-append 0 w (a ∷ b ∷ [])) (omega arith)
+joined w [] h = rw (followed-append 0 w []) (omega arith)
+joined w (a ∷ []) h = rw (followed-append 0 w (a ∷ [])) (omega arith)
+joined w (a ∷ b ∷ []) h = rw (followed-append 0 w (a ∷ b ∷ [])) (omega arith)
 joined w (a ∷ b ∷ d ∷ t) h = omega arith
 
 pub hundred : (t : List ℕ) → every digit t ≡ true → decimal (asTwoDigits t) < 100
@@ -81,7 +81,7 @@ hundred (a ∷ b ∷ t) e =
 pub nothing-worth : (s : List ℕ) → length s ≡ 0 → (0 ≡ decimal (asTwoDigits (drop 1 s))) × (0 < 100)
 unfolding decimal
 nothing-worth [] e = (refl, omega arith)
-nothing-worth (c ∷ s) e = absurd (let z : ⊥ = omega arith in z)
+nothing-worth (c ∷ s) e = never (omega arith)
 
 module _ (s : List ℕ) (form : fractional s ≡ true) (ne : length s ≢ 0) where
   formed : Point s

@@ -1,5 +1,4 @@
 -- One digit replaced by another, or two unequal neighbouring digits exchanged: a count and an amount keep their form, and their number and cents change.
--- Assumes nothing.
 use mathlib.Core.Path.{_≡_, refl, sym, _∙_}
 use mathlib.Core.Bool.{true, false}
 use mathlib.Core.Logic.{_≢_}
@@ -16,7 +15,7 @@ use Rattle.text.proofs.Scan.{only-append, only-all, only-lead}
 use Rattle.text.proofs.Decimal.{number-replaced, number-exchanged}
 use Rattle.text.proofs.Blur.{blurred, replaced-blurred, exchanged-blurred}
 use Rattle.money.specs.Count.{countForm}
-use Rattle.money.specs.Amount.{whole, behind, amountForm, cents}
+use Rattle.money.specs.Amount.{euros, behindEuros, amountForm, cents}
 use Rattle.money.proofs.Fractions.{fractional, point, joined}
 use Rattle.money.proofs.Blur.{places, same-count-form, same-amount-form, same-places}
 
@@ -39,8 +38,8 @@ behind-is (c ∷ t) e =
 cents-digits : (s : List ℕ) → amountForm s ≡ true → cents s ≡ decimal (only digit s) * 10 ^ (2 - places s)
 unfolding cents amountForm
 cents-digits s e =
-    let b = behind-is (behind s) (passes _ e 1) in
-    rw (only-lead digit s, b .digits) (joined (whole s) (drop 1 (behind s)) (b .short))
+    let b = behind-is (behindEuros s) (passes _ e 1) in
+    rw (only-lead digit s, b .digits) (joined (euros s) (drop 1 (behindEuros s)) (b .short))
 
 same-tens : (k x y : ℕ) → x * 10 ^ k ≡ y * 10 ^ k → x ≡ y
 same-tens k x y = eq-of-mul-eq-mul-right (10 ^ k) (pow-le-pow-right {n = 10} (omega arith) {i = 0} {j = k} (omega arith)) x y

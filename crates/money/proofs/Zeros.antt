@@ -1,4 +1,4 @@
--- "Leading zeros change nothing." With one more zero in front, as long as both are of the form, an amount and a count are answered alike. Assumes nothing.
+-- "Leading zeros change nothing." With one more zero in front, as long as both are of the form, an amount and a count are answered alike.
 use mathlib.Core.Path.{_≡_, refl}
 use mathlib.Core.Bool.{true}
 use mathlib.Core.List.{List, _∷_}

@@ -13,11 +13,11 @@ use Rattle.money.specs.declared.Range.{Range}
 use Rattle.money.specs.declared.Range.the-variants.{Item, Total}
 
 -- the digits before the point, and what stands behind them
-abbrev pub whole : List ℕ → List ℕ
-whole s = take (lead digit s) s
+abbrev pub euros : List ℕ → List ℕ
+euros s = take (lead digit s) s
 
-abbrev pub behind : List ℕ → List ℕ
-behind s = drop (lead digit s) s
+abbrev pub behindEuros : List ℕ → List ℕ
+behindEuros s = drop (lead digit s) s
 
 -- `.` and one or two digits
 unfoldable pub pointForm : List ℕ → Bool
@@ -31,8 +31,8 @@ pointForm s =
 unfoldable pub amountForm : List ℕ → Bool
 amountForm s =
     allOf
-    (between 1 15 (length (whole s))
-    ∷ either (is "" (behind s)) (pointForm (behind s))
+    (between 1 15 (length (euros s))
+    ∷ either (is "" (behindEuros s)) (pointForm (behindEuros s))
     ∷ [])
 
 -- the fraction as two digits: 3 is 30, and none is 00
@@ -40,7 +40,7 @@ abbrev pub asTwoDigits : List ℕ → List ℕ
 asTwoDigits f = take 2 (f ++ bytes "00")
 
 unfoldable pub cents : List ℕ → ℕ
-cents s = decimal (whole s) * 100 + decimal (asTwoDigits (drop 1 (behind s)))
+cents s = decimal (euros s) * 100 + decimal (asTwoDigits (drop 1 (behindEuros s)))
 
 abbrev pub most : Range → ℕ
 most Item = 99999999999

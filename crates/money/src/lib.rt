@@ -18,6 +18,9 @@ pub enum Range {
     Total,
 }
 
+// The most cents of the header total, and of the running sum.
+pub const MOST_TOTAL: u64 = 99_999_999_999_999_999;
+
 // The number that at most 15 digits write.
 fn number(s: &[u8]) -> u64
     requires { ⌜ length (now s) ≤ 15 ⌝ }
@@ -84,12 +87,13 @@ fn fraction(s: &[u8]) -> u64
     f
 }
 
+// The most cents that a range allows.
 fn most_of(k: Range) -> u64
     ensures { λ r. ⌜ r ≡ most k ⌝ }
 {
     match k {
         Range::Item => 99_999_999_999,
-        Range::Total => 99_999_999_999_999_999,
+        Range::Total => MOST_TOTAL,
     }
 }
 

@@ -31,11 +31,11 @@ use Rattle.reading.specs.Verdict.{Judged, accepted, refused}
 use Rattle.reading.specs.Items.{notesOf, theItems, asked, item}
 use Rattle.reading.proofs.Flat.{never}
 use Rattle.reading.proofs.Simulates as sim
-use Rattle.postings.specs.Area.{written, recorded}
+use Rattle.postings.specs.Area.{outcome, recorded}
 use Rattle.replaced.proofs.Beside.{Beside}
 use Rattle.replaced.proofs.Tests.{clear, sameTag, apart, opening, read-beside}
 use Rattle.replaced.proofs.Near.{Near, none, Unlike, Passing, near-items, near-place, near-values, noted-near}
-use Rattle.names.specs.Named.{nameOf, named}
+use Rattle.names.specs.Named.{tagName, named}
 use Rattle.names.proofs.Legal.{isText, legal-tagless, kind-given, unasked}
 use Rattle.names.proofs.Same.{recordedFields, noneOf, near-item, near-records}
 
@@ -43,12 +43,12 @@ use Rattle.names.proofs.Same.{recordedFields, noneOf, near-item, near-r
 abbrev fit : text.Field → Kind → Field → Bool
 fit f k g = both (isText f k) (noneOf recordedFields g)
 
-opening-clear : (f : text.Field) → opening false (nameOf f) ≡ true
+opening-clear : (f : text.Field) → opening false (tagName f) ≡ true
 unfolding clear
 opening-clear text.the-variants.Nm = refl
 opening-clear text.the-variants.Ustrd = refl
 
-profile-apart : (f : text.Field) (u : Version) → apart false (nameOf f) (fit f) false (profile u) ≡ true
+profile-apart : (f : text.Field) (u : Version) → apart false (tagName f) (fit f) false (profile u) ≡ true
 unfolding profile clear sameTag capital among
 profile-apart text.the-variants.Nm v02 = refl
 profile-apart text.the-variants.Ustrd v02 = refl
@@ -60,8 +60,8 @@ module _ (f : text.Field) (x v w y : List ℕ) (legal : textGiven f v ≡ yes) (
 
   beside : Beside Fit v w (message (named f x v y)) (message (named f x w y))
   beside =
-      read-beside false (nameOf f) (bytes (nameOf f) ++ bytes ">") [] (sym (append-nil (plainTag (nameOf f)))) x v w (drop 1 (endTag (nameOf f) ++ y))
-      (whole-plain (nameOf f)) (exactly-length (plainTag (nameOf f))) (opening-clear f) (legal-tagless f v legal) (legal-tagless f w legal′) long (fit f) false (λ e. never (cc))
+      read-beside false (tagName f) (bytes (tagName f) ++ bytes ">") [] (sym (append-nil (plainTag (tagName f)))) x v w (drop 1 (endTag (tagName f) ++ y))
+      (whole-plain (tagName f)) (exactly-length (plainTag (tagName f))) (opening-clear f) (legal-tagless f v legal) (legal-tagless f w legal′) long (fit f) false (λ e. never (cc))
       (λ u p e. profile-apart f u)
     where
       whole-plain : (n : String) → look (exactly (plainTag n)) (plainTag n) ≡ Whole
@@ -128,6 +128,6 @@ module _ (f : text.Field) (x v w y : List ℕ) (legal : textGiven f v ≡ yes) (
   unfolding recorded
   same-records a = rw (← same-verdict) (go (judged (named f x v y)))
     where
-      go : (j : Judged) → written (theItems (named f x v y)) a j ≡ written (theItems (named f x w y)) a j
+      go : (j : Judged) → outcome (theItems (named f x v y)) a j ≡ outcome (theItems (named f x w y)) a j
       go (accepted count cents) = rw (near-records Fit v w unrecorded (unlike Amount refl) notes-near)
       go (refused n p) = refl

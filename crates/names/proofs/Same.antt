@@ -7,7 +7,7 @@ use native.Mathlib.Omega.{arith}
 use borrow.Author.Tests.{not-true}
 use lib.ListN.{length, getD}
 use Rattle.text.specs.Truth.{both}
-use Rattle.text.proofs.Truths.{both-true}
+use Rattle.text.proofs.Truths.{never, both-true}
 use Rattle.profile.specs.declared.Kind.{Kind}
 use Rattle.profile.specs.declared.Kind.the-variants.{Amount}
 use Rattle.profile.specs.declared.Field.{Field}
@@ -30,7 +30,7 @@ noneOf [] f = true
 noneOf (g ∷ l) f = both (not (sameField f g)) (noneOf l f)
 
 none-at : (l : List Field) (f : Field) → noneOf l f ≡ true → (i : ℕ) → i < length l → sameField f (getD l i TxId) ≡ false
-none-at [] f e i h = absurd (let z : ⊥ = omega arith in z)
+none-at [] f e i h = never (omega arith)
 none-at (g ∷ l) f e zero h = not-true (sameField f g) (both-true (not (sameField f g)) (noneOf l f) e .0)
 none-at (g ∷ l) f e (suc i) h = none-at l f (both-true (not (sameField f g)) (noneOf l f) e .1) i (omega arith)
 

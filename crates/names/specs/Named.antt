@@ -6,10 +6,10 @@ use Rattle.words.specs.declared.Field.{Field}
 use Rattle.words.specs.declared.Field.the-variants.{Nm, Ustrd}
 use Rattle.tags.specs.Tags.{plainTag, endTag}
 
-abbrev pub nameOf : Field → String
-nameOf Nm = "Nm"
-nameOf Ustrd = "Ustrd"
+abbrev pub tagName : Field → String
+tagName Nm = "Nm"
+tagName Ustrd = "Ustrd"
 
 -- any bytes x, the start tag, the value v, the end tag, any bytes y
 abbrev pub named : Field → List ℕ → List ℕ → List ℕ → List ℕ
-named f x v y = x ++ (plainTag (nameOf f) ++ (v ++ (endTag (nameOf f) ++ y)))
+named f x v y = x ++ (plainTag (tagName f) ++ (v ++ (endTag (tagName f) ++ y)))

@@ -17,6 +17,8 @@ use Rattle.answers.specs.Given.{Given, worth, refused, given, numberOf, valueOf
 use Rattle.codes.specs.declared.Element.{Element}
 use Rattle.codes.specs.declared.Element.the-variants.{SttlmMtd, SvcLvl, LclInstrm, SeqTp, ChrgBr, Prtry}
 use Rattle.codes.specs.Listed.{codesOf, orElse, place, codeGiven}
+use Rattle.money.specs.declared.Range as range
+use Rattle.money.specs.Amount.{most}
 use Rattle.profile.specs.declared.Kind.{Kind}
 use Rattle.profile.specs.declared.Kind.the-variants.{Plain, Count, Total, Amount, Code}
 use Rattle.profile.specs.declared.Field.{Field}
@@ -26,7 +28,7 @@ use Rattle.reading.specs.Noted.{Reading, on, stop, onward, Ended}
 use Rattle.reading.proofs.Flat.{never}
 use Rattle.notes.specs.declared.Notes.{Notes}
 use Rattle.notes.specs.declared.State.{State}
-use Rattle.notes.specs.Notes.{onGiven, withItem, withCents, withService, withStart, addedUp, served, kept, Listed, valueNoted, begun}
+use Rattle.notes.specs.Notes.{onGiven, withItem, withCents, withService, withStart, addedUp, serviceKept, kept, Listed, valueNoted, itemNoted}
 use Rattle.notes.specs.Steps.{staying}
 
 abbrev pub here : ℕ → Notes → Ended Notes
@@ -34,36 +36,36 @@ here p n = record { at = p; notes = n }
 
 -- ---- an item begins
 module _ (p : ℕ) (n : Notes) where
-  pub begins : n .count < mostItems → on (here p (withItem p n)) ≡ staying p (begun p n)
-  unfolding begun
+  pub begins : n .count < mostItems → on (here p (withItem p n)) ≡ staying p (itemNoted p n)
+  unfolding itemNoted
   begins h = rw (lt-ltb (n .count) mostItems h)
 
-  pub too-many : mostItems ≤ n .count → stop 12 p ≡ staying p (begun p n)
-  unfolding begun
+  pub too-many : mostItems ≤ n .count → stop 12 p ≡ staying p (itemNoted p n)
+  unfolding itemNoted
   too-many h = rw (le-ltb (n .count) mostItems h)
 
 -- ---- the running sum, as the code asks for it
 module _ (c p : ℕ) (n : Notes) where
-  pub sum-over : 99999999999999999 < n .sum + c → stop 13 p ≡ staying p (addedUp c p n)
+  pub sum-over : most range.the-variants.Total < n .sum + c → stop 13 p ≡ staying p (addedUp c p n)
   unfolding addedUp
-  sum-over h = rw (lt-leb (n .sum + c) 99999999999999999 h)
+  sum-over h = rw (lt-leb (n .sum + c) (most range.the-variants.Total) h)
 
-  pub sum-within : n .sum + c ≤ 99999999999999999 → on (here p (withCents c n)) ≡ staying p (addedUp c p n)
+  pub sum-within : n .sum + c ≤ most range.the-variants.Total → on (here p (withCents c n)) ≡ staying p (addedUp c p n)
   unfolding addedUp
-  sum-within h = rw (le-leb (n .sum + c) 99999999999999999 h)
+  sum-within h = rw (le-leb (n .sum + c) (most range.the-variants.Total) h)
 
 -- ---- the service
 module _ (i p : ℕ) (n : Notes) where
-  pub first-service : n .service ≡ 0 → on (here p (withService (i + 1) n)) ≡ staying p (served i p n)
-  unfolding served
+  pub first-service : n .service ≡ 0 → on (here p (withService (i + 1) n)) ≡ staying p (serviceKept i p n)
+  unfolding serviceKept
   first-service h = rw (add-one i, eq-eqb (n .service) 0 h)
 
-  pub same-service : n .service ≡ i + 1 → on (here p (withService (i + 1) n)) ≡ staying p (served i p n)
-  unfolding served
+  pub same-service : n .service ≡ i + 1 → on (here p (withService (i + 1) n)) ≡ staying p (serviceKept i p n)
+  unfolding serviceKept
   same-service h = rw (add-one i, eq-eqb (n .service) (suc i) (omega arith), either-same (eqb (n .service) 0))
 
-  pub other-service : (n .service ≡ 0 → ⊥) → (n .service ≡ i + 1 → ⊥) → stop 11 p ≡ staying p (served i p n)
-  unfolding served
+  pub other-service : (n .service ≡ 0 → ⊥) → (n .service ≡ i + 1 → ⊥) → stop 11 p ≡ staying p (serviceKept i p n)
+  unfolding serviceKept
   other-service h g = rw (ne-eqb (n .service) 0 h, ne-eqb (n .service) (suc i) (λ e. g (omega arith)))
 
 -- ---- a code's worth is its place in its list
@@ -83,13 +85,13 @@ few SeqTp = omega arith
 few ChrgBr = omega arith
 few Prtry = omega arith
 
-pub listed : (k : Kind) (v : List ℕ) (c : ℕ) → c ≡ valueOf (kindGiven k v) → Listed k c
+pub listed-worth : (k : Kind) (v : List ℕ) (c : ℕ) → c ≡ valueOf (kindGiven k v) → Listed k c
 unfolding codeGiven
-listed (Plain s) v c e = tt
-listed Count v c e = tt
-listed Total v c e = tt
-listed Amount v c e = tt
-listed (Code e) v c h = omega (arith, placed (codesOf e) v 0 c (sym h), few e)
+listed-worth (Plain s) v c e = tt
+listed-worth Count v c e = tt
+listed-worth Total v c e = tt
+listed-worth Amount v c e = tt
+listed-worth (Code e) v c h = omega (arith, placed (codesOf e) v 0 c (sym h), few e)
 
 -- ---- a value judged, and then noted
 module _ (k : Kind) (f : Field) (v : List ℕ) (p : ℕ) (n : Notes) (a : Answer) (e : given a ≡ kindGiven k v) where

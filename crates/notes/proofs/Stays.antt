@@ -20,7 +20,7 @@ use Rattle.profile.specs.Limits.{mostItems}
 use Rattle.kinds.specs.Given.{kindGiven}
 use Rattle.reading.specs.Noted.{Reading, on, stop, onward, Ended}
 use Rattle.notes.specs.declared.Notes.{Notes}
-use Rattle.notes.specs.Notes.{onGiven, withItem, withCents, withService, withStart, addedUp, served, coded, kept, valueNoted, begun}
+use Rattle.notes.specs.Notes.{onGiven, withItem, withCents, withService, withStart, addedUp, serviceKept, coded, kept, valueNoted, itemNoted}
 use Rattle.notes.specs.Steps.{staying, Good, Fine}
 use Rattle.notes.proofs.Notings.{here}
 
@@ -48,16 +48,16 @@ module _ (m : List ℕ) (p : ℕ) (n : Notes) (g : Good m (here p n)) where
       go true e = (record { small = g .small; within = g .within; counted = g .counted; summed = leb-true (n .sum + c) (most theTotal) e }, omega arith)
       go false e = g .within
 
-  served-stays : (i : ℕ) → Stays (served i p n)
-  unfolding served
-  served-stays i = go (either (eqb (n .service) 0) (eqb (n .service) (suc i)))
+  service-stays : (i : ℕ) → Stays (serviceKept i p n)
+  unfolding serviceKept
+  service-stays i = go (either (eqb (n .service) 0) (eqb (n .service) (suc i)))
     where
       go : (b : Bool) → Stays (pick b (on (withService (suc i) n)) (stop 11 p))
       go true = stays (withService (suc i) n) refl refl
       go false = g .within
 
   coded-stays : (e : Element) (i : ℕ) → Stays (coded e i p n)
-  coded-stays LclInstrm i = served-stays i
+  coded-stays LclInstrm i = service-stays i
   coded-stays SttlmMtd i = stays n refl refl
   coded-stays SvcLvl i = stays n refl refl
   coded-stays SeqTp i = stays n refl refl
@@ -84,8 +84,8 @@ module _ (m : List ℕ) (p : ℕ) (n : Notes) (g : Good m (here p n)) where
       go (worth c) = then (kept k c p n) (kept-stays k c)
       go (refused i) = g .within
 
-  pub begun-fine : Stays (begun p n)
-  unfolding begun
+  pub begun-fine : Stays (itemNoted p n)
+  unfolding itemNoted
   begun-fine = go (ltb (n .count) mostItems) refl
     where
       go : (b : Bool) → ltb (n .count) mostItems ≡ b → Stays (pick b (on (withItem p n)) (stop 12 p))

@@ -22,7 +22,7 @@ use Rattle.profile.specs.declared.Kind.{Kind}
 use Rattle.profile.specs.declared.Kind.the-variants.{Plain, Count, Total, Amount, Code}
 use Rattle.profile.specs.declared.Field.{Field}
 use Rattle.profile.specs.Limits.{mostItems}
-use Rattle.profile.specs.Fields.{manyFields, numberOf, sameField}
+use Rattle.profile.specs.Fields.{manyFields, fieldNumber, sameField}
 use Rattle.profile.specs.Kinds.{sameKind}
 use Rattle.profile.proofs.Fields.{number-below}
 use Rattle.kinds.specs.Given.{simpleGiven, kindGiven}
@@ -36,7 +36,7 @@ use Rattle.reading.proofs.Simulates.{Alike, going, stopped, Keeps}
 use Rattle.items.specs.Alone.{beginOr, firstIn}
 use Rattle.items.specs.Places.{fieldFrom, fieldPlace}
 use Rattle.notes.specs.declared.Notes.{Notes}
-use Rattle.notes.specs.Notes.{onGiven, fresh, withNumber, withTotal, withCents, withService, withItem, started, withStart, addedUp, served, kept, valueNoted, begun, inNotes}
+use Rattle.notes.specs.Notes.{onGiven, fresh, withNumber, withTotal, withCents, withService, withItem, started, withStart, addedUp, serviceKept, kept, valueNoted, itemNoted, inNotes}
 
 -- ---- two codes that are listed are the same bytes where they stand at the same place
 code-same : (w v : List ℕ) (j i : ℕ) → codeGiven LclInstrm w ≡ worth j → codeGiven LclInstrm v ≡ worth i → alike w v ≡ eqb (suc j) (suc i)
@@ -96,10 +96,10 @@ pub record Summed (es : List Entry) (n : Notes) : Type 0 where
   pub totalat : n .totalat ≡ placeOf Total es
   pub service : Served (valuesOf lclInstrm (whats es)) (n .service)
   pub long : length (n .starts) ≡ manyFields
-  pub starts : (f : Field) → getD (n .starts) (numberOf f) 0 ≡ fieldPlace f es
+  pub starts : (f : Field) → getD (n .starts) (fieldNumber f) 0 ≡ fieldPlace f es
 
-zeros : (f : Field) → getD (fresh .starts) (numberOf f) 0 ≡ 0
-zeros f = go manyFields (numberOf f)
+zeros : (f : Field) → getD (fresh .starts) (fieldNumber f) 0 ≡ 0
+zeros f = go manyFields (fieldNumber f)
   where
     go : (n i : ℕ) → getD {A = ℕ} (replicate n 0) i 0 ≡ 0
     go zero i = refl
@@ -172,7 +172,7 @@ first-other (x ∷ l) e h = ap (beginOr (x .what) (x .place)) (first-other l e h
 
 module _ (es : List Entry) (n : Notes) (r : Summed es n) where
   item-keeps : (p : ℕ) → Alike Summed (listed (itemBegins at p) es) (inNotes (itemBegins at p) n)
-  unfolding begun
+  unfolding itemNoted
   item-keeps p = rw (← r .count) (go (ltb (n .count) mostItems))
     where
       e : Entry
@@ -231,15 +231,15 @@ module _ (es : List Entry) (n : Notes) (r : Summed es n) where
     with j k = values-more es (entry k) j
 
     -- where values of each field begin, with one more
-    starts-more : (k : Kind) (g : Field) → getD (started f p (n .starts)) (numberOf g) 0 ≡ fieldPlace g (es ++ (entry k ∷ []))
+    starts-more : (k : Kind) (g : Field) → getD (started f p (n .starts)) (fieldNumber g) 0 ≡ fieldPlace g (es ++ (entry k ∷ []))
     starts-more k g = rw (field-more es (entry k) g) (go (sameField f g) refl)
       where
-        go : (b : Bool) → sameField f g ≡ b → getD (started f p (n .starts)) (numberOf g) 0 ≡ placeIn (pick b (v ∷ []) []) p (fieldPlace g es)
+        go : (b : Bool) → sameField f g ≡ b → getD (started f p (n .starts)) (fieldNumber g) 0 ≡ placeIn (pick b (v ∷ []) []) p (fieldPlace g es)
         go true e =
-            rw (← eqb-true (numberOf f) (numberOf g) e)
-            (getD-set-same (n .starts) (numberOf f) p 0 (omega (arith, r .long, number-below f)))
+            rw (← eqb-true (fieldNumber f) (fieldNumber g) e)
+            (getD-set-same (n .starts) (fieldNumber f) p 0 (omega (arith, r .long, number-below f)))
         go false e =
-            getD-set-other (n .starts) (numberOf f) (numberOf g) p 0 (λ z. eqb-false (numberOf f) (numberOf g) e (sym z)) ∙ r .starts g
+            getD-set-other (n .starts) (fieldNumber f) (fieldNumber g) p 0 (λ z. eqb-false (fieldNumber f) (fieldNumber g) e (sym z)) ∙ r .starts g
 
     abbrev Keeping : Kind → Type 0
     Keeping k = Alike Summed (listed (entry k) es) (inNotes (entry k) n)
@@ -270,7 +270,7 @@ module _ (es : List Entry) (n : Notes) (r : Summed es n) where
             total = t ∙ ap (λ (l : List (List ℕ)). worthOf (lastOf [] l)) (sym (with Total k));
             totalat = j ∙ sym (place-more es (entry k) Total);
             service = rw (with lclInstrm k) w;
-            long = rw s (length-set (n .starts) (numberOf f) p ∙ r .long);
+            long = rw s (length-set (n .starts) (fieldNumber f) p ∙ r .long);
             starts = λ g. rw s (starts-more k g);
           }
 
@@ -346,7 +346,7 @@ module _ (es : List Entry) (n : Notes) (r : Summed es n) where
         go false b = stopped
 
     service-keeps : Keeping lclInstrm
-    unfolding valueNoted served
+    unfolding valueNoted serviceKept
     service-keeps = go (codeGiven LclInstrm v) refl
       where
         ss : List (List ℕ)

@@ -13,7 +13,7 @@ use Rattle.profile.specs.declared.Kind.{Kind}
 use Rattle.profile.specs.declared.Kind.the-variants.{Plain, Count, Total, Amount, Code}
 use Rattle.profile.specs.declared.Field.{Field}
 use Rattle.profile.specs.Limits.{mostItems}
-use Rattle.profile.specs.Fields.{manyFields, numberOf}
+use Rattle.profile.specs.Fields.{manyFields, fieldNumber}
 use Rattle.kinds.specs.Given.{kindGiven}
 use Rattle.reading.specs.Trace.{What, itemBegins, itemEnds, there, absent, value}
 use Rattle.reading.specs.Noted.{Reading, on, stop, onward, Noting}
@@ -110,7 +110,7 @@ withService i n = record {
 
 -- where a field's value begins
 abbrev pub started : Field → ℕ → List ℕ → List ℕ
-started f p l = set l (numberOf f) p
+started f p l = set l (fieldNumber f) p
 
 abbrev pub withStart : Field → ℕ → Notes → Notes
 withStart f p n = record {
@@ -130,11 +130,11 @@ withStart f p n = record {
 unfoldable pub addedUp : ℕ → ℕ → Notes → Reading Notes
 addedUp c p n = pick (leb (n .sum + c) (most range.the-variants.Total)) (on (withCents c n)) (stop 13 p)
 
-unfoldable pub served : ℕ → ℕ → Notes → Reading Notes
-served i p n = pick (either (eqb (n .service) 0) (eqb (n .service) (suc i))) (on (withService (suc i) n)) (stop 11 p)
+unfoldable pub serviceKept : ℕ → ℕ → Notes → Reading Notes
+serviceKept i p n = pick (either (eqb (n .service) 0) (eqb (n .service) (suc i))) (on (withService (suc i) n)) (stop 11 p)
 
 abbrev pub coded : Element → ℕ → ℕ → Notes → Reading Notes
-coded LclInstrm i p n = served i p n
+coded LclInstrm i p n = serviceKept i p n
 coded SttlmMtd i p n = on n
 coded SvcLvl i p n = on n
 coded SeqTp i p n = on n
@@ -165,11 +165,11 @@ onGiven (refused n) p f = stop n p
 unfoldable pub valueNoted : Kind → Field → List ℕ → ℕ → Notes → Reading Notes
 valueNoted k f v p n = onGiven (kindGiven k v) p (λ c. onward (kept k c p n) (λ u. on (withStart f p u)))
 
-unfoldable pub begun : ℕ → Notes → Reading Notes
-begun p n = pick (ltb (n .count) mostItems) (on (withItem p n)) (stop 12 p)
+unfoldable pub itemNoted : ℕ → Notes → Reading Notes
+itemNoted p n = pick (ltb (n .count) mostItems) (on (withItem p n)) (stop 12 p)
 
 abbrev pub whatNoted : What → ℕ → Notes → Reading Notes
-whatNoted itemBegins p n = begun p n
+whatNoted itemBegins p n = itemNoted p n
 whatNoted itemEnds p n = on n
 whatNoted (there s) p n = on n
 whatNoted (absent s) p n = on n

@@ -17,12 +17,12 @@ use Rattle.notes.specs.Notes.{inNotes}
 abbrev pub stated : State → Ended Notes
 stated st = record { at = st .at; notes = st .notes }
 
-abbrev pub meant : Met → State → Reading (Ended Notes)
-meant On st = on (stated st)
-meant (Stopped n p) st = stop n p
+abbrev pub metIn : Met → State → Reading (Ended Notes)
+metIn On st = on (stated st)
+metIn (Stopped n p) st = stop n p
 
 abbrev pub stepped : Step → Reading (Ended Notes)
-stepped s = meant (s .met) (s .state)
+stepped s = metIn (s .met) (s .state)
 
 -- the notes of one entry, at a place
 abbrev pub staying : ℕ → Reading Notes → Reading (Ended Notes)

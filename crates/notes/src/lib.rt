@@ -4,9 +4,11 @@ use profile::Field;
 use profile::Kind;
 ghost use mathlib.Core.Path.{_≡_};
 ghost use Prim.Native.Nat.{_+_, _≤_, _<_};
+ghost use Rattle.money.specs.declared.Range.the-variants.{Total};
+ghost use Rattle.money.specs.Amount.{most};
 ghost use Rattle.profile.specs.Limits.{mostItems};
 ghost use Rattle.reading.specs.Noted.{on, stop};
-ghost use Rattle.notes.specs.Notes.{fresh, withItem, withNumber, withTotal, withCents, withService, withStart, addedUp, served, coded, kept, Listed, valueNoted, begun};
+ghost use Rattle.notes.specs.Notes.{fresh, withItem, withNumber, withTotal, withCents, withService, withStart, addedUp, serviceKept, coded, kept, Listed, valueNoted, itemNoted};
 ghost use Rattle.notes.specs.Steps.{stated, stepped, staying};
 
 pub struct Notes {
@@ -106,7 +108,7 @@ impl State {
 
     // An item begins at the state's place: one more, or 12.
     pub fn begin_item(self) -> Step
-        ensures { λ r. ⌜ stepped r ≡ staying (self .at) (begun (self .at) (self .notes)) ⌝ }
+        ensures { λ r. ⌜ stepped r ≡ staying (self .at) (itemNoted (self .at) (self .notes)) ⌝ }
     {
         if self.notes.count < profile::MOST_ITEMS {
             return self.with_item().read_on();
@@ -152,7 +154,7 @@ impl State {
 
     // An item's cents, and the running sum.
     fn with_cents(mut self, cents: u64) -> State
-        requires { ⌜ self .notes .sum + cents ≤ 99999999999999999 ⌝ }
+        requires { ⌜ self .notes .sum + cents ≤ most Total ⌝ }
         ensures { λ r. ⌜ stated r ≡ record { at = self .at; notes = withCents cents (self .notes) } ⌝ }
     {
         let sum = self.notes.sum + cents;
@@ -184,19 +186,19 @@ impl State {
 fn add_up(cents: u64, st: State) -> Step
     ensures { λ r. ⌜ stepped r ≡ staying (st .at) (addedUp cents (st .at) (st .notes)) ⌝ }
 {
-    if 99_999_999_999_999_999 < cents {
+    if money::MOST_TOTAL < cents {
         return st.refuse_here(13);
     }
-    if 99_999_999_999_999_999 - cents < st.notes.sum {
+    if money::MOST_TOTAL - cents < st.notes.sum {
         return st.refuse_here(13);
     }
     st.with_cents(cents).read_on()
 }
 
 // The first item's LclInstrm, or the same again; else 11.
-fn serve(i: u64, st: State) -> Step
+fn keep_service(i: u64, st: State) -> Step
     requires { ⌜ i ≤ 4 ⌝ }
-    ensures { λ r. ⌜ stepped r ≡ staying (st .at) (served i (st .at) (st .notes)) ⌝ }
+    ensures { λ r. ⌜ stepped r ≡ staying (st .at) (serviceKept i (st .at) (st .notes)) ⌝ }
 {
     let mine = i + 1;
     let first = st.notes.service;
@@ -215,7 +217,7 @@ fn keep_code(e: Element, i: u64, st: State) -> Step
     ensures { λ r. ⌜ stepped r ≡ staying (st .at) (coded e i (st .at) (st .notes)) ⌝ }
 {
     match e {
-        Element::LclInstrm => serve(i, st),
+        Element::LclInstrm => keep_service(i, st),
         Element::SttlmMtd => st.read_on(),
         Element::SvcLvl => st.read_on(),
         Element::SeqTp => st.read_on(),

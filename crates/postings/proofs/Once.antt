@@ -11,7 +11,7 @@ use Rattle.reading.specs.Judged.{judged}
 use Rattle.reading.specs.Items.{theItems}
 use Rattle.reading.proofs.Flat.{never}
 use Rattle.postings.specs.Record.{recordLength}
-use Rattle.postings.specs.Area.{recordsFor, Outcome, asLent, written, recorded}
+use Rattle.postings.specs.Area.{recordsFor, Outcome, asLent, outcome, recorded}
 
 -- "leaves the record area exactly as lent"
 pub refused-as-lent : (m a : List ℕ) (n p : ℕ) → recorded m a .verdict ≡ refused n p → recorded m a .area ≡ a
@@ -25,6 +25,6 @@ refused-as-lent m a n p = go (judged m)
     room true count cents e = refl
     room false count cents e = never (cc)
 
-    go : (j : Judged) → written (theItems m) a j .verdict ≡ refused n p → written (theItems m) a j .area ≡ a
+    go : (j : Judged) → outcome (theItems m) a j .verdict ≡ refused n p → outcome (theItems m) a j .area ≡ a
     go (refused i q) e = refl
     go (accepted count cents) e = room (ltb (length a) (recordLength * count)) count cents e

@@ -25,12 +25,12 @@ asLent n p a = record { verdict = refused n p; area = a }
 
 -- the judge's own refusal; 17 "record area under 256 times the count", at 0; else "record i goes to bytes 256i to 256i+255" and
 -- "Bytes beyond the last record keep what they held."
-abbrev pub written : List Item → List ℕ → Judged → Outcome
-written l a (refused n p) = asLent n p a
-written l a (accepted count cents) =
+abbrev pub outcome : List Item → List ℕ → Judged → Outcome
+outcome l a (refused n p) = asLent n p a
+outcome l a (accepted count cents) =
     pick (ltb (length a) (recordLength * count))
     (asLent 17 0 a)
     (record { verdict = accepted count cents; area = recordsFor l ++ drop (recordLength * count) a })
 
 unfoldable pub recorded : List ℕ → List ℕ → Outcome
-recorded m a = written (theItems m) a (judged m)
+recorded m a = outcome (theItems m) a (judged m)

@@ -7,9 +7,9 @@ use borrow.Author.Tests.{eqb-true}
 use lib.ListN.{getD}
 use Rattle.profile.specs.declared.Field.{Field}
 use Rattle.profile.specs.declared.Field.the-variants.{MsgId, CreDtTm, NbOfTxs, TtlIntrBkSttlmAmt, IntrBkSttlmDt, SttlmMtd, InstgBic, InstrId, EndToEndId, TxId, SvcLvl, LclInstrm, SeqTp, IntrBkSttlmAmt, ChrgBr, ReqdColltnDt, MndtId, DtOfSgntr, CdtrId, Prtry, CdtrNm, CdtrIban, CdtrBic, DbtrNm, DbtrIban, DbtrBic, Ustrd}
-use Rattle.profile.specs.Fields.{fields, manyFields, numberOf, sameField}
+use Rattle.profile.specs.Fields.{fields, manyFields, fieldNumber, sameField}
 
-place : (f : Field) → getD fields (numberOf f) MsgId ≡ f
+place : (f : Field) → getD fields (fieldNumber f) MsgId ≡ f
 place MsgId = refl
 place CreDtTm = refl
 place NbOfTxs = refl
@@ -38,7 +38,7 @@ place DbtrIban = refl
 place DbtrBic = refl
 place Ustrd = refl
 
-pub number-below : (f : Field) → numberOf f < manyFields
+pub number-below : (f : Field) → fieldNumber f < manyFields
 number-below MsgId = omega arith
 number-below CreDtTm = omega arith
 number-below NbOfTxs = omega arith
@@ -68,4 +68,4 @@ number-below DbtrBic = omega arith
 number-below Ustrd = omega arith
 
 pub same-field : (f g : Field) → sameField f g ≡ true → f ≡ g
-same-field f g e = sym (place f) ∙ (ap (λ (i : ℕ). getD fields i MsgId) (eqb-true (numberOf f) (numberOf g) e) ∙ place g)
+same-field f g e = sym (place f) ∙ (ap (λ (i : ℕ). getD fields i MsgId) (eqb-true (fieldNumber f) (fieldNumber g) e) ∙ place g)

@@ -69,35 +69,35 @@ fields =
 abbrev pub manyFields : ℕ
 manyFields = 27
 
-abbrev pub numberOf : Field → ℕ
-numberOf MsgId = 0
-numberOf CreDtTm = 1
-numberOf NbOfTxs = 2
-numberOf TtlIntrBkSttlmAmt = 3
-numberOf IntrBkSttlmDt = 4
-numberOf SttlmMtd = 5
-numberOf InstgBic = 6
-numberOf InstrId = 7
-numberOf EndToEndId = 8
-numberOf TxId = 9
-numberOf SvcLvl = 10
-numberOf LclInstrm = 11
-numberOf SeqTp = 12
-numberOf IntrBkSttlmAmt = 13
-numberOf ChrgBr = 14
-numberOf ReqdColltnDt = 15
-numberOf MndtId = 16
-numberOf DtOfSgntr = 17
-numberOf CdtrId = 18
-numberOf Prtry = 19
-numberOf CdtrNm = 20
-numberOf CdtrIban = 21
-numberOf CdtrBic = 22
-numberOf DbtrNm = 23
-numberOf DbtrIban = 24
-numberOf DbtrBic = 25
-numberOf Ustrd = 26
+abbrev pub fieldNumber : Field → ℕ
+fieldNumber MsgId = 0
+fieldNumber CreDtTm = 1
+fieldNumber NbOfTxs = 2
+fieldNumber TtlIntrBkSttlmAmt = 3
+fieldNumber IntrBkSttlmDt = 4
+fieldNumber SttlmMtd = 5
+fieldNumber InstgBic = 6
+fieldNumber InstrId = 7
+fieldNumber EndToEndId = 8
+fieldNumber TxId = 9
+fieldNumber SvcLvl = 10
+fieldNumber LclInstrm = 11
+fieldNumber SeqTp = 12
+fieldNumber IntrBkSttlmAmt = 13
+fieldNumber ChrgBr = 14
+fieldNumber ReqdColltnDt = 15
+fieldNumber MndtId = 16
+fieldNumber DtOfSgntr = 17
+fieldNumber CdtrId = 18
+fieldNumber Prtry = 19
+fieldNumber CdtrNm = 20
+fieldNumber CdtrIban = 21
+fieldNumber CdtrBic = 22
+fieldNumber DbtrNm = 23
+fieldNumber DbtrIban = 24
+fieldNumber DbtrBic = 25
+fieldNumber Ustrd = 26
 
 -- the same field
 abbrev pub sameField : Field → Field → Bool
-sameField f g = eqb (numberOf f) (numberOf g)
+sameField f g = eqb (fieldNumber f) (fieldNumber g)

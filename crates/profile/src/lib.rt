@@ -4,7 +4,7 @@ use tags::Look;
 ghost use mathlib.Core.Path.{_≡_};
 ghost use Rattle.tags.specs.Tags.{look, exactly};
 ghost use Rattle.profile.specs.Version.{v02, root};
-ghost use Rattle.profile.specs.Fields.{numberOf};
+ghost use Rattle.profile.specs.Fields.{fieldNumber};
 ghost use Rattle.profile.specs.Kinds.{isAmount};
 
 // Limits 1 and 12.
@@ -68,7 +68,7 @@ pub const FIELDS: usize = 27;
 
 // A field's number.
 pub fn number_of(f: Field) -> usize
-    ensures { λ r. ⌜ r ≡ numberOf f ⌝ }
+    ensures { λ r. ⌜ r ≡ fieldNumber f ⌝ }
 {
     match f {
         Field::MsgId => 0,

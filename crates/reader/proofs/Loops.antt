@@ -20,7 +20,7 @@ use Rattle.notes.proofs.Stays.{later}
 use Rattle.reader.specs.declared.Choice.{Choice}
 use Rattle.reader.specs.declared.Choice.the-variants.{Enter, Pass, Stop}
 use Rattle.reader.specs.Reader.{tagged, closedBy, elementIn, restIn}
-use Rattle.reader.proofs.Steps.{told, fine-on, fine-stop, stop-within}
+use Rattle.reader.proofs.Steps.{passed-on, fine-on, fine-stop, stop-within}
 use Rattle.reader.proofs.Turns.{from, start, Tells, stopped, passed, failed, gone-on, repeated, deep, rest-deep}
 
 abbrev Found : Type 0
@@ -79,7 +79,7 @@ module _ (v : Version) (m : List ℕ) (first : ℕ) (s₀ : Ended Notes) (k : �
 
     pub loop-stop : (n p : ℕ) → w ≡ Stop n p → (x : Found) → x ≡ stop n p → Reads x
     loop-stop n p e x z =
-        told m (s₀ .at) x (stop n p) (reads (trace (due v first) m (s₀ .at)) (s₀ .notes)) z
+        passed-on m (s₀ .at) x (stop n p) (reads (trace (due v first) m (s₀ .at)) (s₀ .notes)) z
         (sym (l .same ∙ stopped m v k (due v k) r t (l .left) seen occ now (s .at) (s .notes) n p (says (Stop n p) e)))
         (stop-within (occOf occ) (opensBy names r) m (q .at) n p (good .within) (sym e ∙ chose))
 
@@ -94,7 +94,7 @@ module _ (v : Version) (m : List ℕ) (first : ℕ) (s₀ : Ended Notes) (k : �
 
       pub loop-fail : (n p : ℕ) → stop n p ≡ b → (x : Found) → x ≡ stop n p → Reads x
       loop-fail n p z x y =
-          told m (s₀ .at) x (stop n p) (reads (trace (due v first) m (s₀ .at)) (s₀ .notes)) y
+          passed-on m (s₀ .at) x (stop n p) (reads (trace (due v first) m (s₀ .at)) (s₀ .notes)) y
           (sym (l .same ∙ failed m v k (due v k) r t (l .left) seen occ now (s .at) (s .notes) (says Enter e) n p (z ∙ in-place)))
           (fine-stop m (q .at + 1) b n p z fit)
 

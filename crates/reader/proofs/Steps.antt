@@ -24,19 +24,19 @@ use Rattle.table.specs.declared.Row.{Row}
 use Rattle.table.specs.Table.{occOf, width}
 use Rattle.notes.specs.declared.Notes.{Notes}
 use Rattle.notes.specs.declared.State.{State}
-use Rattle.notes.specs.Notes.{valueNoted, begun}
+use Rattle.notes.specs.Notes.{valueNoted, itemNoted}
 use Rattle.notes.specs.Steps.{stated, staying, reads, Good, Fine}
 use Rattle.notes.proofs.Notings.{here}
 use Rattle.notes.proofs.Stays.{later, good-at, value-fine, begun-fine}
 use Rattle.reader.specs.declared.Choice.the-variants.{Enter, Pass, Stop}
-use Rattle.reader.specs.Reader.{orElse, tagged, closedBy, entered, valuedBy}
+use Rattle.reader.specs.Reader.{whereMissing, tagged, closedBy, entered, valuedBy}
 
 abbrev Found : Type 0
 Found = Reading (Ended Notes)
 
 -- what is shown of a step: it is the reading, and fine from a place on
-pub told : (m : List ℕ) (p : ℕ) (x r s : Found) → x ≡ r → r ≡ s → Fine m p r → (x ≡ s) × Fine m p x
-told m p x r s e f h = (e ∙ f, rw e h)
+pub passed-on : (m : List ℕ) (p : ℕ) (x r s : Found) → x ≡ r → r ≡ s → Fine m p r → (x ≡ s) × Fine m p x
+passed-on m p x r s e f h = (e ∙ f, rw e h)
 
 -- a reading that goes on, or stops, and is fine
 pub fine-on : (m : List ℕ) (p : ℕ) (r : Found) (s : Ended Notes) → on s ≡ r → Fine m p r → Good m s × (p ≤ s .at)
@@ -70,19 +70,19 @@ module _ (m : List ℕ) (p : ℕ) (n : Notes) (t : List (ℕ → Bool)) (g : Goo
   pub closed-whole : l ≡ Whole → (k : ℕ) → k ≡ length t → (x : Found) → x ≡ on (here (p + k) n) → Closes x
   unfolding closedBy
   closed-whole h k f x w =
-      told m p x (on (here (p + k) n)) (reads (closedBy t m p) n) w (rw (looked, h, f))
+      passed-on m p x (on (here (p + k) n)) (reads (closedBy t m p) n) w (rw (looked, h, f))
       (good-at m (here p n) (p + k) g (close-fits h k f), omega arith)
 
   pub closed-cut : l ≡ Cut → (x : Found) → x ≡ stop 3 (length m) → Closes x
   unfolding closedBy
-  closed-cut h x w = told m p x (stop 3 (length m)) (reads (closedBy t m p) n) w (rw (looked, h)) (omega arith)
+  closed-cut h x w = passed-on m p x (stop 3 (length m)) (reads (closedBy t m p) n) w (rw (looked, h)) (omega arith)
 
   pub closed-other : l ≡ Other → (x : Found) → x ≡ stop 4 p → Closes x
   unfolding closedBy
-  closed-other h x w = told m p x (stop 4 p) (reads (closedBy t m p) n) w (rw (looked, h)) (g .within)
+  closed-other h x w = passed-on m p x (stop 4 p) (reads (closedBy t m p) n) w (rw (looked, h)) (g .within)
 
 -- ---- a start tag
-passes-by : (occ p : ℕ) → (occ ≡ 0 → ⊥) → (occ ≡ 2 → ⊥) → orElse (occOf occ) p ≡ Pass
+passes-by : (occ p : ℕ) → (occ ≡ 0 → ⊥) → (occ ≡ 2 → ⊥) → whereMissing (occOf occ) p ≡ Pass
 passes-by zero p h k = absurd (h refl)
 passes-by (suc zero) p h k = refl
 passes-by (suc (suc zero)) p h k = absurd (k refl)
@@ -117,7 +117,7 @@ pub enter-fits : (o : Occ) (t : List (ℕ → Bool)) (m : List ℕ) (p : ℕ) �
 unfolding tagged
 enter-fits o t m p h = go (look t (drop p m)) o refl
   where
-    go : (l : Look) (q : Occ) → look t (drop p m) ≡ l → Enter ≡ onLook l Enter (Stop 3 (length m)) (orElse q p) → p + length t ≤ length m
+    go : (l : Look) (q : Occ) → look t (drop p m) ≡ l → Enter ≡ onLook l Enter (Stop 3 (length m)) (whereMissing q p) → p + length t ≤ length m
     go Whole q e w = omega (arith, look-fits t (drop p m) e, length-drop p m)
     go Cut q e w = never (cc)
     go Other once e w = never (cc)
@@ -129,7 +129,7 @@ pub stop-within : (o : Occ) (t : List (ℕ → Bool)) (m : List ℕ) (p n q : �
 unfolding tagged
 stop-within o t m p n q h = go (look t (drop p m)) o
   where
-    go : (l : Look) (x : Occ) → Stop n q ≡ onLook l Enter (Stop 3 (length m)) (orElse x p) → q ≤ length m
+    go : (l : Look) (x : Occ) → Stop n q ≡ onLook l Enter (Stop 3 (length m)) (whereMissing x p) → q ≤ length m
     go Whole x w = never (cc)
     go Cut x w = let z : q ≡ length m = cc in omega arith
     go Other once w = let z : q ≡ p = cc in omega arith
@@ -144,7 +144,7 @@ begun-plain zero p n h = refl
 begun-plain (suc zero) p n h = refl
 begun-plain (suc (suc k)) p n h = absurd (omega arith)
 
-pub begun-item : (occ p : ℕ) (n : Notes) → 2 ≤ occ → staying p (begun p n) ≡ reads (begins (occOf occ) "" p (upTo p)) n
+pub begun-item : (occ p : ℕ) (n : Notes) → 2 ≤ occ → staying p (itemNoted p n) ≡ reads (begins (occOf occ) "" p (upTo p)) n
 begun-item zero p n h = absurd (omega arith)
 begun-item (suc zero) p n h = absurd (omega arith)
 begun-item (suc (suc zero)) p n h = refl
@@ -157,8 +157,8 @@ then-on p t (stop i q) = refl
 pub reads-begins : (o : Occ) (s : String) (p : ℕ) (t : Trace) (n : Notes) → reads (begins o s p t) n ≡ onward (reads (begins o "" p (upTo p)) n) (λ r. reads t (r .notes))
 reads-begins once s p t n = refl
 reads-begins optional s p t n = refl
-reads-begins many s p t n = then-on p t (begun p n)
-reads-begins more s p t n = then-on p t (begun p n)
+reads-begins many s p t n = then-on p t (itemNoted p n)
+reads-begins more s p t n = then-on p t (itemNoted p n)
 
 begins-fine : (m : List ℕ) (o : Occ) (p : ℕ) (n : Notes) → Good m (here p n) → Fine m p (reads (begins o "" p (upTo p)) n)
 begins-fine m once p n g = (g, omega arith)
@@ -194,7 +194,7 @@ module _ (m : List ℕ) (p : ℕ) (n : Notes) (g : Good m (here p n)) (o : Occ) 
   goes r e = rw e (sym (reads-begins o "" p (priced amount m (p + w)) n))
 
   pub enters-not : (i q : ℕ) → stop i q ≡ Begun → (x : Found) → x ≡ stop i q → Enters x
-  enters-not i q c x e = told m (p + 1) x (stop i q) (reads (entered o amount w m p) n) e (goes (stop i q) c) (fine-stop m p Begun i q c (begins-fine m o p n g))
+  enters-not i q c x e = passed-on m (p + 1) x (stop i q) (reads (entered o amount w m p) n) e (goes (stop i q) c) (fine-stop m p Begun i q c (begins-fine m o p n g))
 
   module _ (s : Ended Notes) (c : on s ≡ Begun) where
     pub past-good : Good m (here (p + w) (s .notes))
@@ -202,7 +202,7 @@ module _ (m : List ℕ) (p : ℕ) (n : Notes) (g : Good m (here p n)) (o : Occ) 
 
     enters-on : (x : Found) → x ≡ reads (priced amount m (p + w)) (s .notes) → Enters x
     enters-on x e =
-        told m (p + 1) x (reads (priced amount m (p + w)) (s .notes)) (reads (entered o amount w m p) n) e (goes (on s) c)
+        passed-on m (p + 1) x (reads (priced amount m (p + w)) (s .notes)) (reads (entered o amount w m p) n) e (goes (on s) c)
         (later m (p + 1) (p + w) (omega arith) (reads (priced amount m (p + w)) (s .notes)) (priced-fine m amount (p + w) (s .notes) past-good))
 
     -- t is the state past the tag
@@ -240,7 +240,7 @@ module _ (m : List ℕ) (p : ℕ) (ns : Notes) (g : Good m (here p ns)) (t : Lis
   pub value-none : p + n ≡ length m → (x : Found) → x ≡ stop 3 (p + n) → Values x
   unfolding valuedBy
   value-none h x w =
-      told m p x (stop 3 (p + n)) (reads (valuedBy t k f m p) ns) w
+      passed-on m p x (stop 3 (p + n)) (reads (valuedBy t k f m p) ns) w
       (rw (← found, h, le-ltb (length m) (length m) (omega arith))) (omega arith)
 
   module _ (h : p + n ≡ length m → ⊥) where
@@ -255,7 +255,7 @@ module _ (m : List ℕ) (p : ℕ) (ns : Notes) (g : Good m (here p ns)) (t : Lis
     goes-on r w = rw (w, lent-is, ← found, lt-ltb (p + n) (length m) value-there) (sym (then-on p (closedBy t m (p + n)) (valueNoted k f (take n (drop p m)) p ns)))
 
     pub value-stops : (c q : ℕ) → stop c q ≡ staying p Noted → (x : Found) → x ≡ stop c q → Values x
-    value-stops c q w x z = told m p x (stop c q) (reads (valuedBy t k f m p) ns) z (goes-on (stop c q) w) (fine-stop m p (staying p Noted) c q w (value-fine m p ns g k f lent))
+    value-stops c q w x z = passed-on m p x (stop c q) (reads (valuedBy t k f m p) ns) z (goes-on (stop c q) w) (fine-stop m p (staying p Noted) c q w (value-fine m p ns g k f lent))
 
     module _ (s : Ended Notes) (w : on s ≡ staying p Noted) where
       pub value-good : Good m (here (p + n) (s .notes))

@@ -25,7 +25,7 @@ use Rattle.notes.specs.Notes.{inNotes}
 use Rattle.notes.specs.Steps.{reads}
 use Rattle.reader.specs.declared.Choice.{Choice}
 use Rattle.reader.specs.declared.Choice.the-variants.{Enter, Pass, Stop}
-use Rattle.reader.specs.Reader.{orElse, tagged, closedBy, occIn, nameIn, tagIn, elementIn, restIn}
+use Rattle.reader.specs.Reader.{whereMissing, tagged, closedBy, occIn, nameIn, tagIn, elementIn, restIn}
 
 abbrev Found : Type 0
 Found = Reading (Ended Notes)
@@ -47,7 +47,7 @@ module _ (m : List ℕ) where
       q = skipped m p
 
       go : (o : Occ) (l : Look) → reads (onLook l (andThen (body q) next) (fault 3 (length m)) (missing o n q (rest q))) x
-          ≡ chosen (onLook l Enter (Stop 3 (length m)) (orElse o q)) (onward (reads (body q) x) (λ r. reads (next (r .at)) (r .notes))) (reads (rest q) x)
+          ≡ chosen (onLook l Enter (Stop 3 (length m)) (whereMissing o q)) (onward (reads (body q) x) (λ r. reads (next (r .at)) (r .notes))) (reads (rest q) x)
       go o Whole = noted-then inNotes (body q) next x
       go o Cut = refl
       go once Other = refl

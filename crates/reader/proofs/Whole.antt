@@ -28,8 +28,8 @@ use Rattle.notes.proofs.Notings.{here}
 use Rattle.notes.proofs.Stays.{later}
 use Rattle.reader.specs.declared.Choice.{Choice}
 use Rattle.reader.specs.declared.Choice.the-variants.{Enter, Pass, Stop}
-use Rattle.reader.specs.Reader.{orElse, tagged, elementIn, fits, messageAt, itemAt}
-use Rattle.reader.proofs.Steps.{told, stop-within, enter-fits}
+use Rattle.reader.specs.Reader.{whereMissing, tagged, elementIn, fits, messageAt, itemAt}
+use Rattle.reader.proofs.Steps.{passed-on, stop-within, enter-fits}
 
 abbrev Found : Type 0
 Found = Reading (Ended Notes)
@@ -47,19 +47,19 @@ module _ (v : Version) (m : List ℕ) (p : ℕ) where
 
   pub message-long : mostBytes < length m → (x : Found) → x ≡ stop 1 0 → Told messageAt x
   unfolding messageAt
-  message-long h x e = told m 0 x (stop 1 0) (messageAt v m p) e (rw (long h)) (omega arith)
+  message-long h x e = passed-on m 0 x (stop 1 0) (messageAt v m p) e (rw (long h)) (omega arith)
 
   pub message-far : length m ≤ mostBytes → length m < p → (x : Found) → x ≡ stop 1 0 → Told messageAt x
   unfolding messageAt
-  message-far h g x e = told m 0 x (stop 1 0) (messageAt v m p) e (rw (far h g)) (omega arith)
+  message-far h g x e = passed-on m 0 x (stop 1 0) (messageAt v m p) e (rw (far h g)) (omega arith)
 
   pub item-long : mostBytes < length m → (x : Found) → x ≡ stop 1 0 → Told itemAt x
   unfolding itemAt
-  item-long h x e = told m 0 x (stop 1 0) (itemAt v m p) e (rw (long h)) (omega arith)
+  item-long h x e = passed-on m 0 x (stop 1 0) (itemAt v m p) e (rw (long h)) (omega arith)
 
   pub item-far : length m ≤ mostBytes → length m < p → (x : Found) → x ≡ stop 1 0 → Told itemAt x
   unfolding itemAt
-  item-far h g x e = told m 0 x (stop 1 0) (itemAt v m p) e (rw (far h g)) (omega arith)
+  item-far h g x e = passed-on m 0 x (stop 1 0) (itemAt v m p) e (rw (far h g)) (omega arith)
 
   module _ (h : length m ≤ mostBytes) (g : p ≤ length m) (s : Ended Notes) (e : s ≡ here p fresh) where
     near : fits m p ≡ true
@@ -102,10 +102,10 @@ module _ (v : Version) (m : List ℕ) (p : ℕ) where
           (y ∙ (ap (λ (sh : Shape). reads (elementIn sh m (q .at)) (q .notes)) (due-item v) ∙ sym (here-is ∙ ap (chosen q) c)), later m 0 (q .at + 1) (omega arith) x f)
 
       pub item-passes : w ≡ Pass → (x : Found) → x ≡ stop 4 (q .at) → Told itemAt x
-      item-passes c x y = told m 0 x (stop 4 (q .at)) (itemAt v m p) y (sym (here-is ∙ ap (chosen q) c)) (good .within)
+      item-passes c x y = passed-on m 0 x (stop 4 (q .at)) (itemAt v m p) y (sym (here-is ∙ ap (chosen q) c)) (good .within)
 
       pub item-stops : (n k : ℕ) → w ≡ Stop n k → (x : Found) → x ≡ stop n k → Told itemAt x
-      item-stops n k c x y = told m 0 x (stop n k) (itemAt v m p) y (sym (here-is ∙ ap (chosen q) c)) (stop-within once itemTag m (q .at) n k (good .within) (sym c ∙ chose))
+      item-stops n k c x y = passed-on m 0 x (stop n k) (itemAt v m p) y (sym (here-is ∙ ap (chosen q) c)) (stop-within once itemTag m (q .at) n k (good .within) (sym c ∙ chose))
 
 -- ---- the item's row: it may be entered where its start tag lies whole
 module _ (v : Version) (names : List ℕ) (rs : List (List ℕ)) (r : Row) (k : ℕ) (e : names ≡ tags v) (f : rs ≡ table v) (is : k ≡ itemRow v) (h : r ≡ rowIn rs k) where

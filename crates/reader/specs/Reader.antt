@@ -25,15 +25,15 @@ use Rattle.reader.specs.declared.Choice.{Choice}
 use Rattle.reader.specs.declared.Choice.the-variants.{Enter, Pass, Stop}
 
 -- where a start tag is not there: refused where its element is due, else on to what may come instead
-abbrev pub orElse : Occ → ℕ → Choice
-orElse once p = Stop 4 p
-orElse optional p = Pass
-orElse many p = Stop 4 p
-orElse more p = Pass
+abbrev pub whereMissing : Occ → ℕ → Choice
+whereMissing once p = Stop 4 p
+whereMissing optional p = Pass
+whereMissing many p = Stop 4 p
+whereMissing more p = Pass
 
 -- what a start tag at a place says
 unfoldable pub tagged : Occ → List (ℕ → Bool) → List ℕ → ℕ → Choice
-tagged o tag m p = onLook (look tag (drop p m)) Enter (Stop 3 (length m)) (orElse o p)
+tagged o tag m p = onLook (look tag (drop p m)) Enter (Stop 3 (length m)) (whereMissing o p)
 
 -- an end tag that is due at a place
 unfoldable pub closedBy : List (ℕ → Bool) → List ℕ → ℕ → Trace

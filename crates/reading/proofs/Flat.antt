@@ -2,16 +2,12 @@
 use mathlib.Core.Path.{_≡_, refl, sym, ap, _∙_}
 use mathlib.Core.List.{List, [], _∷_, _++_, append-nil, append-assoc}
 use Prim.Native.Nat.{ℕ}
-use native.Mathlib.Omega.{arith}
+pub use Rattle.text.proofs.Truths.{never}
 use Rattle.answers.specs.Given.{Given, yes, worth, refused as no}
 use Rattle.reading.specs.Trace.{Entry, Trace, met, upTo, fault, andThen}
 use Rattle.reading.specs.Noted.{Reading, on, stop, onward, Ended, Noting, noted}
 use Rattle.reading.specs.Rules.{weighed}
 use Rattle.reading.specs.Judged.{whats, orRefused, listed}
-
--- two things that are never one
-pub never {ℓ} : {A : Type ℓ} → _≡_ {A = ℕ} 0 1 → A
-never e = absurd (let z : ⊥ = omega arith in z)
 
 -- the entries of a trace, in order
 abbrev pub flat : Trace → List Entry

@@ -118,7 +118,7 @@ module _ (m : List ℕ) (count first : ℕ) (area₀ : List ℕ) (r : Room m cou
       never-stops n q g {A = A} = go (f .due) (f .chain) as-many
         where
           go : (l : List Item) → Chained v02 m at l → i + length l ≡ count → A
-          go [] c k = absurd (let z : ⊥ = omega arith in z)
+          go [] c k = never (omega arith)
           go (x ∷ l) (next s c) k =
               let a = stands-again v02 m at x (r .small) (f .within) s in
               never (cc (a .is))
@@ -127,7 +127,7 @@ module _ (m : List ℕ) (count first : ℕ) (area₀ : List ℕ) (r : Room m cou
       fill-on s g x w = go (f .due) (f .all) (f .chain) as-many
         where
           go : (l : List Item) → theItems m ≡ f .done ++ l → Chained v02 m at l → i + length l ≡ count → Filling m count area₀ (i + 1) (s .at) (after x)
-          go [] b c k = absurd (let z : ⊥ = omega arith in z)
+          go [] b c k = never (omega arith)
           go (it ∷ l) b (next t c) k =
               let a = stands-again v02 m at it (r .small) (f .within) t in
               let z : a .state ≡ s = same-end (a .state) s (sym (a .is) ∙ (sym e ∙ g)) in

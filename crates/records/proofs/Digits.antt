@@ -6,6 +6,7 @@ use native.Mathlib.Nat.{add-zero}
 use native.Mathlib.Omega.{arith}
 use lib.ListN.{length, take, drop, set, length-append, length-set, take-append-drop}
 use lib.Seq.{drop-cons, getD-set-same, take-set-le, drop-set-lt}
+use Rattle.text.proofs.Truths.{never}
 use Rattle.postings.specs.Record.{digits}
 use Rattle.postings.proofs.Long.{length-digits}
 use Rattle.records.specs.Engine.{laid}
@@ -27,7 +28,7 @@ module _ (at : ℕ) where
 
   pub due-less : (i c : ℕ) (out : List ℕ) → 0 < i → at + i ≤ length out → due (i - 1) (c / 10) (set out (at + (i - 1)) (48 + c % 10)) ≡ due i c out
   unfolding digits
-  due-less zero c out h g = absurd (let z : ⊥ = omega arith in z)
+  due-less zero c out h g = never (omega arith)
   due-less (suc j) c out h g =
       let b = 48 + c % 10 in
       let out′ = set out (at + j) b in

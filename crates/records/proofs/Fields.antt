@@ -9,6 +9,7 @@ use lib.ListN.{length, take, drop, getD, set, replicate, length-append, length-t
 use lib.Seq.{paste, paste-suc, take-all, take-length, take-nil, take-take, take-at, drop-at, set-at, drop-drop}
 use Rattle.text.specs.Truth.{lead}
 use Rattle.text.proofs.Scan.{rest-of, lead-le}
+use Rattle.text.proofs.Truths.{never}
 use Rattle.tags.specs.Values.{inValue, valueAt}
 use Rattle.profile.specs.declared.Field.the-variants.{TxId, EndToEndId, MndtId, DbtrIban, CdtrIban, DbtrBic, ReqdColltnDt, SeqTp, CdtrId, CdtrBic}
 use Rattle.postings.specs.Record.{recordLength, padded, digits}
@@ -73,7 +74,7 @@ drop-replicate (suc k) (suc n) x =
 
 take-replicate : (k n x : ℕ) → k ≤ n → take k (replicate n x) ≡ replicate k x
 take-replicate zero n x h = refl
-take-replicate (suc k) zero x h = absurd (let z : ⊥ = omega arith in z)
+take-replicate (suc k) zero x h = never (omega arith)
 take-replicate (suc k) (suc n) x h = ap (λ (l : List ℕ). x ∷ l) (take-replicate k n x (omega arith))
 
 take-padded : (w n : ℕ) (v : List ℕ) → w ≤ n → take w (v ++ replicate n 32) ≡ take w v ++ replicate (w - length (take w v)) 32

@@ -7,7 +7,7 @@ use Rattle.tags.specs.Values.{valueAt}
 use Rattle.profile.specs.declared.Field.{Field}
 use Rattle.profile.specs.Version.{v02}
 use Rattle.profile.specs.Limits.{mostBytes}
-use Rattle.profile.specs.Fields.{numberOf}
+use Rattle.profile.specs.Fields.{fieldNumber}
 use Rattle.reading.specs.Items.{theItems}
 use Rattle.postings.specs.Record.{recordLength, recordWith}
 use Rattle.items.specs.Chain.{Chained}
@@ -15,7 +15,7 @@ use Rattle.notes.specs.declared.Notes.{Notes}
 
 -- the value of a field, where its start was noted
 abbrev pub fieldAt : List ℕ → Notes → Field → List ℕ
-fieldAt m n f = valueAt m (getD (n .starts) (numberOf f) 0)
+fieldAt m n f = valueAt m (getD (n .starts) (fieldNumber f) 0)
 
 unfoldable pub recordOf : List ℕ → Notes → List ℕ
 recordOf m n = recordWith (fieldAt m n) (n .cents)

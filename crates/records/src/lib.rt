@@ -8,7 +8,7 @@ ghost use mathlib.Core.List.{_++_};
 ghost use Prim.Native.Nat.{_+_, _*_, _≤_};
 ghost use lib.ListN.{length, take, drop, getD};
 ghost use Rattle.tags.specs.Values.{valueAt};
-ghost use Rattle.profile.specs.Fields.{numberOf};
+ghost use Rattle.profile.specs.Fields.{fieldNumber};
 ghost use Rattle.reading.specs.Items.{theItems};
 ghost use Rattle.postings.specs.Record.{recordLength, digits};
 ghost use Rattle.postings.specs.Area.{recordsFor, recorded};
@@ -34,7 +34,7 @@ fn lay(rec: [u8; LENGTH], at: usize, v: &[u8]) -> [u8; LENGTH]
 
 // Where the last value of a field begins.
 fn start_of(starts: [u32; profile::FIELDS], f: Field) -> usize
-    ensures { λ r. ⌜ r ≡ getD starts (numberOf f) 0 ⌝ }
+    ensures { λ r. ⌜ r ≡ getD starts (fieldNumber f) 0 ⌝ }
 {
     let i = profile::number_of(f);
     starts[i] as usize
@@ -50,7 +50,7 @@ fn put(
     f: Field,
 ) -> [u8; LENGTH]
     requires { ⌜ at + width ≤ recordLength ⌝ }
-    ensures { λ r. ⌜ r ≡ laid at (take width (valueAt (now (m .entry)) (getD starts (numberOf f) 0))) rec ⌝ }
+    ensures { λ r. ⌜ r ≡ laid at (take width (valueAt (now (m .entry)) (getD starts (fieldNumber f) 0))) rec ⌝ }
 {
     let start = start_of(starts, f);
     if m.len() < start {

@@ -12,21 +12,13 @@ use Rattle.profile.specs.declared.Kind.{Kind}
 use Rattle.profile.specs.declared.Field.{Field}
 use Rattle.profile.specs.Kinds.{isAmount}
 use Rattle.profile.specs.Tree.{Occ, once, optional, many, more, Shape, end, leaf, group}
-use Rattle.reading.specs.Trace.{What, itemBegins, itemEnds, there, absent, value, Entry, _at_, Trace, met, upTo, fault, andThen, begins, ends, priced, closed, valued, leafBody, groupBody, missing, turn, again, follow, child, trace}
+use Rattle.reading.specs.Trace.{itemBegins, itemEnds, there, absent, Entry, _at_, Trace, met, upTo, fault, andThen, begins, ends, priced, closed, valued, leafBody, groupBody, missing, turn, again, follow, child, trace}
 
 -- every element of a shape, and every end, is as P says
 abbrev pub Each : (Shape → Type 0) → Shape → Type 0
 Each P (end n) = P (end n)
 Each P (leaf o n k f rest) = P (leaf o n k f rest) × Each P rest
 Each P (group o n inner rest) = P (group o n inner rest) × Each P inner × Each P rest
-
--- anything met that is no value
-abbrev pub NoValue : What → Type 0
-NoValue itemBegins = Unit {0}
-NoValue itemEnds = Unit {0}
-NoValue (there n) = Unit {0}
-NoValue (absent n) = Unit {0}
-NoValue (value k f v) = ⊥
 
 -- what stands in an element of a value, behind its start tag at p; and in a group
 abbrev pub inLeaf : String → Kind → Field → List ℕ → ℕ → Trace
@@ -49,7 +41,7 @@ module _ (m m′ : List ℕ) (R : Bool → ℕ → Type 0) (Q : Bool → Trace �
     pub size : length m ≡ length m′
     pub broken : (b : Bool) (n p : ℕ) → Q b (fault n p) (fault n p)
     pub ended : (b : Bool) (p : ℕ) → R b p → Q b (upTo p) (upTo p)
-    pub past : (b : Bool) (e : Entry) (t t′ : Trace) → NoValue (e .what) → Q b t t′ → Q b (met e t) (met e t′)
+    pub past : (b : Bool) (e : Entry) (t t′ : Trace) → Q b t t′ → Q b (met e t) (met e t′)
     pub chaining : (f g : ℕ → Trace) → Along f g → (b : Bool) (t t′ : Trace) → Q b t t′ → Q b (andThen t f) (andThen t′ g)
     pub skipping : (b : Bool) (p : ℕ) → R b p → (skipped m p ≡ skipped m′ p) × R b (skipped m p)
     pub closing : (n : String) → P (end n) → Along (closed n m) (closed n m′)
@@ -61,15 +53,15 @@ module _ (m m′ : List ℕ) (R : Bool → ℕ → Type 0) (Q : Bool → Trace �
   module _ (P : Shape → Type 0) (K : Steps P) where
     begins-along : (o : Occ) (n : String) (b : Bool) (p : ℕ) (t t′ : Trace) → Q b t t′ → Q b (begins o n p t) (begins o n p t′)
     begins-along once n b p t t′ h = h
-    begins-along optional n b p t t′ h = K .past b (there n at p) t t′ tt h
-    begins-along many n b p t t′ h = K .past b (itemBegins at p) t t′ tt h
-    begins-along more n b p t t′ h = K .past b (itemBegins at p) t t′ tt h
+    begins-along optional n b p t t′ h = K .past b (there n at p) t t′ h
+    begins-along many n b p t t′ h = K .past b (itemBegins at p) t t′ h
+    begins-along more n b p t t′ h = K .past b (itemBegins at p) t t′ h
 
     ends-along : (o : Occ) → Along (ends o) (ends o)
     ends-along once b p r = K .ended b p r
     ends-along optional b p r = K .ended b p r
-    ends-along many b p r = K .past b (itemEnds at p) (upTo p) (upTo p) tt (K .ended b p r)
-    ends-along more b p r = K .past b (itemEnds at p) (upTo p) (upTo p) tt (K .ended b p r)
+    ends-along many b p r = K .past b (itemEnds at p) (upTo p) (upTo p) (K .ended b p r)
+    ends-along more b p r = K .past b (itemEnds at p) (upTo p) (upTo p) (K .ended b p r)
 
     -- an element, by what stands in it
     body-along : (o : Occ) (n : String) (tag : List (ℕ → Bool)) (f g : ℕ → Trace) → Entering tag f g
@@ -81,7 +73,7 @@ module _ (m m′ : List ℕ) (R : Bool → ℕ → Type 0) (Q : Bool → Trace �
 
     missing-along : (o : Occ) (n : String) (b : Bool) (p : ℕ) (t t′ : Trace) → Q b t t′ → Q b (missing o n p t) (missing o n p t′)
     missing-along once n b p t t′ h = K .broken b 4 p
-    missing-along optional n b p t t′ h = K .past b (absent n at p) t t′ tt h
+    missing-along optional n b p t t′ h = K .past b (absent n at p) t t′ h
     missing-along many n b p t t′ h = K .broken b 4 p
     missing-along more n b p t t′ h = h
 

@@ -5,7 +5,7 @@ use mathlib.Core.List.{List, [], _∷_, _++_, append-nil, append-assoc}
 use Prim.Native.Nat.{ℕ, suc, _+_, _<_}
 use Prim.Native.String.{String}
 use native.Mathlib.Omega.{arith}
-use borrow.Author.Tests.{ltb-true, eqb-true}
+use borrow.Author.Tests.{eqb-true}
 use lib.Dec.{eqb, ltb}
 use lib.ListN.{length, take, drop, length-append, take-append-drop}
 use lib.Seq.{drop-at, length-take-le}
@@ -13,21 +13,19 @@ use Rattle.text.specs.Truth.{pick, lead}
 use Rattle.text.specs.Quoted.{bytes}
 use Rattle.tags.specs.declared.Look.{Look}
 use Rattle.tags.specs.declared.Look.the-variants.{Whole, Cut, Other}
-use Rattle.tags.specs.Tags.{skipped, look, onLook, exactly, endTag, plainTag, amountTag, startTag, currency, currencyPlace, inEuro}
+use Rattle.tags.specs.Tags.{skipped, look, exactly, plainTag, amountTag, startTag, currency}
 use Rattle.tags.specs.Values.{inValue, valueAt, behindValue}
 use Rattle.tags.proofs.Looks.{exactly-length, look-fits, look-text, whole-text, andThen as andThenLook, look-append}
 use Rattle.profile.specs.declared.Kind.{Kind}
-use Rattle.profile.specs.declared.Field.{Field}
 use Rattle.profile.specs.Kinds.{isAmount}
 use Rattle.profile.specs.Version.{Version}
 use Rattle.profile.specs.Limits.{mostBytes}
-use Rattle.profile.specs.Tree.{Shape, end, leaf, group}
+use Rattle.profile.specs.Tree.{Occ, once, optional, many, more, Shape, end, leaf, group}
 use Rattle.profile.specs.Profile.{profile}
-use Rattle.reading.specs.Trace.{What, itemBegins, itemEnds, there, absent, value, Entry, _at_, Trace, met, upTo, fault, andThen, priced, closed, valued, trace, Opened, from, faulty, opened, behindAll, inside, message}
+use Rattle.reading.specs.Trace.{What, itemBegins, itemEnds, there, absent, value, Trace, upTo, fault, begins, ends, trace, Opened, from, faulty, opened, behindAll, inside, message}
 use Rattle.reading.proofs.Flat.{never}
-use Rattle.reading.proofs.Each.{All}
+use Rattle.reading.proofs.Each.{All, all-then, Comes, trace-all}
 use Rattle.replaced.proofs.Alike.{look-taken}
-use Rattle.replaced.proofs.Along.{Each, NoValue, Steps, trace-along}
 use Rattle.replaced.proofs.Tests.{startText}
 
 -- a value u of kind k at place q, of an element whose name is as B says
@@ -51,72 +49,27 @@ module _ (B : Kind → String → Type 0) (m : List ℕ) where
   abbrev pub AllPlaced : Trace → Type 0
   AllPlaced = All (λ e. Placed (e .place) (e .what))
 
+  begins-placed : (o : Occ) (n : String) (p : ℕ) (t : Trace) → AllPlaced t → AllPlaced (begins o n p t)
+  begins-placed once n p t h = h
+  begins-placed optional n p t h = (tt, h)
+  begins-placed many n p t h = (tt, h)
+  begins-placed more n p t h = (tt, h)
+
+  ends-placed : (o : Occ) (p : ℕ) → AllPlaced (ends o p)
+  ends-placed once p = tt
+  ends-placed optional p = tt
+  ends-placed many p = (tt, tt)
+  ends-placed more p = (tt, tt)
+
+  -- every element of a value has a name as B says
   abbrev pub Named : Shape → Type 0
-  Named (end n) = Unit {0}
-  Named (leaf o n k f rest) = B k n
-  Named (group o n inner rest) = Unit {0}
+  Named = Comes (λ o. Unit {0}) B
 
-  all-then : (t : Trace) (g : ℕ → Trace) → AllPlaced t → ((p : ℕ) → AllPlaced (g p)) → AllPlaced (andThen t g)
-  all-then (met e t) g h k = (h .0, all-then t g (h .1) k)
-  all-then (upTo p) g h k = k p
-  all-then (fault n q) g h k = tt
-
-  closed-placed : (n : String) (p : ℕ) → AllPlaced (closed n m p)
-  unfolding closed
-  closed-placed n p = go (look (exactly (endTag n)) (drop p m))
-    where
-      go : (l : Look) → AllPlaced (onLook l (upTo (p + length (endTag n))) (fault 3 (length m)) (fault 4 p))
-      go Whole = tt
-      go Cut = tt
-      go Other = tt
-
-  leaf-placed : (n : String) (k : Kind) (f : Field) → B k n → (p q : ℕ) → q ≡ p + length (startTag (isAmount k) n) → look (startTag (isAmount k) n) (drop p m) ≡ Whole
-      → AllPlaced (andThen (priced (isAmount k) m q) (valued n k f m))
-  unfolding valued
-  leaf-placed n k f good p q e w = first (isAmount k)
-    where
-      held : (b : Bool) → ltb (behindValue m q) (length m) ≡ b → AllPlaced (pick b (met (value k f (valueAt m q) at q) (closed n m (behindValue m q))) (fault 3 (length m)))
-      held true h = (
-        record { name = n; good = good; start = p; tag = w; place = e; bytes = refl; ends = ltb-true (behindValue m q) (length m) h },
-        closed-placed n (behindValue m q),
-      )
-      held false h = tt
-
-      euro : (b : Bool) → AllPlaced (andThen (pick b (upTo q) (fault 6 (currencyPlace q))) (valued n k f m))
-      euro true = held (ltb (behindValue m q) (length m)) refl
-      euro false = tt
-
-      first : (b : Bool) → AllPlaced (andThen (priced b m q) (valued n k f m))
-      first true = euro (inEuro m q)
-      first false = held (ltb (behindValue m q) (length m)) refl
-
-  pass : (e : Entry) (t : Trace) → NoValue (e .what) → AllPlaced t → AllPlaced (met e t)
-  pass e t x h = (go (e .what) x, h)
-    where
-      go : (w : What) → NoValue w → Placed (e .place) w
-      go itemBegins n = tt
-      go itemEnds n = tt
-      go (there s) n = tt
-      go (absent s) n = tt
-      go (value k f u) n = absurd n
-
-  -- one message beside itself
-  steps : Steps m m (λ b p. Unit {0}) (λ b t t′. AllPlaced t) Named
-  steps =
-      record {
-        size = refl;
-        broken = λ b n p. tt;
-        ended = λ b p r. tt;
-        past = λ b e t t′ x h. pass e t x h;
-        chaining = λ f g k b t t′ h. all-then t f h (λ p. k b p tt);
-        skipping = λ b p r. (refl, tt);
-        closing = λ n c b p r. closed-placed n p;
-        valuing = λ o n k f rest c b p r. (refl, λ w. leaf-placed n k f c p (p + length (startTag (isAmount k) n)) refl w);
-        entering = λ o n inner rest c z b p r. (refl, λ w. z b (p + length (plainTag n)) tt);
-      }
-
-  pub trace-placed : (sh : Shape) → Each Named sh → (p : ℕ) → AllPlaced (trace sh m p)
-  trace-placed sh c p = trace-along m m (λ b q. Unit {0}) (λ b t t′. AllPlaced t) Named steps sh c true p tt
+  pub trace-placed : (sh : Shape) → Named sh → (p : ℕ) → AllPlaced (trace sh m p)
+  trace-placed =
+      trace-all m (λ e. Placed (e .place) (e .what)) (λ o. Unit {0}) B
+      (λ n k f good p q e w h. record { name = n; good = good; start = p; tag = w; place = e; bytes = refl; ends = h })
+      (λ o a. begins-placed o) (λ n p. tt) (λ o a. ends-placed o)
 
 -- ---- a whole message, of whatever version
 pub record OfVersion (B : Version → Kind → String → Type 0) (m : List ℕ) (k : Kind) (n : String) : Type 0 where
@@ -125,13 +78,13 @@ pub record OfVersion (B : Version → Kind → String → Type 0) (m : List ℕ)
   pub opens : opened m ≡ from version inner
   pub good : B version k n
 
-pub message-placed : (B : Version → Kind → String → Type 0) (m : List ℕ) → ((u : Version) → Each (Named (B u) m) (profile u)) → AllPlaced (OfVersion B m) m (message m)
+pub message-placed : (B : Version → Kind → String → Type 0) (m : List ℕ) → ((u : Version) → Named (B u) m (profile u)) → AllPlaced (OfVersion B m) m (message m)
 unfolding message behindAll
 message-placed B m c = first (ltb mostBytes (length m))
   where
-    named : (u : Version) (p : ℕ) → opened m ≡ from u p → (sh : Shape) → Each (Named (B u) m) sh → Each (Named (OfVersion B m) m) sh
+    named : (u : Version) (p : ℕ) → opened m ≡ from u p → (sh : Shape) → Named (B u) m sh → Named (OfVersion B m) m sh
     named u p e (end n) h = tt
-    named u p e (leaf o n k f rest) h = (record { version = u; inner = p; opens = e; good = h .0 }, named u p e rest (h .1))
+    named u p e (leaf o n k f rest) h = (tt, record { version = u; inner = p; opens = e; good = h .1 }, named u p e rest (h .2))
     named u p e (group o n inner rest) h = (tt, named u p e inner (h .1), named u p e rest (h .2))
 
     last : (p : ℕ) → AllPlaced (OfVersion B m) m (behindAll m p)
@@ -142,7 +95,7 @@ message-placed B m c = first (ltb mostBytes (length m))
         go false = tt
 
     go : (o : Opened) → opened m ≡ o → AllPlaced (OfVersion B m) m (inside m o)
-    go (from u p) e = all-then (OfVersion B m) m (trace (profile u) m p) (behindAll m) (trace-placed (OfVersion B m) m (profile u) (named u p e (profile u) (c u)) p) last
+    go (from u p) e = all-then (λ e. Placed (OfVersion B m) m (e .place) (e .what)) (trace (profile u) m p) (behindAll m) (trace-placed (OfVersion B m) m (profile u) (named u p e (profile u) (c u)) p) last
     go (faulty n q) e = tt
 
     first : (b : Bool) → AllPlaced (OfVersion B m) m (pick b (fault 1 0) (inside m (opened m)))
@@ -201,7 +154,7 @@ pub record Valued (s : List ℕ) : Type 0 where
   pub is : s ≡ take (lead inValue s) s ++ (60 ∷ behind)
 
 pub value-ends : (s : List ℕ) → lead inValue s < length s → Valued s
-value-ends [] h = absurd (let z : ⊥ = omega arith in z)
+value-ends [] h = never (omega arith)
 value-ends (c ∷ s) h = go (eqb c 60) refl h (value-ends s)
   where
     on : eqb c 60 ≡ false → Valued s → Valued (c ∷ s)

@@ -272,7 +272,7 @@ module _ (m m′ : List ℕ) (S : Swapped m m′) (Fit : Kind → Field → Type
         size = S .size;
         broken = λ b n p. breaks;
         ended = λ b p r. stops r;
-        past = λ b e t t′ no h. passes h;
+        past = λ b e t t′ h. passes h;
         chaining = λ f g k b t t′ h. side-then f g k h;
         skipping = skip-out;
         closing = closed-same;

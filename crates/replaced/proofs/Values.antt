@@ -20,7 +20,6 @@ use Rattle.profile.specs.Version.{Version, v02}
 use Rattle.profile.specs.Tree.{Shape, end, leaf, group}
 use Rattle.profile.specs.Profile.{profile}
 use Rattle.reading.specs.Trace.{from, opened, message}
-use Rattle.replaced.proofs.Along.{Each}
 use Rattle.replaced.proofs.Beside.{Beside, Solid}
 use Rattle.replaced.proofs.Tests.{clear, sameTag, opening, apart, read-beside}
 use Rattle.replaced.proofs.Behind.{At, Named, AllPlaced, OfVersion, message-placed, Tagged, tagged, Valued, value-ends}
@@ -44,9 +43,9 @@ all-fine v02 = refl
 abbrev pub Fine : Version → Kind → String → Type 0
 Fine u k n = fine u k n ≡ true
 
-named : (m : List ℕ) (u : Version) (sh : Shape) → leaves (fine u) sh ≡ true → Each (Named (Fine u) m) sh
+named : (m : List ℕ) (u : Version) (sh : Shape) → leaves (fine u) sh ≡ true → Named (Fine u) m sh
 named m u (end n) e = tt
-named m u (leaf o n k f rest) e = let h = both-true (fine u k n) (leaves (fine u) rest) e in (h .0, named m u rest (h .1))
+named m u (leaf o n k f rest) e = let h = both-true (fine u k n) (leaves (fine u) rest) e in (tt, h .0, named m u rest (h .1))
 named m u (group o n inner rest) e = let h = both-true (leaves (fine u) inner) (leaves (fine u) rest) e in (tt, named m u inner (h .0), named m u rest (h .1))
 
 -- a value u of kind k that stands at place q of m

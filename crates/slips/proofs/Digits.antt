@@ -1,4 +1,4 @@
--- Her third demand, in the digits of a value.
+-- One slip in the digits of a value of an accepted message is always refused.
 use mathlib.Core.Path.{_≡_, refl, sym, ap, subst, _∙_}
 use mathlib.Core.Logic.{_≢_, _⊎_, inl, inr}
 use mathlib.Core.Bool.{true}
@@ -19,7 +19,7 @@ use Rattle.kinds.specs.Given.{kindGiven}
 use Rattle.reading.specs.Trace.{What, value, Entry, _at_, message}
 use Rattle.reading.specs.Noted.{Reading, on, stop, Ended, noted}
 use Rattle.reading.specs.Rules.{ownKind}
-use Rattle.reading.specs.Verdict.{Judged, accepted}
+use Rattle.reading.specs.Verdict.{Refusal, Judged, accepted}
 use Rattle.reading.specs.Judged.{whats, listed, verdict, placeOf, judged}
 use Rattle.reading.proofs.Flat.{never, flat, goes-flat}
 use Rattle.reading.proofs.Each.{all-flat}
@@ -33,7 +33,7 @@ use Rattle.documents.proofs.Exactly.{accepted-exactly}
 use Rattle.replaced.proofs.Beside.{Beside}
 use Rattle.replaced.proofs.Behind.{OfVersion, Placed}
 use Rattle.replaced.proofs.Values.{Fine, Stood, values-placed, tagless, before-long, is-itself, value-there, value-beside}
-use Rattle.slips.specs.Slip.{Watched, Slip, replaced, exchanged, Refusal, In, entries, Stands, Refused, totalPlace}
+use Rattle.slips.specs.Slip.{Watched, Slip, replaced, exchanged, In, entries, StandsAt, Refused, totalPlace}
 use Rattle.slips.proofs.Values.{value-solid, slip-tagless, slip-long, slip-other, slip-solid}
 use Rattle.slips.proofs.Few.{amounts-items}
 use Rattle.slips.proofs.Changed.{all-in, parted, Changed, beside-whole, beside-changed}
@@ -94,13 +94,13 @@ exchanged-there f r a b j e =
     (ap (λ (l : List ℕ). set l (suc j) a) (sym (append-assoc f (b ∷ []) (b ∷ r))) ∙ set-at (f ++ (b ∷ [])) b r a (suc j) long′ ∙ append-assoc f (b ∷ []) (a ∷ r))
 
 -- The header's total: where one stands in an accepted message, that is the place of the total.
-pub total-place : (m : List ℕ) (n c : ℕ) → judged m ≡ accepted n c → (q : ℕ) (v : List ℕ) → Stands m Total q v → totalPlace m ≡ q
+pub total-place : (m : List ℕ) (n c : ℕ) → judged m ≡ accepted n c → (q : ℕ) (v : List ℕ) → StandsAt m Total q v → totalPlace m ≡ q
 total-place m n c a q v s =
     let r = parted (value Total (s .field) v at q) (entries m) (s .among) in
     ap (placeOf Total) (r .is)
     ∙ place-is Total (s .field) q v v (r .front) (r .back) n c Total refl (rw (← entries-flat m n c a, r .is) at (sound m n c a .one .total))
 
-module _ (m : List ℕ) (n c : ℕ) (a : judged m ≡ accepted n c) (k : Kind) (q : ℕ) (v : List ℕ) (s : Stands m k q v) where
+module _ (m : List ℕ) (n c : ℕ) (a : judged m ≡ accepted n c) (k : Kind) (q : ℕ) (v : List ℕ) (s : StandsAt m k q v) where
   abbrev entry : List ℕ → Entry
   entry u = value k (s .field) u at q
 

@@ -46,8 +46,8 @@ total-told es e ne = rw (eq-eqb (decimal (onlyOf Count es)) (itemsIn (whats es))
 -- ---- one of a kind
 lone : (a : List (List ℕ)) (u : List ℕ) (b : List (List ℕ)) → length (a ++ (u ∷ b)) ≡ 1 → (a ≡ []) × (b ≡ [])
 lone [] u [] e = (refl, refl)
-lone [] u (x ∷ b) e = absurd (let z : ⊥ = omega arith in z)
-lone (x ∷ a) u b e = absurd (let z : ⊥ = omega (arith, length-append a (u ∷ b)) in z)
+lone [] u (x ∷ b) e = never (omega arith)
+lone (x ∷ a) u b e = never (omega (arith, length-append a (u ∷ b)))
 
 no-place : (j : Kind) (l : List Entry) (q : ℕ) → valuesOf j (whats l) ≡ [] → placeFrom q j l ≡ q
 no-place j [] q e = refl

@@ -17,7 +17,7 @@ use Rattle.answers.specs.Given.{yes, worth, refused, inOrder, _else_}
 use Rattle.money.specs.declared.Range.{Range}
 use Rattle.money.specs.declared.Range.the-variants.{Item as anItem, Total as theTotal}
 use Rattle.money.specs.Count.{countForm, countGiven}
-use Rattle.money.specs.Amount.{most, whole, amountForm, cents, amountGiven}
+use Rattle.money.specs.Amount.{most, euros, amountForm, cents, amountGiven}
 use Rattle.money.proofs.Slips.{count-replaced, count-exchanged, amount-replaced, amount-exchanged}
 use Rattle.check97.specs.Check.{ibanChecked, identifierChecked}
 use Rattle.accounts.specs.Head.{head}
@@ -197,9 +197,9 @@ count-first (c ∷ s) e = digit-first c s (both-true (digit c) (every digit s) (
 amount-first : (v : List ℕ) → amountForm v ≡ true → Solid v
 unfolding amountForm
 amount-first [] e = absurd (omega (arith, between-true 1 15 0 (passes _ e 0)))
-amount-first (c ∷ s) e = go (digit c) refl (between-true 1 15 (length (whole (c ∷ s))) (passes _ e 0) .0)
+amount-first (c ∷ s) e = go (digit c) refl (between-true 1 15 (length (euros (c ∷ s))) (passes _ e 0) .0)
   where
-    go : (b : Bool) → digit c ≡ b → 1 ≤ length (whole (c ∷ s)) → Solid (c ∷ s)
+    go : (b : Bool) → digit c ≡ b → 1 ≤ length (euros (c ∷ s)) → Solid (c ∷ s)
     go true h g = digit-first c s h
     go false h g = absurd (omega (arith, rw h at g))
 

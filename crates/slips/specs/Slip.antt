@@ -42,12 +42,6 @@ pub data Slip (k : Kind) (v w : List ℕ) : Type 0 where
   exchanged : (p q : List ℕ) (a b : ℕ) → Watched k (length p) ⊎ Watched k (suc (length p)) → digit a ≡ true → digit b ≡ true → a ≢ b
       → v ≡ p ++ (a ∷ b ∷ q) → w ≡ p ++ (b ∷ a ∷ q) → Slip k v w
 
--- an answer that is a refusal
-pub record Refusal (j : Judged) : Type 0 where
-  pub number : ℕ
-  pub place : ℕ
-  pub is : j ≡ refused number place
-
 -- one of a list
 abbrev pub In : {A : Type 0} → A → List A → Type 0
 In x [] = ⊥
@@ -58,7 +52,7 @@ abbrev pub entries : List ℕ → List Entry
 entries m = notesOf (noted listed (message m) [])
 
 -- a value of a kind stands at a place of a message: it is one of what was read, there
-pub record Stands (m : List ℕ) (k : Kind) (place : ℕ) (v : List ℕ) : Type 0 where
+pub record StandsAt (m : List ℕ) (k : Kind) (place : ℕ) (v : List ℕ) : Type 0 where
   pub field : Field
   pub among : In (value k field v at place) (entries m)
 

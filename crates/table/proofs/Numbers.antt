@@ -10,10 +10,10 @@ use Rattle.profile.specs.declared.Kind.the-variants.{Plain, Count, Total, Amoun
 use Rattle.profile.specs.declared.Simple.the-variants.{Reference, Text70, Text140, Date, Time, Bic, Iban, Identifier}
 use Rattle.profile.specs.declared.Field.{Field}
 use Rattle.profile.specs.declared.Field.the-variants as field
-use Rattle.profile.specs.Fields.{fields, numberOf}
+use Rattle.profile.specs.Fields.{fields, fieldNumber}
 use Rattle.profile.specs.Kinds.{isAmount}
 use Rattle.profile.specs.Tree.{Occ, once, optional, many, more}
-use Rattle.table.specs.Table.{kinds, kindOf, kindNumber, amountKind, fieldOf, occOf, occNumber}
+use Rattle.table.specs.Table.{kinds, kindOf, kindInTable, amountKind, fieldOf, occOf, occNumber}
 
 -- ---- a number that is none of the m numbers behind b lies outside a list of their entries
 abbrev None : ℕ → ℕ → ℕ → Type 0
@@ -48,7 +48,7 @@ pub record Numbers (k : Kind) (n : ℕ) : Type 0 where
   pub judged : kindOf n ≡ k
   pub amount : amountKind n ≡ isAmount k
 
-pub kind-numbers : (k : Kind) → Numbers k (kindNumber k)
+pub kind-numbers : (k : Kind) → Numbers k (kindInTable k)
 unfolding kindOf
 kind-numbers (Plain Reference) = record { kind = omega arith; judged = refl; amount = refl }
 kind-numbers Total = record { kind = omega arith; judged = refl; amount = refl }
@@ -68,7 +68,7 @@ kind-numbers (Code code.SeqTp) = record { kind = omega arith; judged = refl; amo
 kind-numbers (Code code.ChrgBr) = record { kind = omega arith; judged = refl; amount = refl }
 kind-numbers (Code code.Prtry) = record { kind = omega arith; judged = refl; amount = refl }
 
-pub field-of : (f : Field) → fieldOf (numberOf f) ≡ f
+pub field-of : (f : Field) → fieldOf (fieldNumber f) ≡ f
 unfolding fieldOf
 field-of field.MsgId = refl
 field-of field.CreDtTm = refl

@@ -10,6 +10,7 @@ use native.Mathlib.Omega.{arith}
 use lib.ListN.{length, take, drop, getD, length-append}
 use lib.Seq.{drop-drop, take-append-seam, drop-append-seam}
 use Rattle.text.specs.Truth.{part}
+use Rattle.text.proofs.Truths.{never}
 use Rattle.tags.specs.Tags.{exactly, endTag, plainTag}
 use Rattle.tags.proofs.Looks.{exactly-length}
 use Rattle.profile.specs.Version.{Version, v02}
@@ -20,7 +21,7 @@ use Rattle.table.specs.declared.Row.{Row}
 use Rattle.table.specs.Table.{rowsOf, startText, tagsOf, numbersAt, numbersOf, rowOf, rowIn, opensBy, closesBy, tags, table, due, manyRows, itemRow, Element}
 use Rattle.table.proofs.Numbers.{occ-of, kind-numbers, field-of}
 use Rattle.table.proofs.Opens.{opens-by, width-by}
-use Rattle.table.proofs.Tied.{TiedBy, KeptBy, Tied, Kept}
+use Rattle.table.proofs.Tied.{TiedBy, KeptBy, Tied, RowKept}
 
 -- ---- a fact of every row, the first of which is row k
 abbrev All : (ℕ → List ℕ → Type 0) → ℕ → List (List ℕ) → Type 0
@@ -33,7 +34,7 @@ module _ (P : ℕ → List ℕ → Type 0) where
   all-append (r ∷ a) b k m e x y = (x .0, all-append a b (suc k) m (omega arith) (x .1) y)
 
   all-at : (l : List (List ℕ)) (k j m : ℕ) → m ≡ k + j → All P k l → j < length l → P m (getD l j [])
-  all-at [] k j m e x h = absurd (let z : ⊥ = omega arith in z)
+  all-at [] k j m e x h = never (omega arith)
   all-at (r ∷ l) k zero m e x h = let z : m ≡ k = omega arith in rw z (x .0)
   all-at (r ∷ l) k (suc j) m e x h = all-at l (suc k) j m (omega arith) (x .1) (le-of-suc-le-suc h)
 
@@ -68,8 +69,8 @@ record Stands {A : Type 0} (l : List A) (k : ℕ) (x : A) (behind : List A) (d :
   next : drop (suc k) l ≡ behind
 
 stands : {A : Type 0} (l : List A) (k : ℕ) (x : A) (r : List A) (d : A) → drop k l ≡ x ∷ r → Stands l k x r d
-stands [] zero x r d e = absurd (let z : _≡_ {A = ℕ} 0 1 = cc in omega arith)
-stands [] (suc k) x r d e = absurd (let z : _≡_ {A = ℕ} 0 1 = cc in omega arith)
+stands [] zero x r d e = never (cc)
+stands [] (suc k) x r d e = never (cc)
 stands (y ∷ l) zero x r d e = record { here = cc; within = omega arith; next = cc }
 stands (y ∷ l) (suc k) x r d e =
     let s = stands l k x r d e in
@@ -207,14 +208,14 @@ module _ (S : Shape) where
       )
 
 -- ---- the table of a version
-pub rows : (v : Version) (k : ℕ) → k < manyRows v → Tied v k (due v k) (rowIn (table v) k) × Kept v (rowIn (table v) k)
+pub rows : (v : Version) (k : ℕ) → k < manyRows v → Tied v k (due v k) (rowIn (table v) k) × RowKept v (rowIn (table v) k)
 unfolding manyRows due table tags
 rows v k h =
     all-at (Right (profile v)) (numbersOf 0 0 (profile v)) 0 k k (omega arith)
     (law (profile v) (profile v) 0 0 (whole (profile v))) (rw (many-numbers (profile v) 0 0) h)
 
 -- as the code reads it from rows that are lent
-pub row-tied : (v : Version) (rs : List (List ℕ)) (k : ℕ) (r : Row) → r ≡ rowIn rs k → rs ≡ table v → k < manyRows v → Tied v k (due v k) r × Kept v r
+pub row-tied : (v : Version) (rs : List (List ℕ)) (k : ℕ) (r : Row) → r ≡ rowIn rs k → rs ≡ table v → k < manyRows v → Tied v k (due v k) r × RowKept v r
 row-tied v rs k r e f h = rw (e, f) (rows v k h)
 
 -- what is due first is the whole profile

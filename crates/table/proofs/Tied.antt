@@ -11,7 +11,7 @@ use Rattle.tags.proofs.Looks.{exactly-length}
 use Rattle.profile.specs.declared.Kind.{Kind}
 use Rattle.profile.specs.declared.Field.{Field}
 use Rattle.profile.specs.Version.{Version}
-use Rattle.profile.specs.Fields.{numberOf}
+use Rattle.profile.specs.Fields.{fieldNumber}
 use Rattle.profile.specs.Kinds.{isAmount}
 use Rattle.profile.specs.Tree.{Occ, Shape, end, leaf, group}
 use Rattle.table.specs.declared.Row.{Row}
@@ -28,7 +28,7 @@ module _ (t : List ℕ) (d : ℕ → Shape) (rows : ℕ) where
     pub kind : 2 ≤ r .kind
     pub judged : kindOf (r .kind) ≡ kd
     pub noted : fieldOf (r .field) ≡ f
-    pub number : r .field ≡ numberOf f
+    pub number : r .field ≡ fieldNumber f
     pub amount : amountKind (r .kind) ≡ isAmount kd
     pub occ : occOf (r .occ) ≡ o
     pub some : 0 < r .start
@@ -64,8 +64,8 @@ module _ (t : List ℕ) (d : ℕ → Shape) (rows : ℕ) where
 abbrev pub Tied : Version → ℕ → Shape → Row → Type 0
 Tied v k sh r = TiedBy (tags v) (due v) (manyRows v) k sh r
 
-abbrev pub Kept : Version → Row → Type 0
-Kept v r = KeptBy (tags v) (due v) (manyRows v) r
+abbrev pub RowKept : Version → Row → Type 0
+RowKept v r = KeptBy (tags v) (due v) (manyRows v) r
 
 -- ---- what every row has that is no end, and what a row's tags have
 module _ (v : Version) (k : ℕ) (r : Row) where

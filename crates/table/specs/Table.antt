@@ -15,7 +15,7 @@ use Rattle.profile.specs.declared.Simple.the-variants.{Reference, Text70, Text1
 use Rattle.profile.specs.declared.Field.{Field}
 use Rattle.profile.specs.declared.Field.the-variants.{MsgId}
 use Rattle.profile.specs.Version.{Version}
-use Rattle.profile.specs.Fields.{fields, numberOf}
+use Rattle.profile.specs.Fields.{fields, fieldNumber}
 use Rattle.profile.specs.Kinds.{isAmount}
 use Rattle.profile.specs.Tree.{Occ, once, optional, many, more, Shape, end, leaf, group}
 use Rattle.profile.specs.Profile.{inHeader, profile}
@@ -47,30 +47,30 @@ kinds =
 unfoldable pub kindOf : ℕ → Kind
 kindOf n = getD kinds (n - 2) (Plain Reference)
 
-abbrev simpleNumber : Simple → ℕ
-simpleNumber Reference = 2
-simpleNumber Text70 = 6
-simpleNumber Text140 = 7
-simpleNumber Date = 8
-simpleNumber Time = 9
-simpleNumber Bic = 10
-simpleNumber Iban = 11
-simpleNumber Identifier = 12
+abbrev simpleInTable : Simple → ℕ
+simpleInTable Reference = 2
+simpleInTable Text70 = 6
+simpleInTable Text140 = 7
+simpleInTable Date = 8
+simpleInTable Time = 9
+simpleInTable Bic = 10
+simpleInTable Iban = 11
+simpleInTable Identifier = 12
 
-abbrev codeNumber : code.Element → ℕ
-codeNumber code.the-variants.SttlmMtd = 13
-codeNumber code.the-variants.SvcLvl = 14
-codeNumber code.the-variants.LclInstrm = 15
-codeNumber code.the-variants.SeqTp = 16
-codeNumber code.the-variants.ChrgBr = 17
-codeNumber code.the-variants.Prtry = 18
+abbrev codeInTable : code.Element → ℕ
+codeInTable code.the-variants.SttlmMtd = 13
+codeInTable code.the-variants.SvcLvl = 14
+codeInTable code.the-variants.LclInstrm = 15
+codeInTable code.the-variants.SeqTp = 16
+codeInTable code.the-variants.ChrgBr = 17
+codeInTable code.the-variants.Prtry = 18
 
-abbrev pub kindNumber : Kind → ℕ
-kindNumber (Plain s) = simpleNumber s
-kindNumber Total = 3
-kindNumber Amount = 4
-kindNumber Count = 5
-kindNumber (Code e) = codeNumber e
+abbrev pub kindInTable : Kind → ℕ
+kindInTable (Plain s) = simpleInTable s
+kindInTable Total = 3
+kindInTable Amount = 4
+kindInTable Count = 5
+kindInTable (Code e) = codeInTable e
 
 abbrev pub amountKind : ℕ → Bool
 amountKind n = either (eqb n 3) (eqb n 4)
@@ -113,7 +113,7 @@ tagsOf (group o n inner rest) = plainTag n ++ (tagsOf inner ++ tagsOf rest)
 abbrev pub numbersAt : ℕ → ℕ → Shape → List ℕ
 numbersAt k p (end n) = p ∷ 0 ∷ length (endTag n) ∷ 0 ∷ 0 ∷ 0 ∷ 0 ∷ []
 numbersAt k p (leaf o n kd f rest) =
-    p ∷ length (startText (isAmount kd) n) ∷ length (endTag n) ∷ kindNumber kd ∷ occNumber o ∷ suc k ∷ numberOf f ∷ []
+    p ∷ length (startText (isAmount kd) n) ∷ length (endTag n) ∷ kindInTable kd ∷ occNumber o ∷ suc k ∷ fieldNumber f ∷ []
 numbersAt k p (group o n inner rest) =
     p ∷ length (plainTag n) ∷ 0 ∷ 1 ∷ occNumber o ∷ (suc k + length (rowsOf inner)) ∷ 0 ∷ []
 

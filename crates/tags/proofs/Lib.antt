@@ -1,3 +1,4 @@
 pub mod Looks
 pub mod Question
 pub mod Euro
+pub mod White

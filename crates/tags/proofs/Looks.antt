@@ -1,4 +1,4 @@
--- How tests lie at the beginning of a text: what a loop over them reads, and what two lists of tests, one behind the other, say. Assumes nothing.
+-- How tests lie at the beginning of a text: what a loop over them reads, and what two lists of tests, one behind the other, say.
 use mathlib.Core.Path.{_≡_, refl, ap}
 use mathlib.Core.Bool.{Bool, true, false}
 use mathlib.Core.List.{List, [], _∷_, _++_}
@@ -15,6 +15,7 @@ use Rattle.text.proofs.Scan.{next}
 use Rattle.tags.specs.declared.Look.{Look}
 use Rattle.tags.specs.declared.Look.the-variants.{Whole, Cut, Other}
 use Rattle.text.specs.Classes.{capital}
+use Rattle.text.proofs.Truths.{never}
 use Rattle.tags.specs.Tags.{look, exactly, currency}
 
 -- ---- the tests of a text
@@ -44,12 +45,12 @@ module _ (d : ℕ → Bool) (t : List (ℕ → Bool)) (s : List ℕ) (i : ℕ) w
 -- ---- what lies there whole is no longer than the text
 pub look-fits : (t : List (ℕ → Bool)) (s : List ℕ) → look t s ≡ Whole → length t ≤ length s
 look-fits [] s e = omega arith
-look-fits (f ∷ t) [] e = absurd (let z : _≡_ {A = ℕ} 0 1 = cc in omega arith)
+look-fits (f ∷ t) [] e = never (cc)
 look-fits (f ∷ t) (c ∷ s) e = go (f c) e (look-fits t s)
   where
     go : (b : Bool) → pick b (look t s) Other ≡ Whole → (look t s ≡ Whole → length t ≤ length s) → suc (length t) ≤ suc (length s)
     go true h k = omega (arith, k h)
-    go false h k = absurd (let z : _≡_ {A = ℕ} 0 1 = cc in omega arith)
+    go false h k = never (cc)
 
 pub text-fits : (t s : List ℕ) → look (exactly t) s ≡ Whole → length t ≤ length s
 text-fits t s e = omega (arith, exactly-length t, look-fits (exactly t) s e)
@@ -61,13 +62,13 @@ look-text (c ∷ t) s = rw (eq-eqb c c refl) (look-text t s)
 
 pub whole-text : (t s : List ℕ) → look (exactly t) s ≡ Whole → s ≡ t ++ drop (length t) s
 whole-text [] s e = refl
-whole-text (d ∷ t) [] e = absurd (let z : _≡_ {A = ℕ} 0 1 = cc in omega arith)
+whole-text (d ∷ t) [] e = never (cc)
 whole-text (d ∷ t) (c ∷ s) e = go (eqb c d) refl e (whole-text t s)
   where
     go : (b : Bool) → eqb c d ≡ b → pick b (look (exactly t) s) Other ≡ Whole → (look (exactly t) s ≡ Whole → s ≡ t ++ drop (length t) s)
         → c ∷ s ≡ d ∷ t ++ drop (length t) s
     go true q e k = let z : c ≡ d = eqb-true c d q in let y : s ≡ t ++ drop (length t) s = k e in cc
-    go false q e k = absurd (let z : _≡_ {A = ℕ} 0 1 = cc in omega arith)
+    go false q e k = never (cc)
 
 -- ---- what differs within a text differs before anything
 abbrev pub isOther : Look → Bool
@@ -105,4 +106,4 @@ pub capitals : (i : ℕ) → i < 3 → getD currency i capital ≡ capital
 capitals zero h = refl
 capitals (suc zero) h = refl
 capitals (suc (suc zero)) h = refl
-capitals (suc (suc (suc i))) h = absurd (let z : ⊥ = omega arith in z)
+capitals (suc (suc (suc i))) h = never (omega arith)

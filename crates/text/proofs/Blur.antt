@@ -1,4 +1,4 @@
--- A text with every digit blurred to a zero: what a form asks goes by where digits stand, and not by which. Assumes nothing.
+-- A text with every digit blurred to a zero: what a form asks goes by where digits stand, and not by which.
 use mathlib.Core.Path.{_≡_, refl, sym, _∙_}
 use mathlib.Core.Bool.{Bool, true, false}
 use mathlib.Core.List.{List, [], _∷_, _++_, map, map-append}

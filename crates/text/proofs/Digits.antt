@@ -1,4 +1,4 @@
--- What a character's class says of its number, and of its other classes. Assumes nothing.
+-- What a character's class says of its number, and of its other classes.
 use mathlib.Core.Path.{_≡_}
 use mathlib.Core.Bool.{true, false}
 use Prim.Native.Nat.{ℕ, _≤_}

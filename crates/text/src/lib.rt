@@ -59,6 +59,7 @@ fn mask_of(k: Class) -> Mask
     }
 }
 
+// Whether the set holds the byte.
 fn is_held(m: Mask, c: u8) -> bool
     ensures { λ r. ⌜ r ≡ holds m c ⌝ }
 {

@@ -33,6 +33,7 @@ fn upto(c: u8, s: &[u8]) -> usize
     i
 }
 
+// Whether s and t hold the same bytes.
 fn is_same(s: &[u8], t: &[u8]) -> bool {
     if s.len() != t.len() {
         return false;
@@ -47,6 +48,7 @@ fn is_same(s: &[u8], t: &[u8]) -> bool {
     true
 }
 
+// The kind that a line names.
 fn kind_of(name: &[u8]) -> Kind {
     if is_same(name, b"iban") {
         return Kind::Iban;
@@ -102,14 +104,17 @@ fn ask(kind: Kind, value: &[u8], answer: &mut [u64; 3]) {
     }
 }
 
+// Writes bytes to standard output.
 fn print(s: &[u8]) {
     io::write_all(STDOUT_FILENO, s);
 }
 
+// Writes a number in decimal.
 fn print_number(n: u64) {
     io::print_decimal(STDOUT_FILENO, n);
 }
 
+// Writes what a value that passes is worth, or `yes` where nothing more is said of it.
 fn print_accepted(kind: Kind, worth: u64) {
     match kind {
         Kind::Count | Kind::ItemAmount | Kind::HeaderAmount => print_number(worth),
@@ -118,6 +123,7 @@ fn print_accepted(kind: Kind, worth: u64) {
     }
 }
 
+// Asks the face, and writes what it answers.
 fn print_answer(kind: Kind, value: &[u8]) {
     let mut answer = [0; 3];
     ask(kind, value, &mut answer);
@@ -129,6 +135,7 @@ fn print_answer(kind: Kind, value: &[u8]) {
     }
 }
 
+// Writes one line: the kind, the value in brackets, the answer.
 fn print_judged(name: &[u8], value: &[u8]) {
     print(name);
     print(b" [");
@@ -158,6 +165,7 @@ fn judge_lines(s: &[u8]) {
     }
 }
 
+// What went wrong, on standard error.
 fn complain(s: &[u8]) {
     io::write_all(STDERR_FILENO, s);
 }

@@ -1,4 +1,4 @@
--- What a form that is a checklist answers where one test fails, and where all pass. Assumes nothing.
+-- What a form that is a checklist answers where one test fails, and where all pass.
 use mathlib.Core.Path.{_≡_}
 use mathlib.Core.Bool.{Bool, true, false}
 use mathlib.Core.List.{List, [], _∷_}

@@ -1,4 +1,4 @@
--- How a loop finds two slashes, from a place on. Assumes nothing.
+-- How a loop finds two slashes, from a place on.
 use mathlib.Core.Path.{_≡_}
 use mathlib.Core.Bool.{Bool, false}
 use mathlib.Core.List.{List}

@@ -75,6 +75,7 @@ pub fn reference(s: &[u8]) -> Answer
     Answer::Yes
 }
 
+// How many characters a text of the field may have.
 fn longest_of(f: Field) -> usize
     ensures { λ r. ⌜ r ≡ longest f ⌝ }
 {

@@ -1,4 +1,4 @@
--- `accounts::iban` meets its contract. Assumes nothing.
+-- `accounts::iban` meets its contract.
 use mathlib.Core.List.{[], _∷_}
 use Rattle.answers.specs.Given.{yes, _else_}
 use Rattle.text.proofs.Truths.{yes-of, no-of, yes-not, no-not}

@@ -1,4 +1,4 @@
--- `accounts::is_bic` meets its contract. Assumes nothing.
+-- `accounts::is_bic` meets its contract.
 use lib.ListN.{length}
 use Rattle.text.proofs.Truths.{yes-not, no-not, fails, pass, lastly}
 use Rattle.accounts.proofs.Forms.{bic-long}

@@ -1,4 +1,4 @@
--- `bulk::bulk_bic` meets its contract: `tell` tells what `bic` gives. Assumes nothing.
+-- `bulk::bulk_bic` meets its contract: `tell` tells what `bic` gives.
 use borrow.Author.Needs.{needs}
 use Rattle.bulk.proofs.bulk_bic.Statement.{statement}
 use Rattle.bulk.proofs.bulk_bic.Tie as tie

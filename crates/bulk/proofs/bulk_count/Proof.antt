@@ -1,4 +1,4 @@
--- `bulk::bulk_count` meets its contract: `tell` tells what `count` gives. Assumes nothing.
+-- `bulk::bulk_count` meets its contract: `tell` tells what `count` gives.
 use borrow.Author.Needs.{needs}
 use Rattle.bulk.proofs.bulk_count.Statement.{statement}
 use Rattle.bulk.proofs.bulk_count.Tie as tie

@@ -1,4 +1,4 @@
--- `bulk::bulk_creditor_id` meets its contract: `tell` tells what `creditor_id` gives. Assumes nothing.
+-- `bulk::bulk_creditor_id` meets its contract: `tell` tells what `creditor_id` gives.
 use borrow.Author.Needs.{needs}
 use Rattle.bulk.proofs.bulk_creditor_id.Statement.{statement}
 use Rattle.bulk.proofs.bulk_creditor_id.Tie as tie

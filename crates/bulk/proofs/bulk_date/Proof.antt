@@ -1,4 +1,4 @@
--- `bulk::bulk_date` meets its contract: `tell` tells what `date` gives. Assumes nothing.
+-- `bulk::bulk_date` meets its contract: `tell` tells what `date` gives.
 use borrow.Author.Needs.{needs}
 use Rattle.bulk.proofs.bulk_date.Statement.{statement}
 use Rattle.bulk.proofs.bulk_date.Tie as tie

@@ -1,4 +1,4 @@
--- `bulk::bulk_iban` meets its contract: `tell` tells what `iban` gives. Assumes nothing.
+-- `bulk::bulk_iban` meets its contract: `tell` tells what `iban` gives.
 use borrow.Author.Needs.{needs}
 use Rattle.bulk.proofs.bulk_iban.Statement.{statement}
 use Rattle.bulk.proofs.bulk_iban.Tie as tie

@@ -1,4 +1,4 @@
--- `bulk::bulk_item` meets its contract. Assumes nothing.
+-- `bulk::bulk_item` meets its contract.
 use borrow.Author.Needs.{needs}
 use Rattle.bulk.proofs.bulk_item.Statement.{statement}
 use Rattle.bulk.proofs.bulk_item.Tie as tie

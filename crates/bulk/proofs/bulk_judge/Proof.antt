@@ -1,4 +1,4 @@
--- `bulk::bulk_judge` meets its contract. Assumes nothing.
+-- `bulk::bulk_judge` meets its contract.
 use borrow.Author.Needs.{needs}
 use Rattle.bulk.proofs.bulk_judge.Statement.{statement}
 use Rattle.bulk.proofs.bulk_judge.Tie as tie

@@ -1,4 +1,4 @@
--- `bulk::bulk_records` meets its contract: what is told is what `records` answered, and the area is as that left it. Assumes nothing.
+-- `bulk::bulk_records` meets its contract: what is told is what `records` answered, and the area is as that left it.
 use mathlib.Core.Path.{ap, _∙_}
 use Rattle.bulk.specs.Told.{toldVerdict}
 use borrow.Author.Needs.{needs}

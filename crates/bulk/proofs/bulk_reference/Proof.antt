@@ -1,4 +1,4 @@
--- `bulk::bulk_reference` meets its contract: `tell` tells what `reference` gives. Assumes nothing.
+-- `bulk::bulk_reference` meets its contract: `tell` tells what `reference` gives.
 use borrow.Author.Needs.{needs}
 use Rattle.bulk.proofs.bulk_reference.Statement.{statement}
 use Rattle.bulk.proofs.bulk_reference.Tie as tie

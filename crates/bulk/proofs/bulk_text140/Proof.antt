@@ -1,4 +1,4 @@
--- `bulk::bulk_text140` meets its contract: `tell` tells what `text` gives. Assumes nothing.
+-- `bulk::bulk_text140` meets its contract: `tell` tells what `text` gives.
 use borrow.Author.Needs.{needs}
 use Rattle.bulk.proofs.bulk_text140.Statement.{statement}
 use Rattle.bulk.proofs.bulk_text140.Tie as tie

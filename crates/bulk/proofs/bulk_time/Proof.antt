@@ -1,4 +1,4 @@
--- `bulk::bulk_time` meets its contract: `tell` tells what `time` gives. Assumes nothing.
+-- `bulk::bulk_time` meets its contract: `tell` tells what `time` gives.
 use borrow.Author.Needs.{needs}
 use Rattle.bulk.proofs.bulk_time.Statement.{statement}
 use Rattle.bulk.proofs.bulk_time.Tie as tie

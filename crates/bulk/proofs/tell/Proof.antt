@@ -1,4 +1,4 @@
--- `bulk::tell` meets its contract: the words are the answer's number, its value and 0. Assumes nothing.
+-- `bulk::tell` meets its contract: the words are the answer's number, its value and 0.
 use borrow.Author.Needs.{needs}
 use Rattle.answers.specs.Given.{given}
 use Rattle.bulk.proofs.Tells.{tells}

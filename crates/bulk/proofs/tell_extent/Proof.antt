@@ -1,4 +1,4 @@
--- `bulk::tell_extent` meets its contract. Assumes nothing.
+-- `bulk::tell_extent` meets its contract.
 use borrow.Author.Needs.{needs}
 use Rattle.bulk.proofs.tell_extent.Statement.{statement}
 use Rattle.bulk.proofs.tell_extent.Tie as tie

@@ -1,4 +1,4 @@
--- `bulk::tell_verdict` meets its contract. Assumes nothing.
+-- `bulk::tell_verdict` meets its contract.
 use borrow.Author.Needs.{needs}
 use Rattle.bulk.proofs.tell_verdict.Statement.{statement}
 use Rattle.bulk.proofs.tell_verdict.Tie as tie

@@ -1,4 +1,4 @@
--- `calendar::date` meets its contract. Assumes nothing.
+-- `calendar::date` meets its contract.
 use Rattle.text.proofs.Truths.{yes-of, no-of}
 use Rattle.calendar.specs.Date.{dateGiven}
 use borrow.Author.Needs.{needs}

@@ -1,4 +1,4 @@
--- `calendar::days_in` meets its contract. Assumes nothing.
+-- `calendar::days_in` meets its contract.
 use Rattle.text.proofs.Truths.{tests, yes-of, no-of}
 use Rattle.calendar.specs.Date.{daysIn}
 use borrow.Author.Needs.{needs}

@@ -1,4 +1,4 @@
--- `calendar::is_clock` meets its contract. Assumes nothing.
+-- `calendar::is_clock` meets its contract.
 use native.Mathlib.Omega.{arith}
 use mathlib.Core.Path.{_≡_, sym}
 use mathlib.Core.Bool.{true}

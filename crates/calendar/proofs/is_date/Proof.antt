@@ -1,4 +1,4 @@
--- `calendar::is_date` meets its contract. Assumes nothing.
+-- `calendar::is_date` meets its contract.
 use native.Mathlib.Omega.{arith}
 use mathlib.Core.Path.{_≡_, _∙_, sym}
 use mathlib.Core.Bool.{true}

@@ -1,4 +1,4 @@
--- `calendar::is_day` meets its contract. Assumes nothing.
+-- `calendar::is_day` meets its contract.
 use Rattle.text.proofs.Truths.{tests}
 use Rattle.calendar.specs.Date.{realDay}
 use borrow.Author.Needs.{needs}

@@ -1,4 +1,4 @@
--- `calendar::is_end` meets its contract. Assumes nothing.
+-- `calendar::is_end` meets its contract.
 use mathlib.Core.Path.{_∙_, sym, ap}
 use lib.Seq.{length-take-le}
 use Rattle.text.proofs.Truths.{yes-of, no-of}

@@ -1,4 +1,4 @@
--- `calendar::is_leap` meets its contract. Assumes nothing.
+-- `calendar::is_leap` meets its contract.
 use Rattle.text.proofs.Truths.{tests}
 use Rattle.calendar.specs.Date.{leap}
 use Rattle.calendar.proofs.is_leap.Statement.{statement}

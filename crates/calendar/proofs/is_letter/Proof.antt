@@ -1,4 +1,4 @@
--- `calendar::is_letter` meets its contract. Assumes nothing.
+-- `calendar::is_letter` meets its contract.
 use Prim.Native.Nat.{_<_}
 use native.Mathlib.Omega.{arith}
 use Rattle.calendar.proofs.Written.{letter-range}

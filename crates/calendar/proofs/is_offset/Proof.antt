@@ -1,4 +1,4 @@
--- `calendar::is_offset` meets its contract. Assumes nothing.
+-- `calendar::is_offset` meets its contract.
 use mathlib.Core.Path.{_≡_, _∙_, sym, ap}
 use lib.ListN.{drop}
 use Rattle.text.proofs.Truths.{yes-not, no-not, fails, pass, lastly}

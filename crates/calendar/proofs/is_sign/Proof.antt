@@ -1,4 +1,4 @@
--- `calendar::is_sign` meets its contract. Assumes nothing.
+-- `calendar::is_sign` meets its contract.
 use Rattle.text.proofs.Truths.{tests}
 use Rattle.text.specs.Quoted.{among}
 use Rattle.calendar.proofs.is_sign.Statement.{statement}

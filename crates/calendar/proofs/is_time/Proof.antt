@@ -1,4 +1,4 @@
--- `calendar::is_time` meets its contract. Assumes nothing.
+-- `calendar::is_time` meets its contract.
 use native.Mathlib.Omega.{arith}
 use borrow.Author.Tests.{eq-eqb, ne-eqb}
 use mathlib.Core.Path.{_∙_, sym, ap}

@@ -1,4 +1,4 @@
--- `calendar::is_written` meets its contract. Assumes nothing.
+-- `calendar::is_written` meets its contract.
 use borrow.Author.Needs.{needs}
 use Prim.Native.Nat.{_≤_, _-_}
 use native.Mathlib.Omega.{arith}

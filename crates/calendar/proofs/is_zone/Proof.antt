@@ -1,4 +1,4 @@
--- `calendar::is_zone` meets its contract. Assumes nothing.
+-- `calendar::is_zone` meets its contract.
 use mathlib.Core.Path.{_∙_}
 use Rattle.text.proofs.Truths.{yes-of, no-of}
 use Rattle.calendar.proofs.Times.{zone-none, zone-z, zone-offset}

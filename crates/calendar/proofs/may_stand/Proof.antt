@@ -1,4 +1,4 @@
--- `calendar::may_stand` meets its contract. Assumes nothing.
+-- `calendar::may_stand` meets its contract.
 use Rattle.text.proofs.Truths.{yes-of, no-of}
 use Rattle.calendar.specs.Pattern.{stands}
 use Rattle.text.specs.Classes.{inClass}

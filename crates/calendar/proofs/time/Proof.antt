@@ -1,4 +1,4 @@
--- `calendar::time` meets its contract. Assumes nothing.
+-- `calendar::time` meets its contract.
 use Rattle.text.proofs.Truths.{yes-of, no-of}
 use Rattle.calendar.specs.Time.{timeGiven}
 use borrow.Author.Needs.{needs}

@@ -1,4 +1,4 @@
--- `calendar::two_at` meets its contract. Assumes nothing.
+-- `calendar::two_at` meets its contract.
 use native.Mathlib.Omega.{arith}
 use mathlib.Core.Path.{_∙_, sym, ap}
 use Prim.Native.Nat.{_+_}

@@ -1,4 +1,4 @@
--- `check97::leaves_one` meets its contract. Assumes nothing.
+-- `check97::leaves_one` meets its contract.
 use Rattle.check97.proofs.Turned.{leaves-one}
 use borrow.Author.Needs.{needs}
 use Rattle.check97.proofs.leaves_one.Statement.{statement}

@@ -1,17 +1,17 @@
--- `check97::remainder` meets its contract. Assumes nothing.
+-- `check97::remainder` meets its contract.
 use borrow.Author.Needs.{needs}
 use native.Mathlib.Omega.{arith}
 use mathlib.Core.Path.{_≡_, _∙_, sym, ap}
 use Prim.Native.Nat.{ℕ, _≤_, _<_, _+_, _-_, _%_}
 use lib.ListN.{length, drop, getD}
-use Rattle.text.specs.Quoted.{onward}
+use Rattle.text.specs.Quoted.{followedBy}
 use Rattle.check97.specs.Check.{spell, spelled}
 use Rattle.check97.proofs.Modulo.{same-behind, spelled-next, spelled-end}
 use Rattle.check97.proofs.remainder.Statement.{statement}
 use Rattle.check97.proofs.remainder.Tie as tie
 
 abbrev Inv-loop : tie.InvT-loop
-Inv-loop r s t₀ i₀ t i = (i ≤ length s) × (t < 97) × (onward t (spelled (drop i s)) % 97 ≡ onward r (spelled s) % 97)
+Inv-loop r s t₀ i₀ t i = (i ≤ length s) × (t < 97) × (followedBy t (spelled (drop i s)) % 97 ≡ followedBy r (spelled s) % 97)
 
 abbrev μ-loop : tie.MeasureT-loop
 μ-loop r s t₀ i₀ t i = length s - i
@@ -36,7 +36,7 @@ loop-again c =
     let l = c .before .before .before .loop in
     let s = c .before .before .before .before .before .args .s .now in
     let e = c .step .ensures in
-    (omega arith, omega arith, same-behind (c .step .result) (onward (l .t) (spell (getD s (l .i) 0))) (spelled (drop (l .i + 1) s)) (omega arith) ∙ ap (λ (k : ℕ). k % 97) (sym (spelled-next (l .t) s (l .i) (omega arith))) ∙ l .inv .2)
+    (omega arith, omega arith, same-behind (c .step .result) (followedBy (l .t) (spell (getD s (l .i) 0))) (spelled (drop (l .i + 1) s)) (omega arith) ∙ ap (λ (k : ℕ). k % 97) (sym (spelled-next (l .t) s (l .i) (omega arith))) ∙ l .inv .2)
 
 returns : tie.Need-returns Inv-loop μ-loop
 returns c = omega (arith, spelled-end (c .before .loop .t) (c .before .before .before .args .s .now) (c .before .loop .i) (omega arith))

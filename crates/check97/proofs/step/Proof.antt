@@ -1,4 +1,4 @@
--- `check97::step` meets its contract. Assumes nothing.
+-- `check97::step` meets its contract.
 use native.Mathlib.Omega.{arith}
 use mathlib.Core.Path.{ap, sym}
 use Prim.Native.Nat.{ℕ, _%_}

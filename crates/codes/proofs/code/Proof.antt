@@ -1,4 +1,4 @@
--- `codes::code` meets its contract: each arm asks for the codes of its element. Assumes nothing.
+-- `codes::code` meets its contract: each arm asks for the codes of its element.
 use borrow.Author.Needs.{needs}
 use Rattle.codes.specs.Listed.{codeGiven}
 use Rattle.codes.proofs.code.Statement.{statement}

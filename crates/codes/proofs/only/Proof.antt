@@ -1,4 +1,4 @@
--- `codes::only` meets its contract. Assumes nothing.
+-- `codes::only` meets its contract.
 use mathlib.Core.Path.{refl}
 use borrow.Author.Needs.{needs}
 use Rattle.codes.proofs.Places.{here, beyond}

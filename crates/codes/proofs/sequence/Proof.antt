@@ -1,4 +1,4 @@
--- `codes::sequence` meets its contract: a quoted text of the list and the code's byte string are the same bytes. Assumes nothing.
+-- `codes::sequence` meets its contract: a quoted text of the list and the code's byte string are the same bytes.
 use mathlib.Core.Path.{refl}
 use borrow.Author.Needs.{needs}
 use Rattle.codes.proofs.Places.{here, beyond}

@@ -36,7 +36,16 @@ enum-told : tie.Need-enum-told
 enum-told c = search needs
 
 add-t14 : tie.Need-add-t14
-add-t14 c = omega (arith, root-fits (c .before .before .before .before .before .before .before .args .m .now) (c .before .before .before .before .before .before .before .args .from) (c .before .before .before .before .spaces .result) (c .before .before .before .before .before .before .before .pre) (c .before .before .before .before .spaces .ensures) (c .before .before .root-at .result) (c .before .before .root-at .ensures) (c .enum-told .given .1))
+add-t14 c =
+    let a = c .before .before .before .before .before .before .before .args in
+    let the-pre = c .before .before .before .before .before .before .before .pre in
+    let the-spaces = c .before .before .before .before .spaces in
+    let the-root-at = c .before .before .root-at in
+    omega (
+      arith,
+      root-fits (a .m .now) (a .from) (the-spaces .result) (the-pre) (the-spaces .ensures) (the-root-at .result) (the-root-at .ensures)
+          (c .enum-told .given .1),
+    )
 
 enum-told-2 : tie.Need-enum-told-2
 enum-told-2 c = search needs
@@ -45,13 +54,28 @@ enum-told-3 : tie.Need-enum-told-3
 enum-told-3 c = search needs
 
 returns : tie.Need-returns
-returns c = root-whole (c .before .before .before .before .before .before .before .args .m .now) (c .before .before .before .before .before .before .before .args .from) (c .before .before .before .before .spaces .result) (c .before .before .before .before .before .before .before .pre) (c .before .before .before .before .spaces .ensures) (c .before .before .root-at .result) (c .before .before .root-at .ensures) (c .enum-told .given .1)
+returns c =
+    let a = c .before .before .before .before .before .before .before .args in
+    let the-pre = c .before .before .before .before .before .before .before .pre in
+    let the-spaces = c .before .before .before .before .spaces in
+    let the-root-at = c .before .before .root-at in
+    root-whole (a .m .now) (a .from) (the-spaces .result) (the-pre) (the-spaces .ensures) (the-root-at .result) (the-root-at .ensures) (c .enum-told .given .1)
 
 returns-2 : tie.Need-returns-2
-returns-2 c = root-cut (c .before .before .before .before .before .before .before .args .m .now) (c .before .before .before .before .before .before .before .args .from) (c .before .before .before .before .spaces .result) (c .before .before .before .before .before .before .before .pre) (c .before .before .before .before .spaces .ensures) (c .before .before .root-at .result) (c .before .before .root-at .ensures) (c .enum-told2 .given .1)
+returns-2 c =
+    let a = c .before .before .before .before .before .before .before .args in
+    let the-pre = c .before .before .before .before .before .before .before .pre in
+    let the-spaces = c .before .before .before .before .spaces in
+    let the-root-at = c .before .before .root-at in
+    root-cut (a .m .now) (a .from) (the-spaces .result) (the-pre) (the-spaces .ensures) (the-root-at .result) (the-root-at .ensures) (c .enum-told2 .given .1)
 
 returns-3 : tie.Need-returns-3
-returns-3 c = root-other (c .before .before .before .before .before .before .before .args .m .now) (c .before .before .before .before .before .before .before .args .from) (c .before .before .before .before .spaces .result) (c .before .before .before .before .before .before .before .pre) (c .before .before .before .before .spaces .ensures) (c .before .before .root-at .result) (c .before .before .root-at .ensures) (c .enum-told3 .given .1)
+returns-3 c =
+    let a = c .before .before .before .before .before .before .before .args in
+    let the-pre = c .before .before .before .before .before .before .before .pre in
+    let the-spaces = c .before .before .before .before .spaces in
+    let the-root-at = c .before .before .root-at in
+    root-other (a .m .now) (a .from) (the-spaces .result) (the-pre) (the-spaces .ensures) (the-root-at .result) (the-root-at .ensures) (c .enum-told3 .given .1)
 
 pub enter-root-spec : {M : Type 1} → statement M
 enter-root-spec =

@@ -1,7 +1,7 @@
 -- `judge::find` meets its contract.
 use mathlib.Core.Path.{_∙_, ap, sym}
 use borrow.Author.Tests.{lt-ltb, le-ltb}
-use Rattle.notes.specs.Steps.{stated, meant, stepped}
+use Rattle.notes.specs.Steps.{stated, metIn, stepped}
 use Rattle.judge.specs.Engine.{concludedIn}
 use Rattle.judge.proofs.Judges.{found-long, found-in}
 use Rattle.judge.proofs.Ends.{fine-at}
@@ -22,7 +22,11 @@ enum-told : tie.Need-enum-told
 enum-told c = search needs
 
 finish-requires : tie.Need-finish-requires
-finish-requires c κs = fine-at (c .before .before .before .before .before .before .args .m .now) (stated (c .before .before .before .read-through .result .state)) (stepped (c .before .before .before .read-through .result)) (ap (λ x. meant x (c .before .before .before .read-through .result .state)) (sym (c .enum-told .given .1))) (c .before .before .before .read-through .ensures .1)
+finish-requires c κs =
+    let a = c .before .before .before .before .before .before .args in
+    let the-read-through = c .before .before .before .read-through in
+    fine-at (a .m .now) (stated (the-read-through .result .state)) (stepped (the-read-through .result))
+    (ap (λ x. metIn x (the-read-through .result .state)) (sym (c .enum-told .given .1))) (the-read-through .ensures .1)
 
 enum-known-met : tie.Need-enum-known-met
 enum-known-met c = search needs
@@ -33,13 +37,13 @@ deny-requires-2 c κs = search needs
 returns-2 : tie.Need-returns-2
 returns-2 c =
     let r = c .before .before .before .before .read-through in
-    c .finish .ensures ∙ ap (concludedIn (c .before .before .before .before .before .before .before .args .m .now)) (ap (λ x. meant x (r .result .state)) (sym (c .before .enum-told .given .1)) ∙ r .ensures .0)
+    c .finish .ensures ∙ ap (concludedIn (c .before .before .before .before .before .before .before .args .m .now)) (ap (λ x. metIn x (r .result .state)) (sym (c .before .enum-told .given .1)) ∙ r .ensures .0)
     ∙ found-in (c .before .before .before .before .before .before .before .args .m .now) (le-ltb _ _ (c .before .before .before .before .before .if1 .left))
 
 returns-3 : tie.Need-returns-3
 returns-3 c =
     let r = c .before .before .before .before .before .read-through in
-    c .deny2 .ensures ∙ ap (concludedIn (c .before .before .before .before .before .before .before .before .args .m .now)) (ap (λ x. meant x (r .result .state)) (sym (c .before .before .met .given .1)) ∙ r .ensures .0)
+    c .deny2 .ensures ∙ ap (concludedIn (c .before .before .before .before .before .before .before .before .args .m .now)) (ap (λ x. metIn x (r .result .state)) (sym (c .before .before .met .given .1)) ∙ r .ensures .0)
     ∙ found-in (c .before .before .before .before .before .before .before .before .args .m .now) (le-ltb _ _ (c .before .before .before .before .before .before .if1 .left))
 
 pub find-spec : {M : Type 1} → statement M

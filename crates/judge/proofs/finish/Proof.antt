@@ -30,13 +30,19 @@ deny-requires : tie.Need-deny-requires
 deny-requires c κs = search needs
 
 returns : tie.Need-returns
-returns c = c .deny .ensures ∙ bytes-left (c .before .before .before .before .before .before .args .m .now) (stated (c .before .before .before .before .before .before .args .st)) _ (skipped-is (c .before .before .before .before .before .before .args .m .now) (c .before .before .before .before .before .before .args .st .at) (c .before .before .spaces .result) (c .before .before .spaces .ensures)) (c .before .if1 .taken)
+returns c =
+    let a = c .before .before .before .before .before .before .args in
+    let the-spaces = c .before .before .spaces in
+    c .deny .ensures ∙ bytes-left (a .m .now) (stated (a .st)) _ (skipped-is (a .m .now) (a .st .at) (the-spaces .result) (the-spaces .ensures)) (c .before .if1 .taken)
 
 compare-requires : tie.Need-compare-requires
 compare-requires c κs = search needs
 
 returns-2 : tie.Need-returns-2
-returns-2 c = c .compare .ensures ∙ none-left (c .before .before .before .before .before .before .args .m .now) (stated (c .before .before .before .before .before .before .args .st)) _ (skipped-is (c .before .before .before .before .before .before .args .m .now) (c .before .before .before .before .before .before .args .st .at) (c .before .before .spaces .result) (c .before .before .spaces .ensures)) (c .before .if1 .left)
+returns-2 c =
+    let a = c .before .before .before .before .before .before .args in
+    let the-spaces = c .before .before .spaces in
+    c .compare .ensures ∙ none-left (a .m .now) (stated (a .st)) _ (skipped-is (a .m .now) (a .st .at) (the-spaces .result) (the-spaces .ensures)) (c .before .if1 .left)
 
 pub finish-spec : {M : Type 1} → statement M
 finish-spec =

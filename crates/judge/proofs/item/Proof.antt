@@ -21,16 +21,27 @@ enum-known-v-2 : tie.Need-enum-known-v-2
 enum-known-v-2 c = search needs
 
 returns : tie.Need-returns
-returns c = item-none (c .before .before .before .before .before .before .args .m .now) _ _ (sym (found-verdict (c .before .before .before .before .before .before .args .m .now)) ∙ ap (λ (f : Found). f .verdict) (sym (c .before .before .before .before .find .ensures)) ∙ ap meant (c .before .before .v2 .given .1)) (c .before .before .before .before .before .before .args .i) (c .if1 .taken)
+returns c =
+    let a = c .before .before .before .before .before .before .args in
+    let the-find = c .before .before .before .before .find in
+    item-none (a .m .now) _ _ (sym (found-verdict (a .m .now)) ∙ ap (λ (f : Found). f .verdict) (sym (the-find .ensures)) ∙ ap meant (c .before .before .v2 .given .1))
+    (a .i) (c .if1 .taken)
 
 walk-requires : tie.Need-walk-requires
 walk-requires c κs = search needs
 
 returns-2 : tie.Need-returns-2
-returns-2 c = item-refused (c .before .before .before .before .before .args .m .now) _ _ (c .before .before .before .before .before .args .i) (sym (found-verdict (c .before .before .before .before .before .args .m .now)) ∙ ap (λ (f : Found). f .verdict) (sym (c .before .before .before .find .ensures)) ∙ ap meant (c .before .v .given .1))
+returns-2 c =
+    let a = c .before .before .before .before .before .args in
+    item-refused (a .m .now) _ _ (a .i) (sym (found-verdict (a .m .now)) ∙ ap (λ (f : Found). f .verdict) (sym (c .before .before .before .find .ensures)) ∙ ap meant
+    (c .before .v .given .1))
 
 returns-3 : tie.Need-returns-3
-returns-3 c = c .walk .ensures ∙ item-there (c .before .before .before .before .before .before .before .args .m .now) _ _ (sym (found-verdict (c .before .before .before .before .before .before .before .args .m .now)) ∙ ap (λ (f : Found). f .verdict) (sym (c .before .before .before .before .before .find .ensures)) ∙ ap meant (c .before .before .before .v2 .given .1)) (c .before .before .before .before .before .before .before .args .i) (c .before .if1 .left) _ (ap (λ (f : Found). f .first) (c .before .before .before .before .before .find .ensures))
+returns-3 c =
+    let a = c .before .before .before .before .before .before .before .args in
+    let the-find = c .before .before .before .before .before .find in
+    c .walk .ensures ∙ item-there (a .m .now) _ _ (sym (found-verdict (a .m .now)) ∙ ap (λ (f : Found). f .verdict) (sym (the-find .ensures)) ∙ ap meant
+    (c .before .before .before .v2 .given .1)) (a .i) (c .before .if1 .left) _ (ap (λ (f : Found). f .first) (the-find .ensures))
 
 pub item-spec : {M : Type 1} → statement M
 item-spec =

@@ -26,10 +26,22 @@ refuse-requires : tie.Need-refuse-requires
 refuse-requires c κs = search needs
 
 returns : tie.Need-returns
-returns c = (through-from (c .before .before .before .before .before .before .args .m .now) (c .before .before .before .before .before .before .pre) (openedAs (c .before .before .before .before .open-message .result)) (c .before .before .before .before .open-message .ensures .0) (c .before .before .before .before .open-message .ensures .1) _ (ap openedAs (sym (c .before .before .p .given .1))) (stepped (c .message .result)) (c .message .ensures .0), c .message .ensures .1)
+returns c =
+    let a = c .before .before .before .before .before .before .args in
+    let the-pre = c .before .before .before .before .before .before .pre in
+    let the-open-message = c .before .before .before .before .open-message in (
+      through-from (a .m .now) (the-pre) (openedAs (the-open-message .result)) (the-open-message .ensures .0) (the-open-message .ensures .1) _
+          (ap openedAs (sym (c .before .before .p .given .1))) (stepped (c .message .result)) (c .message .ensures .0),
+      c .message .ensures .1,
+    )
 
 returns-2 : tie.Need-returns-2
-returns-2 c = through-faulty (c .before .before .before .before .before .before .before .args .m .now) (c .before .before .before .before .before .before .before .pre) (openedAs (c .before .before .before .before .before .open-message .result)) (c .before .before .before .before .before .open-message .ensures .0) (c .before .before .before .before .before .open-message .ensures .1) _ _ (ap openedAs (sym (c .before .before .before .number .given .1))) (stepped (c .refuse .result)) (c .refuse .ensures)
+returns-2 c =
+    let a = c .before .before .before .before .before .before .before .args in
+    let the-pre = c .before .before .before .before .before .before .before .pre in
+    let the-open-message = c .before .before .before .before .before .open-message in
+    through-faulty (a .m .now) (the-pre) (openedAs (the-open-message .result)) (the-open-message .ensures .0) (the-open-message .ensures .1) _ _
+    (ap openedAs (sym (c .before .before .before .number .given .1))) (stepped (c .refuse .result)) (c .refuse .ensures)
 
 pub read-through-spec : {M : Type 1} → statement M
 read-through-spec =

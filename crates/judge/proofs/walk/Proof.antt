@@ -3,7 +3,7 @@ use mathlib.Core.Path.{_≡_, _∙_, ap, sym, refl}
 use borrow.Author.Needs.{needs}
 use native.Mathlib.Omega.{arith}
 use Rattle.profile.specs.Version.{v02}
-use Rattle.notes.specs.Steps.{stated, meant}
+use Rattle.notes.specs.Steps.{stated, metIn}
 use Rattle.judge.specs.Engine.{walkedIn}
 use Rattle.judge.proofs.Walks.{walk-stops, walk-here, walk-on}
 use Rattle.judge.proofs.walk.Statement.{statement}
@@ -25,7 +25,12 @@ enum-known-met : tie.Need-enum-known-met Inv-loop μ-loop
 enum-known-met c = search needs
 
 returns : tie.Need-returns Inv-loop μ-loop
-returns c = walk-stops v02 (c .before .before .before .before .before .before .before .args .m .now) (c .before .before .before .before .before .before .before .args .i) (c .before .before .before .before .before .before .before .args .first) (c .before .before .before .before .before .loop .left) (c .before .before .before .before .before .loop .at) (c .before .before .before .before .before .loop .inv) _ _ (ap (λ x. meant x (c .before .before .before .before .item .result .state)) (sym (c .before .met .given .1)) ∙ c .before .before .before .before .item .ensures .0)
+returns c =
+    let a = c .before .before .before .before .before .before .before .args in
+    let the-loop = c .before .before .before .before .before .loop in
+    let the-item = c .before .before .before .before .item in
+    walk-stops v02 (a .m .now) (a .i) (a .first) (the-loop .left) (the-loop .at) (the-loop .inv) _ _
+    (ap (λ x. metIn x (the-item .result .state)) (sym (c .before .met .given .1)) ∙ the-item .ensures .0)
 
 enum-told : tie.Need-enum-told Inv-loop μ-loop
 enum-told c = search needs
@@ -37,7 +42,13 @@ begin-at-requires : tie.Need-begin-at-requires Inv-loop μ-loop
 begin-at-requires c κs = search needs
 
 returns-2 : tie.Need-returns-2 Inv-loop μ-loop
-returns-2 c = walk-here v02 (c .before .before .before .before .before .before .before .before .before .args .m .now) (c .before .before .before .before .before .before .before .before .before .args .i) (c .before .before .before .before .before .before .before .before .before .args .first) (c .before .before .before .before .before .before .before .loop .left) (c .before .before .before .before .before .before .before .loop .at) (c .before .before .before .before .before .before .before .loop .inv) (stated (c .before .before .before .before .before .before .item .result .state)) (ap (λ x. meant x (c .before .before .before .before .before .before .item .result .state)) (sym (c .before .before .before .enum-told .given .1)) ∙ c .before .before .before .before .before .before .item .ensures .0) (c .before .if1 .taken) (c .begin-at .result) (c .begin-at .ensures)
+returns-2 c =
+    let a = c .before .before .before .before .before .before .before .before .before .args in
+    let the-loop = c .before .before .before .before .before .before .before .loop in
+    let the-item = c .before .before .before .before .before .before .item in
+    walk-here v02 (a .m .now) (a .i) (a .first) (the-loop .left) (the-loop .at) (the-loop .inv) (stated (the-item .result .state))
+    (ap (λ x. metIn x (the-item .result .state)) (sym (c .before .before .before .enum-told .given .1)) ∙ the-item .ensures .0) (c .before .if1 .taken)
+    (c .begin-at .result) (c .begin-at .ensures)
 
 sub-left : tie.Need-sub-left Inv-loop μ-loop
 sub-left c = search needs
@@ -46,7 +57,12 @@ loop-less : tie.Need-loop-less Inv-loop μ-loop
 loop-less c = search needs
 
 loop-again : tie.Need-loop-again Inv-loop μ-loop
-loop-again c = walk-on v02 (c .before .before .before .before .before .before .before .before .args .m .now) (c .before .before .before .before .before .before .before .before .args .i) (c .before .before .before .before .before .before .before .before .args .first) (c .before .before .before .before .before .before .loop .left) (c .before .before .before .before .before .before .loop .at) (c .before .before .before .before .before .before .loop .inv) (stated (c .before .before .before .before .before .item .result .state)) (ap (λ x. meant x (c .before .before .before .before .before .item .result .state)) (sym (c .before .before .enum-told .given .1)) ∙ c .before .before .before .before .before .item .ensures .0) (c .if1 .left)
+loop-again c =
+    let a = c .before .before .before .before .before .before .before .before .args in
+    let the-loop = c .before .before .before .before .before .before .loop in
+    let the-item = c .before .before .before .before .before .item in
+    walk-on v02 (a .m .now) (a .i) (a .first) (the-loop .left) (the-loop .at) (the-loop .inv) (stated (the-item .result .state))
+    (ap (λ x. metIn x (the-item .result .state)) (sym (c .before .before .enum-told .given .1)) ∙ the-item .ensures .0) (c .if1 .left)
 
 pub walk-spec : {M : Type 1} → statement M
 walk-spec =

@@ -1,4 +1,4 @@
--- `money::amount` meets its contract. Assumes nothing.
+-- `money::amount` meets its contract.
 use native.Mathlib.Omega.{arith}
 use mathlib.Core.Path.{sym}
 use Prim.Native.Nat.{_+_, _*_, _<_}

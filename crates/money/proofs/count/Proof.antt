@@ -1,4 +1,4 @@
--- `money::count` meets its contract. Assumes nothing.
+-- `money::count` meets its contract.
 use native.Mathlib.Omega.{arith}
 use Rattle.text.specs.Classes.{inClass}
 use Rattle.text.proofs.Truths.{yes-not, no-not}

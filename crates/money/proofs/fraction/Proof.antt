@@ -1,4 +1,4 @@
--- `money::fraction` meets its contract. Assumes nothing.
+-- `money::fraction` meets its contract.
 use native.Mathlib.Omega.{arith}
 use Rattle.money.proofs.Fractions.{nothing-worth, behind-point, tenths, hundredths}
 use borrow.Author.Needs.{needs}

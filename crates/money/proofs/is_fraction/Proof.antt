@@ -1,4 +1,4 @@
--- `money::is_fraction` meets its contract. Assumes nothing.
+-- `money::is_fraction` meets its contract.
 use native.Mathlib.Omega.{arith}
 use Rattle.text.specs.Classes.{inClass}
 use Rattle.money.proofs.Fractions.{nothing, no-point, too-short, too-long, point-and-digits}

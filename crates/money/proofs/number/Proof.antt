@@ -1,4 +1,4 @@
--- `money::number` meets its contract. Assumes nothing.
+-- `money::number` meets its contract.
 use borrow.Author.Needs.{needs}
 use native.Mathlib.Omega.{arith}
 use mathlib.Core.Path.{_≡_}
@@ -6,14 +6,14 @@ use mathlib.Core.Bool.{true}
 use Prim.Native.Nat.{_≤_, _+_, _-_}
 use lib.ListN.{length, drop, getD}
 use Rattle.text.specs.Truth.{every}
-use Rattle.text.specs.Quoted.{onward, decimal}
+use Rattle.text.specs.Quoted.{followedBy, decimal}
 use Rattle.text.specs.Classes.{digit}
 use Rattle.money.proofs.Numbers.{starts, ends, Turn, turn}
 use Rattle.money.proofs.number.Statement.{statement}
 use Rattle.money.proofs.number.Tie as tie
 
 abbrev Inv-loop : tie.InvT-loop
-Inv-loop s n₀ i₀ n i = (i ≤ length s) × (onward n (drop i s) ≡ decimal s) × (every digit (drop i s) ≡ true)
+Inv-loop s n₀ i₀ n i = (i ≤ length s) × (followedBy n (drop i s) ≡ decimal s) × (every digit (drop i s) ≡ true)
 
 abbrev μ-loop : tie.MeasureT-loop
 μ-loop s n₀ i₀ n i = length s - i

@@ -26,7 +26,9 @@ read-on-requires : tie.Need-read-on-requires
 read-on-requires c κs = search needs
 
 returns-3 : tie.Need-returns-3
-returns-3 c = c .read-on .ensures ∙ ap on (c .before .with-cents .ensures) ∙ sum-within (c .before .before .before .before .before .args .cents) (c .before .before .before .before .before .args .st .at) (c .before .before .before .before .before .args .st .notes) (omega arith)
+returns-3 c =
+    let a = c .before .before .before .before .before .args in
+    c .read-on .ensures ∙ ap on (c .before .with-cents .ensures) ∙ sum-within (a .cents) (a .st .at) (a .st .notes) (omega arith)
 
 pub add-up-spec : {M : Type 1} → statement M
 add-up-spec =

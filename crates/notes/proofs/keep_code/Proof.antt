@@ -6,8 +6,8 @@ use Rattle.notes.proofs.keep_code.Tie as tie
 enum-told : tie.Need-enum-told
 enum-told c = search needs
 
-serve-requires : tie.Need-serve-requires
-serve-requires c κs = search needs
+keep-service-requires : tie.Need-keep-service-requires
+keep-service-requires c κs = search needs
 
 enum-told-2 : tie.Need-enum-told-2
 enum-told-2 c = search needs
@@ -40,7 +40,7 @@ read-on-requires-5 : tie.Need-read-on-requires-5
 read-on-requires-5 c κs = search needs
 
 returns : tie.Need-returns
-returns c = rw (c .before .enum-told .given .1) (c .serve .ensures)
+returns c = rw (c .before .enum-told .given .1) (c .keep-service .ensures)
 
 returns-2 : tie.Need-returns-2
 returns-2 c = rw (c .before .enum-told2 .given .1) (c .read-on .ensures)
@@ -62,7 +62,7 @@ keep-code-spec =
     tie.close
     (tie.spec
     enum-told
-    serve-requires
+    keep-service-requires
     enum-told-2
     read-on-requires
     enum-told-3

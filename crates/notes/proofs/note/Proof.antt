@@ -2,8 +2,8 @@
 use mathlib.Core.Path.{_∙_, ap, sym}
 use Rattle.answers.specs.Given.{valueOf}
 use Rattle.reading.specs.Noted.{on}
-use Rattle.notes.specs.Steps.{meant}
-use Rattle.notes.proofs.Notings.{listed, refused-kind, kept-on, kept-stop}
+use Rattle.notes.specs.Steps.{metIn}
+use Rattle.notes.proofs.Notings.{listed-worth, refused-kind, kept-on, kept-stop}
 use borrow.Author.Needs.{needs}
 use Rattle.notes.proofs.note.Statement.{statement}
 use Rattle.notes.proofs.note.Tie as tie
@@ -30,7 +30,7 @@ value-requires c κs = search needs
 keep-requires : tie.Need-keep-requires
 keep-requires c κs =
     let a = c .before .before .before .before .before .args in
-    listed (a .k) (a .v .now) (c .value .result) (c .value .ensures ∙ ap valueOf (c .before .before .before .judge-value .ensures))
+    listed-worth (a .k) (a .v .now) (c .value .result) (c .value .ensures ∙ ap valueOf (c .before .before .before .judge-value .ensures))
 
 enum-told : tie.Need-enum-told
 enum-told c = search needs
@@ -56,7 +56,7 @@ returns-2 c =
     let k = c .before .before .before .before .before .keep in
     c .read-on .ensures ∙ ap on (c .before .with-start .ensures)
     ∙ kept-on (a .k) (a .f) (a .v .now) (a .st .at) (a .st .notes) (j .result) (j .ensures) (i .result) (i .ensures) (c .before .before .before .before .before .before .before .if1 .left) (w .result) (w .ensures) (k .result .state)
-    (ap (λ x. meant x (k .result .state)) (sym (c .before .before .enum-told .given .1)) ∙ k .ensures)
+    (ap (λ x. metIn x (k .result .state)) (sym (c .before .before .enum-told .given .1)) ∙ k .ensures)
 
 returns-3 : tie.Need-returns-3
 returns-3 c =
@@ -67,7 +67,7 @@ returns-3 c =
     let k = c .before .before .before .before .before .keep in
     c .refuse .ensures
     ∙ kept-stop (a .k) (a .f) (a .v .now) (a .st .at) (a .st .notes) (j .result) (j .ensures) (i .result) (i .ensures) (c .before .before .before .before .before .before .before .if1 .left) (w .result) (w .ensures) _ _
-    (ap (λ x. meant x (k .result .state)) (sym (c .before .before .met .given .1)) ∙ k .ensures)
+    (ap (λ x. metIn x (k .result .state)) (sym (c .before .before .met .given .1)) ∙ k .ensures)
 
 pub note-spec : {M : Type 1} → statement M
 note-spec =

@@ -9,10 +9,10 @@ use Rattle.profile.specs.Version.{v02}
 use Rattle.table.specs.Table.{due, closesBy}
 use Rattle.table.proofs.Tied.{element-row, some-start, end-finish, leaf-finish, group-below as group-below-row}
 use Rattle.table.proofs.Rows.{row-tied, few-rows}
-use Rattle.notes.specs.Steps.{stated, meant, stepped, reads}
+use Rattle.notes.specs.Steps.{stated, metIn, stepped, reads}
 use Rattle.notes.proofs.Stays.{later}
 use Rattle.reader.specs.Reader.{closedBy, elementIn}
-use Rattle.reader.proofs.Steps.{told, fine-on, fine-stop}
+use Rattle.reader.proofs.Steps.{passed-on, fine-on, fine-stop}
 use Rattle.reader.proofs.Turns.{deep, deepIn, element-deep}
 use Rattle.reader.proofs.Rows.{tells, ended, element-stops, element-group, element-value, inner-deep, within}
 use Rattle.reader.proofs.Loops.{Loop, begin, loop-end, loop-stop, loop-pass, loop-fail, loop-next, loop-more}
@@ -114,23 +114,26 @@ element-add-group n c =
 
 element-group-requires : (t : ℕ) → element-lts.Need-group-requires (element-calls t) (element-at t) element.Post
 element-group-requires n c κs =
-    let a = c .before .before .before .before .before .before .before .before .before in
     let r = c .before .before .before .before .before .before .row-at in
-    let w = row-tied v02 (a .args .rows .now) (a .args .k) (r .result) (r .ensures) (a .pre .1 .5) (a .pre .1 .1) in
     let e = c .before .before .before .before .before .enter in
-    let q = ap (λ x. meant x (e .result .state)) (sym (c .before .before .enum-told .given .1)) in
-    let g = fine-on (a .args .m .now) (a .args .st .at + 1) (stepped (e .result)) (stated (e .result .state)) q (e .ensures .1) in
-    (omega (arith, a .pre .0, g .0 .within, g .1, inner-deep v02 (a .args .k) (r .result) (due v02 (a .args .k)) (w .0) (a .pre .1 .2) (c .if1 .taken)), (g .0, group-below-row v02 (a .args .k) (r .result) (due v02 (a .args .k)) (w .0) (a .pre .1 .2) (c .if1 .taken), a .pre .1 .4, a .pre .1 .5))
+    let a = c .before .before .before .before .before .before .before .before .before in
+    let w = row-tied v02 (a .args .rows .now) (a .args .k) (r .result) (r .ensures) (a .pre .1 .5) (a .pre .1 .1) in
+    let q = ap (λ x. metIn x (e .result .state)) (sym (c .before .before .enum-told .given .1)) in
+    let g = fine-on (a .args .m .now) (a .args .st .at + 1) (stepped (e .result)) (stated (e .result .state)) q (e .ensures .1) in (
+      omega (arith, a .pre .0, g .0 .within, g .1, inner-deep v02 (a .args .k) (r .result) (due v02 (a .args .k)) (w .0) (a .pre .1 .2) (c .if1 .taken)),
+      (g .0, group-below-row v02 (a .args .k) (r .result) (due v02 (a .args .k)) (w .0) (a .pre .1 .2) (c .if1 .taken), a .pre .1 .4, a .pre .1 .5),
+    )
 
 element-returns : (t : ℕ) → element-lts.Need-returns (element-calls t) (element-at t) element.Post
 element-returns n c =
-    let a = c .before .before .before .before .before .before .before .before .before .before in
     let r = c .before .before .before .before .before .before .before .row-at in
-    let w = row-tied v02 (a .args .rows .now) (a .args .k) (r .result) (r .ensures) (a .pre .1 .5) (a .pre .1 .1) in
     let e = c .before .before .before .before .before .before .enter in
-    let q = ap (λ x. meant x (e .result .state)) (sym (c .before .before .before .enum-told .given .1)) in
+    let a = c .before .before .before .before .before .before .before .before .before .before in
+    let w = row-tied v02 (a .args .rows .now) (a .args .k) (r .result) (r .ensures) (a .pre .1 .5) (a .pre .1 .1) in
+    let q = ap (λ x. metIn x (e .result .state)) (sym (c .before .before .before .enum-told .given .1)) in
     let g = fine-on (a .args .m .now) (a .args .st .at + 1) (stepped (e .result)) (stated (e .result .state)) q (e .ensures .1) in (
-      c .group .ensures .0 ∙ element-group v02 (a .args .k) (r .result) (a .args .m .now) (a .args .st .at) (a .args .st .notes) (stated (e .result .state)) (q ∙ e .ensures .0) (due v02 (a .args .k)) (w .0) (a .pre .1 .2) (c .before .if1 .taken),
+      c .group .ensures .0 ∙ element-group v02 (a .args .k) (r .result) (a .args .m .now) (a .args .st .at) (a .args .st .notes) (stated (e .result .state))
+          (q ∙ e .ensures .0) (due v02 (a .args .k)) (w .0) (a .pre .1 .2) (c .before .if1 .taken),
       later (a .args .m .now) (a .args .st .at + 1) (e .result .state .at) (g .1) (stepped (c .group .result)) (c .group .ensures .1),
     )
 
@@ -140,7 +143,7 @@ element-value-requires n c κs =
     let r = c .before .before .before .before .before .before .row-at in
     let w = row-tied v02 (a .args .rows .now) (a .args .k) (r .result) (r .ensures) (a .pre .1 .5) (a .pre .1 .1) in
     let e = c .before .before .before .before .before .enter in
-    let q = ap (λ x. meant x (e .result .state)) (sym (c .before .before .enum-told .given .1)) in
+    let q = ap (λ x. metIn x (e .result .state)) (sym (c .before .before .enum-told .given .1)) in
     let g = fine-on (a .args .m .now) (a .args .st .at + 1) (stepped (e .result)) (stated (e .result .state)) q (e .ensures .1) in
     (g .0, leaf-finish v02 (a .args .k) (r .result) (a .args .names .now) (a .pre .1 .4) (due v02 (a .args .k)) (w .0) (a .pre .1 .2) (c .if1 .left))
 
@@ -150,20 +153,21 @@ element-returns-2 n c =
     let r = c .before .before .before .before .before .before .row-at in
     let w = row-tied v02 (a .args .rows .now) (a .args .k) (r .result) (r .ensures) (a .pre .1 .5) (a .pre .1 .1) in
     let e = c .before .before .before .before .before .enter in
-    let q = ap (λ x. meant x (e .result .state)) (sym (c .before .before .met .given .1)) in
-    told (a .args .m .now) (a .args .st .at + 1) (stepped (c .refuse .result)) _ (reads (elementIn (due v02 (a .args .k)) (a .args .m .now) (a .args .st .at)) (a .args .st .notes)) (c .refuse .ensures)
+    let q = ap (λ x. metIn x (e .result .state)) (sym (c .before .before .met .given .1)) in
+    passed-on (a .args .m .now) (a .args .st .at + 1) (stepped (c .refuse .result)) _ (reads (elementIn (due v02 (a .args .k)) (a .args .m .now) (a .args .st .at)) (a .args .st .notes)) (c .refuse .ensures)
     (element-stops v02 (a .args .k) (r .result) (a .args .m .now) (a .args .st .at) (a .args .st .notes) (due v02 (a .args .k)) (w .0) (a .pre .1 .2) _ _ (q ∙ e .ensures .0))
     (fine-stop (a .args .m .now) (a .args .st .at + 1) (stepped (e .result)) _ _ q (e .ensures .1))
 
 element-returns-3 : (t : ℕ) → element-lts.Need-returns-3 (element-calls t) (element-at t) element.Post
 element-returns-3 n c =
-    let a = c .before .before .before .before .before .before .before .before .before .before in
     let r = c .before .before .before .before .before .before .before .row-at in
-    let w = row-tied v02 (a .args .rows .now) (a .args .k) (r .result) (r .ensures) (a .pre .1 .5) (a .pre .1 .1) in
     let e = c .before .before .before .before .before .before .enter in
-    let q = ap (λ x. meant x (e .result .state)) (sym (c .before .before .before .enum-told .given .1)) in
+    let a = c .before .before .before .before .before .before .before .before .before .before in
+    let w = row-tied v02 (a .args .rows .now) (a .args .k) (r .result) (r .ensures) (a .pre .1 .5) (a .pre .1 .1) in
+    let q = ap (λ x. metIn x (e .result .state)) (sym (c .before .before .before .enum-told .given .1)) in
     let g = fine-on (a .args .m .now) (a .args .st .at + 1) (stepped (e .result)) (stated (e .result .state)) q (e .ensures .1) in (
-      c .value .ensures .0 ∙ element-value v02 (a .args .k) (r .result) (a .args .m .now) (a .args .st .at) (a .args .st .notes) (stated (e .result .state)) (q ∙ e .ensures .0) (a .args .names .now) (a .pre .1 .4) (due v02 (a .args .k)) (w .0) (a .pre .1 .2) (c .before .if1 .left),
+      c .value .ensures .0 ∙ element-value v02 (a .args .k) (r .result) (a .args .m .now) (a .args .st .at) (a .args .st .notes) (stated (e .result .state))
+          (q ∙ e .ensures .0) (a .args .names .now) (a .pre .1 .4) (due v02 (a .args .k)) (w .0) (a .pre .1 .2) (c .before .if1 .left),
       later (a .args .m .now) (a .args .st .at + 1) (e .result .state .at) (g .1) (stepped (c .value .result)) (c .value .ensures .1),
     )
 
@@ -225,13 +229,18 @@ group-refuse-requires n c κs = search needs
 
 group-returns-2 : (t : ℕ) → group-lts.Need-returns-2 (group-calls t) (group-at t) group.Post group-Inv-loop group-μ-loop
 group-returns-2 n c =
-    let a = c .before .before .before .before .before .before .before .before .before .before .before .before .before .before in
     let l = c .before .before .before .before .before .before .before .before .before .before .before .loop in
     let r = c .before .before .before .before .before .before .before .before .before .before .row-at in
     let s = c .before .before .before .before .before .before .before .before .before .skip in
+    let the-if1 = c .before .before .before .before .before .before .before .if1 in
+    let the-due-now = c .before .before .before .before .before .before .due-now in
+    let the-choose = c .before .before .before .before .choose in
+    let a = c .before .before .before .before .before .before .before .before .before .before .before .before .before .before in
     let w = row-tied v02 (a .args .rows .now) (l .k) (r .result) (r .ensures) (a .pre .1 .3) (l .inv .row) in
-    let t = tells v02 (l .k) (r .result) (due v02 (l .k)) (w .0) (c .before .before .before .before .before .before .before .if1 .left) in
-    loop-stop v02 (a .args .m .now) (a .args .first) (stated (a .args .start)) (l .k) (l .seen) (stated (l .st)) (l .inv) (stated (s .result)) (s .ensures .0) (s .ensures .1) (s .ensures .2) (r .result) (w .1 .next) (a .args .names .now) (a .pre .1 .2) t (c .before .before .before .before .before .before .due-now .result) (c .before .before .before .before .before .before .due-now .ensures) (c .before .before .before .before .choose .result) (c .before .before .before .before .choose .ensures) _ _ (c .before .before .number .given .1) (stepped (c .refuse .result)) (c .refuse .ensures)
+    let t = tells v02 (l .k) (r .result) (due v02 (l .k)) (w .0) (the-if1 .left) in
+    loop-stop v02 (a .args .m .now) (a .args .first) (stated (a .args .start)) (l .k) (l .seen) (stated (l .st)) (l .inv) (stated (s .result)) (s .ensures .0)
+    (s .ensures .1) (s .ensures .2) (r .result) (w .1 .next) (a .args .names .now) (a .pre .1 .2) t (the-due-now .result) (the-due-now .ensures) (the-choose .result)
+    (the-choose .ensures) _ _ (c .before .before .number .given .1) (stepped (c .refuse .result)) (c .refuse .ensures)
 
 group-enum-told : (t : ℕ) → group-lts.Need-enum-told (group-calls t) (group-at t) group.Post group-Inv-loop group-μ-loop
 group-enum-told n c = search needs
@@ -251,31 +260,39 @@ group-loop-less n c =
 
 group-loop-again : (t : ℕ) → group-lts.Need-loop-again (group-calls t) (group-at t) group.Post group-Inv-loop group-μ-loop
 group-loop-again n c =
-    let a = c .before .before .before .before .before .before .before .before .before .before .before .before .before in
     let l = c .before .before .before .before .before .before .before .before .before .before .loop in
     let r = c .before .before .before .before .before .before .before .before .before .row-at in
     let s = c .before .before .before .before .before .before .before .before .skip in
+    let the-if1 = c .before .before .before .before .before .before .if1 in
+    let the-due-now = c .before .before .before .before .before .due-now in
+    let the-choose = c .before .before .before .choose in
+    let a = c .before .before .before .before .before .before .before .before .before .before .before .before .before in
     let w = row-tied v02 (a .args .rows .now) (l .k) (r .result) (r .ensures) (a .pre .1 .3) (l .inv .row) in
-    let t = tells v02 (l .k) (r .result) (due v02 (l .k)) (w .0) (c .before .before .before .before .before .before .if1 .left) in
-    loop-pass v02 (a .args .m .now) (a .args .first) (stated (a .args .start)) (l .k) (l .seen) (stated (l .st)) (l .inv) (stated (s .result)) (s .ensures .0) (s .ensures .1) (s .ensures .2) (r .result) (w .1 .next) (a .args .names .now) (a .pre .1 .2) t (c .before .before .before .before .before .due-now .result) (c .before .before .before .before .before .due-now .ensures) (c .before .before .before .choose .result) (c .before .before .before .choose .ensures) (c .before .enum-told .given .1)
+    let t = tells v02 (l .k) (r .result) (due v02 (l .k)) (w .0) (the-if1 .left) in
+    loop-pass v02 (a .args .m .now) (a .args .first) (stated (a .args .start)) (l .k) (l .seen) (stated (l .st)) (l .inv) (stated (s .result)) (s .ensures .0)
+    (s .ensures .1) (s .ensures .2) (r .result) (w .1 .next) (a .args .names .now) (a .pre .1 .2) t (the-due-now .result) (the-due-now .ensures) (the-choose .result)
+    (the-choose .ensures) (c .before .enum-told .given .1)
 
 group-enum-told-2 : (t : ℕ) → group-lts.Need-enum-told-2 (group-calls t) (group-at t) group.Post group-Inv-loop group-μ-loop
 group-enum-told-2 n c = search needs
 
 group-element-requires : (t : ℕ) → group-lts.Need-element-requires (group-calls t) (group-at t) group.Post group-Inv-loop group-μ-loop
 group-element-requires n c κs =
-    let a = c .before .before .before .before .before .before .before .before .before .before .before .before in
     let l = c .before .before .before .before .before .before .before .before .before .loop in
     let r = c .before .before .before .before .before .before .before .before .row-at in
     let s = c .before .before .before .before .before .before .before .skip in
+    let the-if1 = c .before .before .before .before .before .if1 in
+    let the-due-now = c .before .before .before .before .due-now in
+    let a = c .before .before .before .before .before .before .before .before .before .before .before .before in
     let w = row-tied v02 (a .args .rows .now) (l .k) (r .result) (r .ensures) (a .pre .1 .3) (l .inv .row) in
-    let t = tells v02 (l .k) (r .result) (due v02 (l .k)) (w .0) (c .before .before .before .before .before .if1 .left) in (
+    let t = tells v02 (l .k) (r .result) (due v02 (l .k)) (w .0) (the-if1 .left) in (
       omega (arith, a .pre .0, l .inv .on, s .ensures .2, element-deep (due v02 (l .k)), l .inv .depth),
       (
         s .ensures .1,
         l .inv .row,
         t .element,
-        within v02 (l .k) (r .result) (a .args .names .now) (a .pre .1 .2) (a .args .m .now) (a .args .rows .now) (a .pre .1 .3) (r .ensures) (s .result .at) (s .ensures .1 .within) (c .before .before .before .before .due-now .result) t (sym (c .enum-told2 .given .1) ∙ c .before .before .choose .ensures),
+        within v02 (l .k) (r .result) (a .args .names .now) (a .pre .1 .2) (a .args .m .now) (a .args .rows .now) (a .pre .1 .3) (r .ensures) (s .result .at)
+            (s .ensures .1 .within) (the-due-now .result) t (sym (c .enum-told2 .given .1) ∙ c .before .before .choose .ensures),
         a .pre .1 .2,
         a .pre .1 .3,
       ),
@@ -289,14 +306,22 @@ group-refuse-requires-2 n c κs = search needs
 
 group-returns-3 : (t : ℕ) → group-lts.Need-returns-3 (group-calls t) (group-at t) group.Post group-Inv-loop group-μ-loop
 group-returns-3 n c =
-    let a = c .before .before .before .before .before .before .before .before .before .before .before .before .before .before .before .before .before .before in
     let l = c .before .before .before .before .before .before .before .before .before .before .before .before .before .before .before .loop in
     let r = c .before .before .before .before .before .before .before .before .before .before .before .before .before .before .row-at in
     let s = c .before .before .before .before .before .before .before .before .before .before .before .before .before .skip in
+    let the-if1 = c .before .before .before .before .before .before .before .before .before .before .before .if1 in
+    let the-due-now = c .before .before .before .before .before .before .before .before .before .before .due-now in
+    let the-choose = c .before .before .before .before .before .before .before .before .choose in
+    let the-enum-told2 = c .before .before .before .before .before .before .enum-told2 in
+    let the-element = c .before .before .before .before .before .element in
+    let a = c .before .before .before .before .before .before .before .before .before .before .before .before .before .before .before .before .before .before in
     let w = row-tied v02 (a .args .rows .now) (l .k) (r .result) (r .ensures) (a .pre .1 .3) (l .inv .row) in
-    let t = tells v02 (l .k) (r .result) (due v02 (l .k)) (w .0) (c .before .before .before .before .before .before .before .before .before .before .before .if1 .left) in
-    let q = ap (λ x. meant x (c .before .before .before .before .before .element .result .state)) (sym (c .before .before .met .given .1)) in
-    loop-fail v02 (a .args .m .now) (a .args .first) (stated (a .args .start)) (l .k) (l .seen) (stated (l .st)) (l .inv) (stated (s .result)) (s .ensures .0) (s .ensures .1) (s .ensures .2) (r .result) (w .1 .next) (a .args .names .now) (a .pre .1 .2) t (c .before .before .before .before .before .before .before .before .before .before .due-now .result) (c .before .before .before .before .before .before .before .before .before .before .due-now .ensures) (c .before .before .before .before .before .before .before .before .choose .result) (c .before .before .before .before .before .before .before .before .choose .ensures) (c .before .before .before .before .before .before .enum-told2 .given .1) (stepped (c .before .before .before .before .before .element .result)) (c .before .before .before .before .before .element .ensures .0) (c .before .before .before .before .before .element .ensures .1) _ _ q (stepped (c .refuse2 .result)) (c .refuse2 .ensures)
+    let t = tells v02 (l .k) (r .result) (due v02 (l .k)) (w .0) (the-if1 .left) in
+    let q = ap (λ x. metIn x (the-element .result .state)) (sym (c .before .before .met .given .1)) in
+    loop-fail v02 (a .args .m .now) (a .args .first) (stated (a .args .start)) (l .k) (l .seen) (stated (l .st)) (l .inv) (stated (s .result)) (s .ensures .0)
+    (s .ensures .1) (s .ensures .2) (r .result) (w .1 .next) (a .args .names .now) (a .pre .1 .2) t (the-due-now .result) (the-due-now .ensures) (the-choose .result)
+    (the-choose .ensures) (the-enum-told2 .given .1) (stepped (the-element .result)) (the-element .ensures .0) (the-element .ensures .1) _ _ q
+    (stepped (c .refuse2 .result)) (c .refuse2 .ensures)
 
 group-enum-told-3 : (t : ℕ) → group-lts.Need-enum-told-3 (group-calls t) (group-at t) group.Post group-Inv-loop group-μ-loop
 group-enum-told-3 n c = search needs
@@ -306,49 +331,69 @@ group-cast-k-2 n c = search needs
 
 group-loop-less-2 : (t : ℕ) → group-lts.Need-loop-less-2 (group-calls t) (group-at t) group.Post group-Inv-loop group-μ-loop
 group-loop-less-2 n c =
-    let a = c .before .before .before .before .before .before .before .before .before .before .before .before .before .before .before .before .before .before in
     let l = c .before .before .before .before .before .before .before .before .before .before .before .before .before .before .before .loop in
     let r = c .before .before .before .before .before .before .before .before .before .before .before .before .before .before .row-at in
     let s = c .before .before .before .before .before .before .before .before .before .before .before .before .before .skip in
+    let the-if1 = c .before .before .before .before .before .before .before .before .before .before .before .if1 in
+    let the-element = c .before .before .before .before .before .element in
+    let a = c .before .before .before .before .before .before .before .before .before .before .before .before .before .before .before .before .before .before in
     let w = row-tied v02 (a .args .rows .now) (l .k) (r .result) (r .ensures) (a .pre .1 .3) (l .inv .row) in
-    let t = tells v02 (l .k) (r .result) (due v02 (l .k)) (w .0) (c .before .before .before .before .before .before .before .before .before .before .before .if1 .left) in
-    let q = ap (λ x. meant x (c .before .before .before .before .before .element .result .state)) (sym (c .before .before .enum-told3 .given .1)) in
-    let g = fine-on (a .args .m .now) (s .result .at + 1) (stepped (c .before .before .before .before .before .element .result)) (stated (c .before .before .before .before .before .element .result .state)) q (c .before .before .before .before .before .element .ensures .1) in
+    let t = tells v02 (l .k) (r .result) (due v02 (l .k)) (w .0) (the-if1 .left) in
+    let q = ap (λ x. metIn x (the-element .result .state)) (sym (c .before .before .enum-told3 .given .1)) in
+    let g = fine-on (a .args .m .now) (s .result .at + 1) (stepped (the-element .result)) (stated (the-element .result .state)) q (the-element .ensures .1) in
     omega (arith, s .ensures .2, g .1, g .0 .within, l .inv .row, few-rows v02)
 
 group-loop-again-2 : (t : ℕ) → group-lts.Need-loop-again-2 (group-calls t) (group-at t) group.Post group-Inv-loop group-μ-loop
 group-loop-again-2 n c =
-    let a = c .before .before .before .before .before .before .before .before .before .before .before .before .before .before .before .before .before .before in
     let l = c .before .before .before .before .before .before .before .before .before .before .before .before .before .before .before .loop in
     let r = c .before .before .before .before .before .before .before .before .before .before .before .before .before .before .row-at in
     let s = c .before .before .before .before .before .before .before .before .before .before .before .before .before .skip in
+    let the-if1 = c .before .before .before .before .before .before .before .before .before .before .before .if1 in
+    let the-due-now = c .before .before .before .before .before .before .before .before .before .before .due-now in
+    let the-choose = c .before .before .before .before .before .before .before .before .choose in
+    let the-enum-told2 = c .before .before .before .before .before .before .enum-told2 in
+    let the-element = c .before .before .before .before .before .element in
+    let a = c .before .before .before .before .before .before .before .before .before .before .before .before .before .before .before .before .before .before in
     let w = row-tied v02 (a .args .rows .now) (l .k) (r .result) (r .ensures) (a .pre .1 .3) (l .inv .row) in
-    let t = tells v02 (l .k) (r .result) (due v02 (l .k)) (w .0) (c .before .before .before .before .before .before .before .before .before .before .before .if1 .left) in
-    let q = ap (λ x. meant x (c .before .before .before .before .before .element .result .state)) (sym (c .before .before .enum-told3 .given .1)) in
-    loop-next v02 (a .args .m .now) (a .args .first) (stated (a .args .start)) (l .k) (l .seen) (stated (l .st)) (l .inv) (stated (s .result)) (s .ensures .0) (s .ensures .1) (s .ensures .2) (r .result) (w .1 .next) (a .args .names .now) (a .pre .1 .2) t (c .before .before .before .before .before .before .before .before .before .before .due-now .result) (c .before .before .before .before .before .before .before .before .before .before .due-now .ensures) (c .before .before .before .before .before .before .before .before .choose .result) (c .before .before .before .before .before .before .before .before .choose .ensures) (c .before .before .before .before .before .before .enum-told2 .given .1) (stepped (c .before .before .before .before .before .element .result)) (c .before .before .before .before .before .element .ensures .0) (c .before .before .before .before .before .element .ensures .1) (stated (c .before .before .before .before .before .element .result .state)) q (c .before .if2 .taken)
+    let t = tells v02 (l .k) (r .result) (due v02 (l .k)) (w .0) (the-if1 .left) in
+    let q = ap (λ x. metIn x (the-element .result .state)) (sym (c .before .before .enum-told3 .given .1)) in
+    loop-next v02 (a .args .m .now) (a .args .first) (stated (a .args .start)) (l .k) (l .seen) (stated (l .st)) (l .inv) (stated (s .result)) (s .ensures .0)
+    (s .ensures .1) (s .ensures .2) (r .result) (w .1 .next) (a .args .names .now) (a .pre .1 .2) t (the-due-now .result) (the-due-now .ensures) (the-choose .result)
+    (the-choose .ensures) (the-enum-told2 .given .1) (stepped (the-element .result)) (the-element .ensures .0) (the-element .ensures .1)
+    (stated (the-element .result .state)) q (c .before .if2 .taken)
 
 group-loop-less-3 : (t : ℕ) → group-lts.Need-loop-less-3 (group-calls t) (group-at t) group.Post group-Inv-loop group-μ-loop
 group-loop-less-3 n c =
-    let a = c .before .before .before .before .before .before .before .before .before .before .before .before .before .before .before .before .before in
     let l = c .before .before .before .before .before .before .before .before .before .before .before .before .before .before .loop in
     let r = c .before .before .before .before .before .before .before .before .before .before .before .before .before .row-at in
     let s = c .before .before .before .before .before .before .before .before .before .before .before .before .skip in
+    let the-if1 = c .before .before .before .before .before .before .before .before .before .before .if1 in
+    let the-element = c .before .before .before .before .element in
+    let a = c .before .before .before .before .before .before .before .before .before .before .before .before .before .before .before .before .before in
     let w = row-tied v02 (a .args .rows .now) (l .k) (r .result) (r .ensures) (a .pre .1 .3) (l .inv .row) in
-    let t = tells v02 (l .k) (r .result) (due v02 (l .k)) (w .0) (c .before .before .before .before .before .before .before .before .before .before .if1 .left) in
-    let q = ap (λ x. meant x (c .before .before .before .before .element .result .state)) (sym (c .before .enum-told3 .given .1)) in
-    let g = fine-on (a .args .m .now) (s .result .at + 1) (stepped (c .before .before .before .before .element .result)) (stated (c .before .before .before .before .element .result .state)) q (c .before .before .before .before .element .ensures .1) in
+    let t = tells v02 (l .k) (r .result) (due v02 (l .k)) (w .0) (the-if1 .left) in
+    let q = ap (λ x. metIn x (the-element .result .state)) (sym (c .before .enum-told3 .given .1)) in
+    let g = fine-on (a .args .m .now) (s .result .at + 1) (stepped (the-element .result)) (stated (the-element .result .state)) q (the-element .ensures .1) in
     omega (arith, s .ensures .2, g .1, g .0 .within, l .inv .row, few-rows v02)
 
 group-loop-again-3 : (t : ℕ) → group-lts.Need-loop-again-3 (group-calls t) (group-at t) group.Post group-Inv-loop group-μ-loop
 group-loop-again-3 n c =
-    let a = c .before .before .before .before .before .before .before .before .before .before .before .before .before .before .before .before .before in
     let l = c .before .before .before .before .before .before .before .before .before .before .before .before .before .before .loop in
     let r = c .before .before .before .before .before .before .before .before .before .before .before .before .before .row-at in
     let s = c .before .before .before .before .before .before .before .before .before .before .before .before .skip in
+    let the-if1 = c .before .before .before .before .before .before .before .before .before .before .if1 in
+    let the-due-now = c .before .before .before .before .before .before .before .before .before .due-now in
+    let the-choose = c .before .before .before .before .before .before .before .choose in
+    let the-enum-told2 = c .before .before .before .before .before .enum-told2 in
+    let the-element = c .before .before .before .before .element in
+    let a = c .before .before .before .before .before .before .before .before .before .before .before .before .before .before .before .before .before in
     let w = row-tied v02 (a .args .rows .now) (l .k) (r .result) (r .ensures) (a .pre .1 .3) (l .inv .row) in
-    let t = tells v02 (l .k) (r .result) (due v02 (l .k)) (w .0) (c .before .before .before .before .before .before .before .before .before .before .if1 .left) in
-    let q = ap (λ x. meant x (c .before .before .before .before .element .result .state)) (sym (c .before .enum-told3 .given .1)) in
-    loop-more v02 (a .args .m .now) (a .args .first) (stated (a .args .start)) (l .k) (l .seen) (stated (l .st)) (l .inv) (stated (s .result)) (s .ensures .0) (s .ensures .1) (s .ensures .2) (r .result) (w .1 .next) (a .args .names .now) (a .pre .1 .2) t (c .before .before .before .before .before .before .before .before .before .due-now .result) (c .before .before .before .before .before .before .before .before .before .due-now .ensures) (c .before .before .before .before .before .before .before .choose .result) (c .before .before .before .before .before .before .before .choose .ensures) (c .before .before .before .before .before .enum-told2 .given .1) (stepped (c .before .before .before .before .element .result)) (c .before .before .before .before .element .ensures .0) (c .before .before .before .before .element .ensures .1) (stated (c .before .before .before .before .element .result .state)) q (c .if2 .left)
+    let t = tells v02 (l .k) (r .result) (due v02 (l .k)) (w .0) (the-if1 .left) in
+    let q = ap (λ x. metIn x (the-element .result .state)) (sym (c .before .enum-told3 .given .1)) in
+    loop-more v02 (a .args .m .now) (a .args .first) (stated (a .args .start)) (l .k) (l .seen) (stated (l .st)) (l .inv) (stated (s .result)) (s .ensures .0)
+    (s .ensures .1) (s .ensures .2) (r .result) (w .1 .next) (a .args .names .now) (a .pre .1 .2) t (the-due-now .result) (the-due-now .ensures) (the-choose .result)
+    (the-choose .ensures) (the-enum-told2 .given .1) (stepped (the-element .result)) (the-element .ensures .0) (the-element .ensures .1)
+    (stated (the-element .result .state)) q (c .if2 .left)
 
 pub +element+group-spec : {M : Type 1} → statement M
 +element+group-spec = close μ-element μ-group (λ t. element-lts.spec (

@@ -15,7 +15,10 @@ read-on-requires : tie.Need-read-on-requires
 read-on-requires c κs = search needs
 
 returns : tie.Need-returns
-returns c = c .read-on .ensures ∙ in-euro (c .before .before .before .before .before .args .m .now) (c .before .before .before .before .before .args .st .at) (c .before .before .before .before .before .args .st .notes) (c .before .before .in-euro .result) (c .before .before .in-euro .ensures) (c .before .if1 .taken)
+returns c =
+    let a = c .before .before .before .before .before .args in
+    let the-in-euro = c .before .before .in-euro in
+    c .read-on .ensures ∙ in-euro (a .m .now) (a .st .at) (a .st .notes) (the-in-euro .result) (the-in-euro .ensures) (c .before .if1 .taken)
 
 currency-place-requires : tie.Need-currency-place-requires
 currency-place-requires c κs = search needs
@@ -24,7 +27,11 @@ refuse-requires : tie.Need-refuse-requires
 refuse-requires c κs = search needs
 
 returns-2 : tie.Need-returns-2
-returns-2 c = c .refuse .ensures ∙ no-euro (c .before .before .before .before .before .before .args .m .now) (c .before .before .before .before .before .before .args .st .at) (c .before .before .before .before .before .before .args .st .notes) (c .before .before .before .in-euro .result) (c .before .before .before .in-euro .ensures) (c .before .before .if1 .left) (c .before .currency-place .result) (c .before .currency-place .ensures)
+returns-2 c =
+    let a = c .before .before .before .before .before .before .args in
+    let the-in-euro = c .before .before .before .in-euro in
+    c .refuse .ensures ∙ no-euro (a .m .now) (a .st .at) (a .st .notes) (the-in-euro .result) (the-in-euro .ensures) (c .before .before .if1 .left)
+    (c .before .currency-place .result) (c .before .currency-place .ensures)
 
 pub check-currency-spec : {M : Type 1} → statement M
 check-currency-spec =

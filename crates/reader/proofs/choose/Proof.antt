@@ -27,19 +27,37 @@ enum-told-3 : tie.Need-enum-told-3
 enum-told-3 c = search needs
 
 returns : tie.Need-returns
-returns c = chosen-once (c .before .before .before .before .before .before .before .args .m .now) (c .before .before .before .before .before .before .before .args .at) (c .before .before .before .before .before .before .before .args .occ) (opensBy (c .before .before .before .before .before .before .before .args .names .now) (c .before .before .before .before .before .before .before .args .r)) (c .before .before .before .opening .result) (c .before .before .before .opening .ensures) (c .before .enum-told3 .given .1) (c .if1 .taken)
+returns c =
+    let a = c .before .before .before .before .before .before .before .args in
+    let the-opening = c .before .before .before .opening in
+    chosen-once (a .m .now) (a .at) (a .occ) (opensBy (a .names .now) (a .r)) (the-opening .result) (the-opening .ensures) (c .before .enum-told3 .given .1)
+    (c .if1 .taken)
 
 returns-2 : tie.Need-returns-2
-returns-2 c = chosen-many (c .before .before .before .before .before .before .before .before .args .m .now) (c .before .before .before .before .before .before .before .before .args .at) (c .before .before .before .before .before .before .before .before .args .occ) (opensBy (c .before .before .before .before .before .before .before .before .args .names .now) (c .before .before .before .before .before .before .before .before .args .r)) (c .before .before .before .before .opening .result) (c .before .before .before .before .opening .ensures) (c .before .before .enum-told3 .given .1) (c .if2 .taken)
+returns-2 c =
+    let a = c .before .before .before .before .before .before .before .before .args in
+    let the-opening = c .before .before .before .before .opening in
+    chosen-many (a .m .now) (a .at) (a .occ) (opensBy (a .names .now) (a .r)) (the-opening .result) (the-opening .ensures) (c .before .before .enum-told3 .given .1)
+    (c .if2 .taken)
 
 returns-3 : tie.Need-returns-3
-returns-3 c = chosen-whole (c .before .before .before .before .before .before .args .m .now) (c .before .before .before .before .before .before .args .at) (c .before .before .before .before .before .before .args .occ) (opensBy (c .before .before .before .before .before .before .args .names .now) (c .before .before .before .before .before .before .args .r)) (c .before .before .opening .result) (c .before .before .opening .ensures) (c .enum-told .given .1)
+returns-3 c =
+    let a = c .before .before .before .before .before .before .args in
+    let the-opening = c .before .before .opening in
+    chosen-whole (a .m .now) (a .at) (a .occ) (opensBy (a .names .now) (a .r)) (the-opening .result) (the-opening .ensures) (c .enum-told .given .1)
 
 returns-4 : tie.Need-returns-4
-returns-4 c = chosen-cut (c .before .before .before .before .before .before .args .m .now) (c .before .before .before .before .before .before .args .at) (c .before .before .before .before .before .before .args .occ) (opensBy (c .before .before .before .before .before .before .args .names .now) (c .before .before .before .before .before .before .args .r)) (c .before .before .opening .result) (c .before .before .opening .ensures) (c .enum-told2 .given .1)
+returns-4 c =
+    let a = c .before .before .before .before .before .before .args in
+    let the-opening = c .before .before .opening in
+    chosen-cut (a .m .now) (a .at) (a .occ) (opensBy (a .names .now) (a .r)) (the-opening .result) (the-opening .ensures) (c .enum-told2 .given .1)
 
 returns-5 : tie.Need-returns-5
-returns-5 c = chosen-pass (c .before .before .before .before .before .before .before .before .args .m .now) (c .before .before .before .before .before .before .before .before .args .at) (c .before .before .before .before .before .before .before .before .args .occ) (opensBy (c .before .before .before .before .before .before .before .before .args .names .now) (c .before .before .before .before .before .before .before .before .args .r)) (c .before .before .before .before .opening .result) (c .before .before .before .before .opening .ensures) (c .before .before .enum-told3 .given .1) (c .before .if1 .left) (c .if2 .left)
+returns-5 c =
+    let a = c .before .before .before .before .before .before .before .before .args in
+    let the-opening = c .before .before .before .before .opening in
+    chosen-pass (a .m .now) (a .at) (a .occ) (opensBy (a .names .now) (a .r)) (the-opening .result) (the-opening .ensures) (c .before .before .enum-told3 .given .1)
+    (c .before .if1 .left) (c .if2 .left)
 
 pub choose-spec : {M : Type 1} → statement M
 choose-spec =

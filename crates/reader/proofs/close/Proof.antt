@@ -31,10 +31,28 @@ cast-at-place : tie.Need-cast-at-place
 cast-at-place c = search needs
 
 add-at-place : tie.Need-add-at-place
-add-at-place c = omega (arith, close-fits (c .before .before .before .before .before .before .before .before .args .m .now) (c .before .before .before .before .before .before .before .before .args .st .at) (c .before .before .before .before .before .before .before .before .args .st .notes) (closesBy (c .before .before .before .before .before .before .before .before .args .names .now) (c .before .before .before .before .before .before .before .before .args .r)) (c .before .before .before .before .before .before .before .before .pre .0) (c .before .before .before .closing .result) (c .before .before .before .closing .ensures) (c .before .enum-told .given .1) (c .before .before .before .before .before .before .before .before .args .r .finish) (c .before .before .before .before .before .before .before .before .pre .1), c .before .before .before .before .before .before .before .before .pre .0 .small)
+add-at-place c =
+    let a = c .before .before .before .before .before .before .before .before .args in
+    let the-pre = c .before .before .before .before .before .before .before .before .pre in
+    let the-closing = c .before .before .before .closing in
+    omega (
+      arith,
+      close-fits (a .m .now) (a .st .at) (a .st .notes) (closesBy (a .names .now) (a .r)) (the-pre .0) (the-closing .result) (the-closing .ensures)
+          (c .before .enum-told .given .1) (a .r .finish) (the-pre .1),
+      the-pre .0 .small,
+    )
 
 cast-at-place-2 : tie.Need-cast-at-place-2
-cast-at-place-2 c = omega (arith, close-fits (c .before .before .before .before .before .before .before .before .args .m .now) (c .before .before .before .before .before .before .before .before .args .st .at) (c .before .before .before .before .before .before .before .before .args .st .notes) (closesBy (c .before .before .before .before .before .before .before .before .args .names .now) (c .before .before .before .before .before .before .before .before .args .r)) (c .before .before .before .before .before .before .before .before .pre .0) (c .before .before .before .closing .result) (c .before .before .before .closing .ensures) (c .before .enum-told .given .1) (c .before .before .before .before .before .before .before .before .args .r .finish) (c .before .before .before .before .before .before .before .before .pre .1), c .before .before .before .before .before .before .before .before .pre .0 .small)
+cast-at-place-2 c =
+    let a = c .before .before .before .before .before .before .before .before .args in
+    let the-pre = c .before .before .before .before .before .before .before .before .pre in
+    let the-closing = c .before .before .before .closing in
+    omega (
+      arith,
+      close-fits (a .m .now) (a .st .at) (a .st .notes) (closesBy (a .names .now) (a .r)) (the-pre .0) (the-closing .result) (the-closing .ensures)
+          (c .before .enum-told .given .1) (a .r .finish) (the-pre .1),
+      the-pre .0 .small,
+    )
 
 at-place-requires : tie.Need-at-place-requires
 at-place-requires c κs = search needs
@@ -55,13 +73,29 @@ refuse-here-requires : tie.Need-refuse-here-requires
 refuse-here-requires c κs = search needs
 
 returns : tie.Need-returns
-returns c = closed-whole (c .before .before .before .before .before .before .before .before .before .before .args .m .now) (c .before .before .before .before .before .before .before .before .before .before .args .st .at) (c .before .before .before .before .before .before .before .before .before .before .args .st .notes) (closesBy (c .before .before .before .before .before .before .before .before .before .before .args .names .now) (c .before .before .before .before .before .before .before .before .before .before .args .r)) (c .before .before .before .before .before .before .before .before .before .before .pre .0) (c .before .before .before .before .before .closing .result) (c .before .before .before .before .before .closing .ensures) (c .before .before .before .enum-told .given .1) (c .before .before .before .before .before .before .before .before .before .before .args .r .finish) (c .before .before .before .before .before .before .before .before .before .before .pre .1) (stepped (c .read-on .result)) (c .read-on .ensures ∙ ap on (c .before .at-place .ensures))
+returns c =
+    let a = c .before .before .before .before .before .before .before .before .before .before .args in
+    let the-pre = c .before .before .before .before .before .before .before .before .before .before .pre in
+    let the-closing = c .before .before .before .before .before .closing in
+    closed-whole (a .m .now) (a .st .at) (a .st .notes) (closesBy (a .names .now) (a .r)) (the-pre .0) (the-closing .result) (the-closing .ensures)
+    (c .before .before .before .enum-told .given .1) (a .r .finish) (the-pre .1) (stepped (c .read-on .result))
+    (c .read-on .ensures ∙ ap on (c .before .at-place .ensures))
 
 returns-2 : tie.Need-returns-2
-returns-2 c = closed-cut (c .before .before .before .before .before .before .before .before .args .m .now) (c .before .before .before .before .before .before .before .before .args .st .at) (c .before .before .before .before .before .before .before .before .args .st .notes) (closesBy (c .before .before .before .before .before .before .before .before .args .names .now) (c .before .before .before .before .before .before .before .before .args .r)) (c .before .before .before .before .before .before .before .before .pre .0) (c .before .before .before .closing .result) (c .before .before .before .closing .ensures) (c .before .enum-told2 .given .1) (stepped (c .refuse .result)) (c .refuse .ensures)
+returns-2 c =
+    let a = c .before .before .before .before .before .before .before .before .args in
+    let the-pre = c .before .before .before .before .before .before .before .before .pre in
+    let the-closing = c .before .before .before .closing in
+    closed-cut (a .m .now) (a .st .at) (a .st .notes) (closesBy (a .names .now) (a .r)) (the-pre .0) (the-closing .result) (the-closing .ensures)
+    (c .before .enum-told2 .given .1) (stepped (c .refuse .result)) (c .refuse .ensures)
 
 returns-3 : tie.Need-returns-3
-returns-3 c = closed-other (c .before .before .before .before .before .before .before .before .args .m .now) (c .before .before .before .before .before .before .before .before .args .st .at) (c .before .before .before .before .before .before .before .before .args .st .notes) (closesBy (c .before .before .before .before .before .before .before .before .args .names .now) (c .before .before .before .before .before .before .before .before .args .r)) (c .before .before .before .before .before .before .before .before .pre .0) (c .before .before .before .closing .result) (c .before .before .before .closing .ensures) (c .before .enum-told3 .given .1) (stepped (c .refuse-here .result)) (c .refuse-here .ensures)
+returns-3 c =
+    let a = c .before .before .before .before .before .before .before .before .args in
+    let the-pre = c .before .before .before .before .before .before .before .before .pre in
+    let the-closing = c .before .before .before .closing in
+    closed-other (a .m .now) (a .st .at) (a .st .notes) (closesBy (a .names .now) (a .r)) (the-pre .0) (the-closing .result) (the-closing .ensures)
+    (c .before .enum-told3 .given .1) (stepped (c .refuse-here .result)) (c .refuse-here .ensures)
 
 pub close-spec : {M : Type 1} → statement M
 close-spec =

@@ -6,7 +6,7 @@ use Prim.Native.Nat.{_+_}
 use Rattle.table.specs.Table.{occOf, amountKind, width}
 use Rattle.reading.specs.Trace.{priced}
 use Rattle.reading.specs.Noted.{on}
-use Rattle.notes.specs.Steps.{stated, meant, stepped, reads}
+use Rattle.notes.specs.Steps.{stated, metIn, stepped, reads}
 use Rattle.reader.proofs.Steps.{enters-not, enters-amount, enters-plain, width-some}
 use borrow.Author.Needs.{needs}
 use Rattle.reader.proofs.enter.Statement.{statement}
@@ -47,7 +47,16 @@ check-currency-requires c κs = search needs
 
 returns : tie.Need-returns
 returns c =
-    enters-amount (c .before .before .before .before .before .before .before .before .before .before .before .args .m .now) (c .before .before .before .before .before .before .before .before .before .before .before .args .st .at) (c .before .before .before .before .before .before .before .before .before .before .before .args .st .notes) (c .before .before .before .before .before .before .before .before .before .before .before .pre .0) (occOf (c .before .before .before .before .before .before .before .before .before .before .before .args .r .occ)) (amountKind (c .before .before .before .before .before .before .before .before .before .before .before .args .r .kind)) (width (c .before .before .before .before .before .before .before .before .before .before .before .args .r)) (c .before .before .before .before .before .before .before .before .before .before .before .pre .1) (width-some (c .before .before .before .before .before .before .before .before .before .before .before .args .r) (c .before .before .before .before .before .before .before .before .before .before .before .pre .2)) (stated (c .before .before .before .before .before .before .before .before .before .begin .result .state)) (ap (λ x. meant x (c .before .before .before .before .before .before .before .before .before .begin .result .state)) (sym (c .before .before .before .before .before .before .enum-told .given .1)) ∙ c .before .before .before .before .before .before .before .before .before .begin .ensures) (stated (c .before .before .before .at-place .result)) (c .before .before .before .before .width-of .result) (c .before .before .before .before .width-of .ensures) (c .before .before .before .at-place .ensures) (sym (c .before .before .is-amount .ensures) ∙ c .before .if1 .taken)
+    let a = c .before .before .before .before .before .before .before .before .before .before .before .args in
+    let the-pre = c .before .before .before .before .before .before .before .before .before .before .before .pre in
+    let the-begin = c .before .before .before .before .before .before .before .before .before .begin in
+    let the-enum-told = c .before .before .before .before .before .before .enum-told in
+    let the-width-of = c .before .before .before .before .width-of in
+    let the-at-place = c .before .before .before .at-place in
+    enters-amount (a .m .now) (a .st .at) (a .st .notes) (the-pre .0) (occOf (a .r .occ)) (amountKind (a .r .kind)) (width (a .r)) (the-pre .1)
+    (width-some (a .r) (the-pre .2)) (stated (the-begin .result .state))
+    (ap (λ x. metIn x (the-begin .result .state)) (sym (the-enum-told .given .1)) ∙ the-begin .ensures) (stated (the-at-place .result)) (the-width-of .result)
+    (the-width-of .ensures) (the-at-place .ensures) (sym (c .before .before .is-amount .ensures) ∙ c .before .if1 .taken)
     (stepped (c .check-currency .result)) (c .check-currency .ensures)
 
 read-on-requires : tie.Need-read-on-requires
@@ -55,11 +64,25 @@ read-on-requires c κs = search needs
 
 returns-2 : tie.Need-returns-2
 returns-2 c =
-    enters-not (c .before .before .before .before .before .before .before .args .m .now) (c .before .before .before .before .before .before .before .args .st .at) (c .before .before .before .before .before .before .before .args .st .notes) (c .before .before .before .before .before .before .before .pre .0) (occOf (c .before .before .before .before .before .before .before .args .r .occ)) (amountKind (c .before .before .before .before .before .before .before .args .r .kind)) (width (c .before .before .before .before .before .before .before .args .r)) (c .before .before .before .before .before .before .before .pre .1) (width-some (c .before .before .before .before .before .before .before .args .r) (c .before .before .before .before .before .before .before .pre .2)) _ _ (ap (λ x. meant x (c .before .before .before .before .before .begin .result .state)) (sym (c .before .before .met .given .1)) ∙ c .before .before .before .before .before .begin .ensures) (stepped (c .refuse .result)) (c .refuse .ensures)
+    let a = c .before .before .before .before .before .before .before .args in
+    let the-pre = c .before .before .before .before .before .before .before .pre in
+    let the-begin = c .before .before .before .before .before .begin in
+    enters-not (a .m .now) (a .st .at) (a .st .notes) (the-pre .0) (occOf (a .r .occ)) (amountKind (a .r .kind)) (width (a .r)) (the-pre .1)
+    (width-some (a .r) (the-pre .2)) _ _ (ap (λ x. metIn x (the-begin .result .state)) (sym (c .before .before .met .given .1)) ∙ the-begin .ensures)
+    (stepped (c .refuse .result)) (c .refuse .ensures)
 
 returns-3 : tie.Need-returns-3
 returns-3 c =
-    enters-plain (c .before .before .before .before .before .before .before .before .before .before .before .args .m .now) (c .before .before .before .before .before .before .before .before .before .before .before .args .st .at) (c .before .before .before .before .before .before .before .before .before .before .before .args .st .notes) (c .before .before .before .before .before .before .before .before .before .before .before .pre .0) (occOf (c .before .before .before .before .before .before .before .before .before .before .before .args .r .occ)) (amountKind (c .before .before .before .before .before .before .before .before .before .before .before .args .r .kind)) (width (c .before .before .before .before .before .before .before .before .before .before .before .args .r)) (c .before .before .before .before .before .before .before .before .before .before .before .pre .1) (width-some (c .before .before .before .before .before .before .before .before .before .before .before .args .r) (c .before .before .before .before .before .before .before .before .before .before .before .pre .2)) (stated (c .before .before .before .before .before .before .before .before .before .begin .result .state)) (ap (λ x. meant x (c .before .before .before .before .before .before .before .before .before .begin .result .state)) (sym (c .before .before .before .before .before .before .enum-told .given .1)) ∙ c .before .before .before .before .before .before .before .before .before .begin .ensures) (stated (c .before .before .before .at-place .result)) (c .before .before .before .before .width-of .result) (c .before .before .before .before .width-of .ensures) (c .before .before .before .at-place .ensures) (sym (c .before .before .is-amount .ensures) ∙ c .before .if1 .left)
+    let a = c .before .before .before .before .before .before .before .before .before .before .before .args in
+    let the-pre = c .before .before .before .before .before .before .before .before .before .before .before .pre in
+    let the-begin = c .before .before .before .before .before .before .before .before .before .begin in
+    let the-enum-told = c .before .before .before .before .before .before .enum-told in
+    let the-width-of = c .before .before .before .before .width-of in
+    let the-at-place = c .before .before .before .at-place in
+    enters-plain (a .m .now) (a .st .at) (a .st .notes) (the-pre .0) (occOf (a .r .occ)) (amountKind (a .r .kind)) (width (a .r)) (the-pre .1)
+    (width-some (a .r) (the-pre .2)) (stated (the-begin .result .state))
+    (ap (λ x. metIn x (the-begin .result .state)) (sym (the-enum-told .given .1)) ∙ the-begin .ensures) (stated (the-at-place .result)) (the-width-of .result)
+    (the-width-of .ensures) (the-at-place .ensures) (sym (c .before .before .is-amount .ensures) ∙ c .before .if1 .left)
     (stepped (c .read-on .result)) (c .read-on .ensures)
 
 pub enter-spec : {M : Type 1} → statement M

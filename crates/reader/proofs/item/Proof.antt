@@ -26,7 +26,9 @@ refuse-requires-2 : tie.Need-refuse-requires-2
 refuse-requires-2 c κs = search needs
 
 returns-2 : tie.Need-returns-2
-returns-2 c = item-far v02 (c .before .before .before .before .before .args .m .now) (c .before .before .before .before .before .args .at) (c .before .before .before .if1 .left) (c .before .before .if2 .taken) (stepped (c .refuse2 .result)) (c .refuse2 .ensures)
+returns-2 c =
+    let a = c .before .before .before .before .before .args in
+    item-far v02 (a .m .now) (a .at) (c .before .before .before .if1 .left) (c .before .before .if2 .taken) (stepped (c .refuse2 .result)) (c .refuse2 .ensures)
 
 cast-new : tie.Need-cast-new
 cast-new c = search needs
@@ -41,7 +43,11 @@ all-rows-requires : tie.Need-all-rows-requires
 all-rows-requires c κs = search needs
 
 skip-requires : tie.Need-skip-requires
-skip-requires c κs = begins v02 (c .before .before .before .before .before .before .args .m .now) (c .before .before .before .before .before .before .args .at) (c .before .before .before .before .if1 .left) (c .before .before .before .if2 .left) (stated (c .before .before .new3 .result)) (c .before .before .new3 .ensures)
+skip-requires c κs =
+    let a = c .before .before .before .before .before .before .args in
+    let the-if1 = c .before .before .before .before .if1 in
+    let the-new3 = c .before .before .new3 in
+    begins v02 (a .m .now) (a .at) (the-if1 .left) (c .before .before .before .if2 .left) (stated (the-new3 .result)) (the-new3 .ensures)
 
 item-row-requires : tie.Need-item-row-requires
 item-row-requires c κs = search needs
@@ -71,14 +77,25 @@ slice-aggregate-element-2 : tie.Need-slice-aggregate-element-2
 slice-aggregate-element-2 c = search needs
 
 element-requires : tie.Need-element-requires
-element-requires c κs = (
-  c .before .before .before .before .before .before .before .before .before .before .skip .ensures .1,
-  item-below v02 (c .before .before .before .before .before .before .before .before .before .before .before .before .all-tags .result) (c .before .before .before .before .before .before .before .before .before .before .before .all-rows .result) (c .before .before .before .before .before .before .row-at .result) (c .before .before .before .before .before .before .before .before .before .item-row .result) (c .before .before .before .before .before .before .before .before .before .before .before .before .all-tags .ensures) (c .before .before .before .before .before .before .before .before .before .before .before .all-rows .ensures) (c .before .before .before .before .before .before .before .before .before .item-row .ensures) (c .before .before .before .before .before .before .row-at .ensures),
-  item-there v02 (c .before .before .before .before .before .before .before .before .before .before .before .before .all-tags .result) (c .before .before .before .before .before .before .before .before .before .before .before .all-rows .result) (c .before .before .before .before .before .before .row-at .result) (c .before .before .before .before .before .before .before .before .before .item-row .result) (c .before .before .before .before .before .before .before .before .before .before .before .before .all-tags .ensures) (c .before .before .before .before .before .before .before .before .before .before .before .all-rows .ensures) (c .before .before .before .before .before .before .before .before .before .item-row .ensures) (c .before .before .before .before .before .before .row-at .ensures),
-  item-within v02 (c .before .before .before .before .before .before .before .before .before .before .before .before .all-tags .result) (c .before .before .before .before .before .before .before .before .before .before .before .all-rows .result) (c .before .before .before .before .before .before .row-at .result) (c .before .before .before .before .before .before .before .before .before .item-row .result) (c .before .before .before .before .before .before .before .before .before .before .before .before .all-tags .ensures) (c .before .before .before .before .before .before .before .before .before .before .before .all-rows .ensures) (c .before .before .before .before .before .before .before .before .before .item-row .ensures) (c .before .before .before .before .before .before .row-at .ensures) (c .before .before .before .before .before .before .before .before .before .before .before .before .before .before .before .before .before .args .m .now) (c .before .before .before .before .before .before .before .before .before .before .skip .result .at) (c .before .before .before .before .before .before .before .before .before .before .skip .ensures .1 .within) (sym (c .before .before .enum-told .given .1) ∙ c .before .before .before .before .choose .ensures),
-  c .before .before .before .before .before .before .before .before .before .before .before .before .all-tags .ensures,
-  c .before .before .before .before .before .before .before .before .before .before .before .all-rows .ensures,
-)
+element-requires c κs =
+    let a = c .before .before .before .before .before .before .before .before .before .before .before .before .before .before .before .before .before .args in
+    let the-all-tags = c .before .before .before .before .before .before .before .before .before .before .before .before .all-tags in
+    let the-all-rows = c .before .before .before .before .before .before .before .before .before .before .before .all-rows in
+    let the-skip = c .before .before .before .before .before .before .before .before .before .before .skip in
+    let the-item-row = c .before .before .before .before .before .before .before .before .before .item-row in
+    let the-row-at = c .before .before .before .before .before .before .row-at in
+    let the-choose = c .before .before .before .before .choose in (
+      the-skip .ensures .1,
+      item-below v02 (the-all-tags .result) (the-all-rows .result) (the-row-at .result) (the-item-row .result) (the-all-tags .ensures) (the-all-rows .ensures)
+          (the-item-row .ensures) (the-row-at .ensures),
+      item-there v02 (the-all-tags .result) (the-all-rows .result) (the-row-at .result) (the-item-row .result) (the-all-tags .ensures) (the-all-rows .ensures)
+          (the-item-row .ensures) (the-row-at .ensures),
+      item-within v02 (the-all-tags .result) (the-all-rows .result) (the-row-at .result) (the-item-row .result) (the-all-tags .ensures) (the-all-rows .ensures)
+          (the-item-row .ensures) (the-row-at .ensures) (a .m .now) (the-skip .result .at) (the-skip .ensures .1 .within)
+          (sym (c .before .before .enum-told .given .1) ∙ the-choose .ensures),
+      the-all-tags .ensures,
+      the-all-rows .ensures,
+    )
 
 enum-told-2 : tie.Need-enum-told-2
 enum-told-2 c = search needs
@@ -94,24 +111,61 @@ refuse-requires-3 c κs = search needs
 
 returns-3 : tie.Need-returns-3
 returns-3 c =
-    item-enters v02 (c .before .before .before .before .before .before .before .before .before .before .before .before .before .before .before .before .before .before .args .m .now) (c .before .before .before .before .before .before .before .before .before .before .before .before .before .before .before .before .before .before .args .at) (c .before .before .before .before .before .before .before .before .before .before .before .before .before .before .before .before .if1 .left) (c .before .before .before .before .before .before .before .before .before .before .before .before .before .before .before .if2 .left) (stated (c .before .before .before .before .before .before .before .before .before .before .before .before .before .before .new3 .result)) (c .before .before .before .before .before .before .before .before .before .before .before .before .before .before .new3 .ensures)
-    (stated (c .before .before .before .before .before .before .before .before .before .before .before .skip .result)) (c .before .before .before .before .before .before .before .before .before .before .before .skip .ensures .0) (c .before .before .before .before .before .before .before .before .before .before .before .skip .ensures .1) (c .before .before .before .before .before .choose .result)
-    (c .before .before .before .before .before .choose .ensures ∙ ap (λ t. tagged once t (c .before .before .before .before .before .before .before .before .before .before .before .before .before .before .before .before .before .before .args .m .now) (c .before .before .before .before .before .before .before .before .before .before .before .skip .result .at)) (item-start v02 (c .before .before .before .before .before .before .before .before .before .before .before .before .before .all-tags .result) (c .before .before .before .before .before .before .before .before .before .before .before .before .all-rows .result) (c .before .before .before .before .before .before .before .row-at .result) (c .before .before .before .before .before .before .before .before .before .before .item-row .result) (c .before .before .before .before .before .before .before .before .before .before .before .before .before .all-tags .ensures) (c .before .before .before .before .before .before .before .before .before .before .before .before .all-rows .ensures) (c .before .before .before .before .before .before .before .before .before .before .item-row .ensures) (c .before .before .before .before .before .before .before .row-at .ensures)))
+    let a = c .before .before .before .before .before .before .before .before .before .before .before .before .before .before .before .before .before .before .args in
+    let the-if1 = c .before .before .before .before .before .before .before .before .before .before .before .before .before .before .before .before .if1 in
+    let the-if2 = c .before .before .before .before .before .before .before .before .before .before .before .before .before .before .before .if2 in
+    let the-new3 = c .before .before .before .before .before .before .before .before .before .before .before .before .before .before .new3 in
+    let the-all-tags = c .before .before .before .before .before .before .before .before .before .before .before .before .before .all-tags in
+    let the-all-rows = c .before .before .before .before .before .before .before .before .before .before .before .before .all-rows in
+    let the-skip = c .before .before .before .before .before .before .before .before .before .before .before .skip in
+    let the-item-row = c .before .before .before .before .before .before .before .before .before .before .item-row in
+    let the-row-at = c .before .before .before .before .before .before .before .row-at in
+    let the-choose = c .before .before .before .before .before .choose in
+    item-enters v02 (a .m .now) (a .at) (the-if1 .left) (the-if2 .left) (stated (the-new3 .result)) (the-new3 .ensures)
+    (stated (the-skip .result)) (the-skip .ensures .0) (the-skip .ensures .1) (the-choose .result)
+    (the-choose .ensures ∙ ap (λ t. tagged once t (a .m .now) (the-skip .result .at))
+    (item-start v02 (the-all-tags .result) (the-all-rows .result) (the-row-at .result) (the-item-row .result) (the-all-tags .ensures) (the-all-rows .ensures)
+    (the-item-row .ensures) (the-row-at .ensures)))
     (c .before .before .before .enum-told .given .1) (stepped (c .element .result))
-    (c .element .ensures .0 ∙ ap (λ k. reads (elementIn (due v02 k) (c .before .before .before .before .before .before .before .before .before .before .before .before .before .before .before .before .before .before .args .m .now) (c .before .before .before .before .before .before .before .before .before .before .before .skip .result .at)) (c .before .before .before .before .before .before .before .before .before .before .before .skip .result .notes)) (c .before .before .before .before .before .before .before .before .before .before .item-row .ensures)) (c .element .ensures .1)
+    (c .element .ensures .0 ∙ ap (λ k. reads (elementIn (due v02 k) (a .m .now) (the-skip .result .at)) (the-skip .result .notes)) (the-item-row .ensures))
+    (c .element .ensures .1)
 
 returns-4 : tie.Need-returns-4
 returns-4 c =
-    item-passes v02 (c .before .before .before .before .before .before .before .before .before .before .before .before .before .before .before .before .args .m .now) (c .before .before .before .before .before .before .before .before .before .before .before .before .before .before .before .before .args .at) (c .before .before .before .before .before .before .before .before .before .before .before .before .before .before .if1 .left) (c .before .before .before .before .before .before .before .before .before .before .before .before .before .if2 .left) (stated (c .before .before .before .before .before .before .before .before .before .before .before .before .new3 .result)) (c .before .before .before .before .before .before .before .before .before .before .before .before .new3 .ensures)
-    (stated (c .before .before .before .before .before .before .before .before .before .skip .result)) (c .before .before .before .before .before .before .before .before .before .skip .ensures .0) (c .before .before .before .before .before .before .before .before .before .skip .ensures .1) (c .before .before .before .choose .result)
-    (c .before .before .before .choose .ensures ∙ ap (λ t. tagged once t (c .before .before .before .before .before .before .before .before .before .before .before .before .before .before .before .before .args .m .now) (c .before .before .before .before .before .before .before .before .before .skip .result .at)) (item-start v02 (c .before .before .before .before .before .before .before .before .before .before .before .all-tags .result) (c .before .before .before .before .before .before .before .before .before .before .all-rows .result) (c .before .before .before .before .before .row-at .result) (c .before .before .before .before .before .before .before .before .item-row .result) (c .before .before .before .before .before .before .before .before .before .before .before .all-tags .ensures) (c .before .before .before .before .before .before .before .before .before .before .all-rows .ensures) (c .before .before .before .before .before .before .before .before .item-row .ensures) (c .before .before .before .before .before .row-at .ensures)))
+    let a = c .before .before .before .before .before .before .before .before .before .before .before .before .before .before .before .before .args in
+    let the-if1 = c .before .before .before .before .before .before .before .before .before .before .before .before .before .before .if1 in
+    let the-if2 = c .before .before .before .before .before .before .before .before .before .before .before .before .before .if2 in
+    let the-new3 = c .before .before .before .before .before .before .before .before .before .before .before .before .new3 in
+    let the-all-tags = c .before .before .before .before .before .before .before .before .before .before .before .all-tags in
+    let the-all-rows = c .before .before .before .before .before .before .before .before .before .before .all-rows in
+    let the-skip = c .before .before .before .before .before .before .before .before .before .skip in
+    let the-item-row = c .before .before .before .before .before .before .before .before .item-row in
+    let the-row-at = c .before .before .before .before .before .row-at in
+    let the-choose = c .before .before .before .choose in
+    item-passes v02 (a .m .now) (a .at) (the-if1 .left) (the-if2 .left) (stated (the-new3 .result)) (the-new3 .ensures)
+    (stated (the-skip .result)) (the-skip .ensures .0) (the-skip .ensures .1) (the-choose .result)
+    (the-choose .ensures ∙ ap (λ t. tagged once t (a .m .now) (the-skip .result .at))
+    (item-start v02 (the-all-tags .result) (the-all-rows .result) (the-row-at .result) (the-item-row .result) (the-all-tags .ensures) (the-all-rows .ensures)
+    (the-item-row .ensures) (the-row-at .ensures)))
     (c .before .enum-told2 .given .1) (stepped (c .refuse-here .result)) (c .refuse-here .ensures)
 
 returns-5 : tie.Need-returns-5
 returns-5 c =
-    item-stops v02 (c .before .before .before .before .before .before .before .before .before .before .before .before .before .before .before .before .before .args .m .now) (c .before .before .before .before .before .before .before .before .before .before .before .before .before .before .before .before .before .args .at) (c .before .before .before .before .before .before .before .before .before .before .before .before .before .before .before .if1 .left) (c .before .before .before .before .before .before .before .before .before .before .before .before .before .before .if2 .left) (stated (c .before .before .before .before .before .before .before .before .before .before .before .before .before .new3 .result)) (c .before .before .before .before .before .before .before .before .before .before .before .before .before .new3 .ensures)
-    (stated (c .before .before .before .before .before .before .before .before .before .before .skip .result)) (c .before .before .before .before .before .before .before .before .before .before .skip .ensures .0) (c .before .before .before .before .before .before .before .before .before .before .skip .ensures .1) (c .before .before .before .before .choose .result)
-    (c .before .before .before .before .choose .ensures ∙ ap (λ t. tagged once t (c .before .before .before .before .before .before .before .before .before .before .before .before .before .before .before .before .before .args .m .now) (c .before .before .before .before .before .before .before .before .before .before .skip .result .at)) (item-start v02 (c .before .before .before .before .before .before .before .before .before .before .before .before .all-tags .result) (c .before .before .before .before .before .before .before .before .before .before .before .all-rows .result) (c .before .before .before .before .before .before .row-at .result) (c .before .before .before .before .before .before .before .before .before .item-row .result) (c .before .before .before .before .before .before .before .before .before .before .before .before .all-tags .ensures) (c .before .before .before .before .before .before .before .before .before .before .before .all-rows .ensures) (c .before .before .before .before .before .before .before .before .before .item-row .ensures) (c .before .before .before .before .before .before .row-at .ensures)))
+    let a = c .before .before .before .before .before .before .before .before .before .before .before .before .before .before .before .before .before .args in
+    let the-if1 = c .before .before .before .before .before .before .before .before .before .before .before .before .before .before .before .if1 in
+    let the-if2 = c .before .before .before .before .before .before .before .before .before .before .before .before .before .before .if2 in
+    let the-new3 = c .before .before .before .before .before .before .before .before .before .before .before .before .before .new3 in
+    let the-all-tags = c .before .before .before .before .before .before .before .before .before .before .before .before .all-tags in
+    let the-all-rows = c .before .before .before .before .before .before .before .before .before .before .before .all-rows in
+    let the-skip = c .before .before .before .before .before .before .before .before .before .before .skip in
+    let the-item-row = c .before .before .before .before .before .before .before .before .before .item-row in
+    let the-row-at = c .before .before .before .before .before .before .row-at in
+    let the-choose = c .before .before .before .before .choose in
+    item-stops v02 (a .m .now) (a .at) (the-if1 .left) (the-if2 .left) (stated (the-new3 .result)) (the-new3 .ensures)
+    (stated (the-skip .result)) (the-skip .ensures .0) (the-skip .ensures .1) (the-choose .result)
+    (the-choose .ensures ∙ ap (λ t. tagged once t (a .m .now) (the-skip .result .at))
+    (item-start v02 (the-all-tags .result) (the-all-rows .result) (the-row-at .result) (the-item-row .result) (the-all-tags .ensures) (the-all-rows .ensures)
+    (the-item-row .ensures) (the-row-at .ensures)))
     _ _ (c .before .before .number .given .1) (stepped (c .refuse3 .result)) (c .refuse3 .ensures)
 
 pub item-spec : {M : Type 1} → statement M

@@ -24,7 +24,9 @@ refuse-requires-2 : tie.Need-refuse-requires-2
 refuse-requires-2 c κs = search needs
 
 returns-2 : tie.Need-returns-2
-returns-2 c = message-far v02 (c .before .before .before .before .before .args .m .now) (c .before .before .before .before .before .args .at) (c .before .before .before .if1 .left) (c .before .before .if2 .taken) (stepped (c .refuse2 .result)) (c .refuse2 .ensures)
+returns-2 c =
+    let a = c .before .before .before .before .before .args in
+    message-far v02 (a .m .now) (a .at) (c .before .before .before .if1 .left) (c .before .before .if2 .taken) (stepped (c .refuse2 .result)) (c .refuse2 .ensures)
 
 cast-new : tie.Need-cast-new
 cast-new c = search needs
@@ -45,11 +47,24 @@ slice-aggregate-group-2 : tie.Need-slice-aggregate-group-2
 slice-aggregate-group-2 c = search needs
 
 group-requires : tie.Need-group-requires
-group-requires c κs = (begins v02 (c .before .before .before .before .before .before .before .before .args .m .now) (c .before .before .before .before .before .before .before .before .args .at) (c .before .before .before .before .before .before .if1 .left) (c .before .before .before .before .before .if2 .left) (stated (c .before .before .before .before .new3 .result)) (c .before .before .before .before .new3 .ensures), first-row v02, c .before .before .before .all-tags .ensures, c .before .before .all-rows .ensures)
+group-requires c κs =
+    let a = c .before .before .before .before .before .before .before .before .args in
+    let the-if1 = c .before .before .before .before .before .before .if1 in
+    let the-if2 = c .before .before .before .before .before .if2 in
+    let the-new3 = c .before .before .before .before .new3 in (
+      begins v02 (a .m .now) (a .at) (the-if1 .left) (the-if2 .left) (stated (the-new3 .result)) (the-new3 .ensures),
+      first-row v02,
+      c .before .before .before .all-tags .ensures,
+      c .before .before .all-rows .ensures,
+    )
 
 returns-3 : tie.Need-returns-3
 returns-3 c =
-    message-is v02 (c .before .before .before .before .before .before .before .before .before .args .m .now) (c .before .before .before .before .before .before .before .before .before .args .at) (c .before .before .before .before .before .before .before .if1 .left) (c .before .before .before .before .before .before .if2 .left) (stated (c .before .before .before .before .before .new3 .result)) (c .before .before .before .before .before .new3 .ensures)
+    let a = c .before .before .before .before .before .before .before .before .before .args in
+    let the-if1 = c .before .before .before .before .before .before .before .if1 in
+    let the-if2 = c .before .before .before .before .before .before .if2 in
+    let the-new3 = c .before .before .before .before .before .new3 in
+    message-is v02 (a .m .now) (a .at) (the-if1 .left) (the-if2 .left) (stated (the-new3 .result)) (the-new3 .ensures)
     (stepped (c .group .result)) (c .group .ensures .0) (c .group .ensures .1)
 
 pub message-spec : {M : Type 1} → statement M

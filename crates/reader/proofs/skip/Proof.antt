@@ -25,13 +25,19 @@ add-at-place : tie.Need-add-at-place
 add-at-place c = omega (arith, spaces-fit (c .before .before .before .before .args .m .now) (c .before .before .before .before .args .st .at) (c .spaces .result) (c .before .before .before .before .pre .within) (c .spaces .ensures))
 
 cast-at-place : tie.Need-cast-at-place
-cast-at-place c = omega (arith, spaces-fit (c .before .before .before .before .args .m .now) (c .before .before .before .before .args .st .at) (c .spaces .result) (c .before .before .before .before .pre .within) (c .spaces .ensures), c .before .before .before .before .pre .small)
+cast-at-place c =
+    let a = c .before .before .before .before .args in
+    let the-pre = c .before .before .before .before .pre in
+    omega (arith, spaces-fit (a .m .now) (a .st .at) (c .spaces .result) (the-pre .within) (c .spaces .ensures), the-pre .small)
 
 at-place-requires : tie.Need-at-place-requires
 at-place-requires c κs = search needs
 
 returns : tie.Need-returns
-returns c = skips (c .before .before .before .before .before .args .m .now) (stated (c .before .before .before .before .before .args .st)) (c .before .spaces .result) (stated (c .at-place .result)) (c .before .before .before .before .before .pre) (c .before .spaces .ensures) (c .at-place .ensures)
+returns c =
+    let a = c .before .before .before .before .before .args in
+    let the-pre = c .before .before .before .before .before .pre in
+    skips (a .m .now) (stated (a .st)) (c .before .spaces .result) (stated (c .at-place .result)) (the-pre) (c .before .spaces .ensures) (c .at-place .ensures)
 
 pub skip-spec : {M : Type 1} → statement M
 skip-spec =

@@ -2,7 +2,7 @@
 use mathlib.Core.Path.{_∙_, ap, sym, refl}
 use native.Mathlib.Omega.{arith}
 use Rattle.table.specs.Table.{closesBy, kindOf, fieldOf}
-use Rattle.notes.specs.Steps.{stated, meant, stepped}
+use Rattle.notes.specs.Steps.{stated, metIn, stepped}
 use Rattle.reader.proofs.Steps.{value-fits, value-none, value-good, value-stops, value-closes}
 use borrow.Author.Needs.{needs}
 use Rattle.reader.proofs.value.Statement.{statement}
@@ -24,13 +24,21 @@ upto-requires : tie.Need-upto-requires
 upto-requires c κs = search needs
 
 add-e : tie.Need-add-e
-add-e c = omega (arith, value-fits (c .before .before .before .before .before .args .m .now) (c .before .before .before .before .before .args .st .at) (c .upto .result) (c .before .before .before .before .before .pre .0 .within) (c .upto .ensures))
+add-e c =
+    let a = c .before .before .before .before .before .args in
+    let the-pre = c .before .before .before .before .before .pre in
+    omega (arith, value-fits (a .m .now) (a .st .at) (c .upto .result) (the-pre .0 .within) (c .upto .ensures))
 
 refuse-requires : tie.Need-refuse-requires
 refuse-requires c κs = search needs
 
 returns : tie.Need-returns
-returns c = value-none (c .before .before .before .before .before .before .before .args .m .now) (c .before .before .before .before .before .before .before .args .st .at) (c .before .before .before .before .before .before .before .args .st .notes) (c .before .before .before .before .before .before .before .pre .0) (closesBy (c .before .before .before .before .before .before .before .args .names .now) (c .before .before .before .before .before .before .before .args .r)) (kindOf (c .before .before .before .before .before .before .before .args .r .kind)) (fieldOf (c .before .before .before .before .before .before .before .args .r .field)) (c .before .before .upto .result) (c .before .before .upto .ensures) (c .before .if1 .taken) (stepped (c .refuse .result)) (c .refuse .ensures)
+returns c =
+    let a = c .before .before .before .before .before .before .before .args in
+    let the-pre = c .before .before .before .before .before .before .before .pre in
+    let the-upto = c .before .before .upto in
+    value-none (a .m .now) (a .st .at) (a .st .notes) (the-pre .0) (closesBy (a .names .now) (a .r)) (kindOf (a .r .kind)) (fieldOf (a .r .field)) (the-upto .result)
+    (the-upto .ensures) (c .before .if1 .taken) (stepped (c .refuse .result)) (c .refuse .ensures)
 
 kind-of-requires : tie.Need-kind-of-requires
 kind-of-requires c κs = search needs
@@ -45,7 +53,11 @@ part-note-start : tie.Need-part-note-start
 part-note-start c = search needs
 
 part-note-end : tie.Need-part-note-end
-part-note-end c = omega (arith, value-fits (c .before .before .before .before .before .before .before .before .args .m .now) (c .before .before .before .before .before .before .before .before .args .st .at) (c .before .before .before .upto .result) (c .before .before .before .before .before .before .before .before .pre .0 .within) (c .before .before .before .upto .ensures))
+part-note-end c =
+    let a = c .before .before .before .before .before .before .before .before .args in
+    let the-pre = c .before .before .before .before .before .before .before .before .pre in
+    let the-upto = c .before .before .before .upto in
+    omega (arith, value-fits (a .m .now) (a .st .at) (the-upto .result) (the-pre .0 .within) (the-upto .ensures))
 
 note-requires : tie.Need-note-requires
 note-requires c κs = search needs
@@ -60,19 +72,56 @@ enum-told : tie.Need-enum-told
 enum-told c = search needs
 
 cast-at-place : tie.Need-cast-at-place
-cast-at-place c = omega (arith, value-fits (c .before .before .before .before .before .before .before .before .before .before .before .before .before .args .m .now) (c .before .before .before .before .before .before .before .before .before .before .before .before .before .args .st .at) (c .before .before .before .before .before .before .before .before .upto .result) (c .before .before .before .before .before .before .before .before .before .before .before .before .before .pre .0 .within) (c .before .before .before .before .before .before .before .before .upto .ensures), c .before .before .before .before .before .before .before .before .before .before .before .before .before .pre .0 .small)
+cast-at-place c =
+    let a = c .before .before .before .before .before .before .before .before .before .before .before .before .before .args in
+    let the-pre = c .before .before .before .before .before .before .before .before .before .before .before .before .before .pre in
+    let the-upto = c .before .before .before .before .before .before .before .before .upto in
+    omega (arith, value-fits (a .m .now) (a .st .at) (the-upto .result) (the-pre .0 .within) (the-upto .ensures), the-pre .0 .small)
 
 at-place-requires : tie.Need-at-place-requires
 at-place-requires c κs = search needs
 
 close-requires : tie.Need-close-requires
-close-requires c κs = (rw (c .at-place .ensures) (value-good (c .before .before .before .before .before .before .before .before .before .before .before .before .before .before .args .m .now) (c .before .before .before .before .before .before .before .before .before .before .before .before .before .before .args .st .at) (c .before .before .before .before .before .before .before .before .before .before .before .before .before .before .args .st .notes) (c .before .before .before .before .before .before .before .before .before .before .before .before .before .before .pre .0) (closesBy (c .before .before .before .before .before .before .before .before .before .before .before .before .before .before .args .names .now) (c .before .before .before .before .before .before .before .before .before .before .before .before .before .before .args .r)) (kindOf (c .before .before .before .before .before .before .before .before .before .before .before .before .before .before .args .r .kind)) (fieldOf (c .before .before .before .before .before .before .before .before .before .before .before .before .before .before .args .r .field)) (c .before .before .before .before .before .before .before .before .before .upto .result) (c .before .before .before .before .before .before .before .before .before .upto .ensures) (c .before .before .before .before .before .before .before .before .if1 .left) (stated (c .before .before .before .before .note .result .state)) (ap (λ x. meant x (c .before .before .before .before .note .result .state)) (sym (c .before .enum-told .given .1)) ∙ (c .before .before .before .before .note .ensures ∙ rw (c .before .before .before .before .before .before .before .kind-of .ensures, c .before .before .before .before .before .before .field-of .ensures)))), c .before .before .before .before .before .before .before .before .before .before .before .before .before .before .pre .1)
+close-requires c κs =
+    let a = c .before .before .before .before .before .before .before .before .before .before .before .before .before .before .args in
+    let the-pre = c .before .before .before .before .before .before .before .before .before .before .before .before .before .before .pre in
+    let the-upto = c .before .before .before .before .before .before .before .before .before .upto in
+    let the-if1 = c .before .before .before .before .before .before .before .before .if1 in
+    let the-kind-of = c .before .before .before .before .before .before .before .kind-of in
+    let the-field-of = c .before .before .before .before .before .before .field-of in
+    let the-note = c .before .before .before .before .note in (
+      rw (c .at-place .ensures) (value-good (a .m .now) (a .st .at) (a .st .notes) (the-pre .0) (closesBy (a .names .now) (a .r)) (kindOf (a .r .kind))
+          (fieldOf (a .r .field)) (the-upto .result) (the-upto .ensures) (the-if1 .left) (stated (the-note .result .state))
+          (ap (λ x. metIn x (the-note .result .state)) (sym (c .before .enum-told .given .1)) ∙ (the-note .ensures ∙ rw (the-kind-of .ensures, the-field-of .ensures)))),
+      the-pre .1,
+    )
 
 returns-2 : tie.Need-returns-2
-returns-2 c = value-stops (c .before .before .before .before .before .before .before .before .before .before .before .before .before .before .before .args .m .now) (c .before .before .before .before .before .before .before .before .before .before .before .before .before .before .before .args .st .at) (c .before .before .before .before .before .before .before .before .before .before .before .before .before .before .before .args .st .notes) (c .before .before .before .before .before .before .before .before .before .before .before .before .before .before .before .pre .0) (closesBy (c .before .before .before .before .before .before .before .before .before .before .before .before .before .before .before .args .names .now) (c .before .before .before .before .before .before .before .before .before .before .before .before .before .before .before .args .r)) (kindOf (c .before .before .before .before .before .before .before .before .before .before .before .before .before .before .before .args .r .kind)) (fieldOf (c .before .before .before .before .before .before .before .before .before .before .before .before .before .before .before .args .r .field)) (c .before .before .before .before .before .before .before .before .before .before .upto .result) (c .before .before .before .before .before .before .before .before .before .before .upto .ensures) (c .before .before .before .before .before .before .before .before .before .if1 .left) _ _ (ap (λ x. meant x (c .before .before .before .before .before .note .result .state)) (sym (c .before .before .met .given .1)) ∙ (c .before .before .before .before .before .note .ensures ∙ rw (c .before .before .before .before .before .before .before .before .kind-of .ensures, c .before .before .before .before .before .before .before .field-of .ensures))) (stepped (c .refuse2 .result)) (c .refuse2 .ensures)
+returns-2 c =
+    let a = c .before .before .before .before .before .before .before .before .before .before .before .before .before .before .before .args in
+    let the-pre = c .before .before .before .before .before .before .before .before .before .before .before .before .before .before .before .pre in
+    let the-upto = c .before .before .before .before .before .before .before .before .before .before .upto in
+    let the-if1 = c .before .before .before .before .before .before .before .before .before .if1 in
+    let the-kind-of = c .before .before .before .before .before .before .before .before .kind-of in
+    let the-field-of = c .before .before .before .before .before .before .before .field-of in
+    let the-note = c .before .before .before .before .before .note in
+    value-stops (a .m .now) (a .st .at) (a .st .notes) (the-pre .0) (closesBy (a .names .now) (a .r)) (kindOf (a .r .kind)) (fieldOf (a .r .field)) (the-upto .result)
+    (the-upto .ensures) (the-if1 .left) _ _ (ap (λ x. metIn x (the-note .result .state)) (sym (c .before .before .met .given .1))
+    ∙ (the-note .ensures ∙ rw (the-kind-of .ensures, the-field-of .ensures))) (stepped (c .refuse2 .result)) (c .refuse2 .ensures)
 
 returns-3 : tie.Need-returns-3
-returns-3 c = value-closes (c .before .before .before .before .before .before .before .before .before .before .before .before .before .before .before .args .m .now) (c .before .before .before .before .before .before .before .before .before .before .before .before .before .before .before .args .st .at) (c .before .before .before .before .before .before .before .before .before .before .before .before .before .before .before .args .st .notes) (c .before .before .before .before .before .before .before .before .before .before .before .before .before .before .before .pre .0) (closesBy (c .before .before .before .before .before .before .before .before .before .before .before .before .before .before .before .args .names .now) (c .before .before .before .before .before .before .before .before .before .before .before .before .before .before .before .args .r)) (kindOf (c .before .before .before .before .before .before .before .before .before .before .before .before .before .before .before .args .r .kind)) (fieldOf (c .before .before .before .before .before .before .before .before .before .before .before .before .before .before .before .args .r .field)) (c .before .before .before .before .before .before .before .before .before .before .upto .result) (c .before .before .before .before .before .before .before .before .before .before .upto .ensures) (c .before .before .before .before .before .before .before .before .before .if1 .left) (stated (c .before .before .before .before .before .note .result .state)) (ap (λ x. meant x (c .before .before .before .before .before .note .result .state)) (sym (c .before .before .enum-told .given .1)) ∙ (c .before .before .before .before .before .note .ensures ∙ rw (c .before .before .before .before .before .before .before .before .kind-of .ensures, c .before .before .before .before .before .before .before .field-of .ensures))) (stated (c .before .at-place .result)) (c .before .at-place .ensures) (stepped (c .close .result)) (c .close .ensures .0) (c .close .ensures .1)
+returns-3 c =
+    let a = c .before .before .before .before .before .before .before .before .before .before .before .before .before .before .before .args in
+    let the-pre = c .before .before .before .before .before .before .before .before .before .before .before .before .before .before .before .pre in
+    let the-upto = c .before .before .before .before .before .before .before .before .before .before .upto in
+    let the-if1 = c .before .before .before .before .before .before .before .before .before .if1 in
+    let the-kind-of = c .before .before .before .before .before .before .before .before .kind-of in
+    let the-field-of = c .before .before .before .before .before .before .before .field-of in
+    let the-note = c .before .before .before .before .before .note in
+    value-closes (a .m .now) (a .st .at) (a .st .notes) (the-pre .0) (closesBy (a .names .now) (a .r)) (kindOf (a .r .kind)) (fieldOf (a .r .field)) (the-upto .result)
+    (the-upto .ensures) (the-if1 .left) (stated (the-note .result .state))
+    (ap (λ x. metIn x (the-note .result .state)) (sym (c .before .before .enum-told .given .1)) ∙ (the-note .ensures ∙ rw (the-kind-of .ensures, the-field-of .ensures)))
+    (stated (c .before .at-place .result)) (c .before .at-place .ensures) (stepped (c .close .result)) (c .close .ensures .0) (c .close .ensures .1)
 
 pub value-spec : {M : Type 1} → statement M
 value-spec =

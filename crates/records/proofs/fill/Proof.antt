@@ -3,7 +3,7 @@ use mathlib.Core.Path.{_∙_, ap, sym}
 use Prim.Native.Nat.{_-_}
 use borrow.Author.Needs.{needs}
 use native.Mathlib.Omega.{arith}
-use Rattle.notes.specs.Steps.{stated, meant, stepped}
+use Rattle.notes.specs.Steps.{stated, metIn, stepped}
 use Rattle.records.proofs.Areas.{Filling, fill-begins, fill-ends, part-fits, part-long, never-stops, fill-on}
 use Rattle.records.proofs.fill.Statement.{statement}
 use Rattle.records.proofs.fill.Tie as tie
@@ -27,31 +27,88 @@ same-length : tie.Need-same-length Inv-loop μ-loop
 same-length c = c .before .before .before .before .before .loop .inv .long
 
 returns : tie.Need-returns Inv-loop μ-loop
-returns c = never-stops (c .before .before .before .before .before .before .before .before .args .m .now) (c .before .before .before .before .before .before .before .before .args .count) (c .before .before .before .before .before .before .before .before .args .first) (c .before .before .before .before .before .before .before .before .args .area .now) (c .before .before .before .before .before .before .before .before .pre) (c .before .before .before .before .before .loop .i) (c .before .before .before .before .before .loop .at) (c .before .before .before .before .before .loop .area) (c .before .before .before .before .before .loop .inv) (c .before .before .before .before .loop-test .taken) (stepped (c .before .before .before .item .result)) (c .before .before .before .item .ensures .0) _ _ (ap (λ x. meant x (c .before .before .before .item .result .state)) (c .enum-told .given .1))
+returns c =
+    let a = c .before .before .before .before .before .before .before .before .args in
+    let the-pre = c .before .before .before .before .before .before .before .before .pre in
+    let the-loop = c .before .before .before .before .before .loop in
+    let the-loop-test = c .before .before .before .before .loop-test in
+    let the-item = c .before .before .before .item in
+    never-stops (a .m .now) (a .count) (a .first) (a .area .now) (the-pre) (the-loop .i) (the-loop .at) (the-loop .area) (the-loop .inv) (the-loop-test .taken)
+    (stepped (the-item .result)) (the-item .ensures .0) _ _ (ap (λ x. metIn x (the-item .result .state)) (c .enum-told .given .1))
 
 enum-told-2 : tie.Need-enum-told-2 Inv-loop μ-loop
 enum-told-2 c = search needs
 
 mul-from : tie.Need-mul-from Inv-loop μ-loop
-mul-from c = omega (arith, part-fits (c .before .before .before .before .before .before .before .before .args .m .now) (c .before .before .before .before .before .before .before .before .args .count) (c .before .before .before .before .before .before .before .before .args .first) (c .before .before .before .before .before .before .before .before .args .area .now) (c .before .before .before .before .before .before .before .before .pre) (c .before .before .before .before .before .loop .i) (c .before .before .before .before .before .loop .at) (c .before .before .before .before .before .loop .area) (c .before .before .before .before .before .loop .inv) (c .before .before .before .before .loop-test .taken))
+mul-from c =
+    let a = c .before .before .before .before .before .before .before .before .args in
+    let the-pre = c .before .before .before .before .before .before .before .before .pre in
+    let the-loop = c .before .before .before .before .before .loop in
+    let the-loop-test = c .before .before .before .before .loop-test in
+    omega (
+      arith,
+      part-fits (a .m .now) (a .count) (a .first) (a .area .now) (the-pre) (the-loop .i) (the-loop .at) (the-loop .area) (the-loop .inv)
+          (the-loop-test .taken),
+    )
 
 add-to : tie.Need-add-to Inv-loop μ-loop
-add-to c = omega (arith, part-fits (c .before .before .before .before .before .before .before .before .args .m .now) (c .before .before .before .before .before .before .before .before .args .count) (c .before .before .before .before .before .before .before .before .args .first) (c .before .before .before .before .before .before .before .before .args .area .now) (c .before .before .before .before .before .before .before .before .pre) (c .before .before .before .before .before .loop .i) (c .before .before .before .before .before .loop .at) (c .before .before .before .before .before .loop .area) (c .before .before .before .before .before .loop .inv) (c .before .before .before .before .loop-test .taken))
+add-to c =
+    let a = c .before .before .before .before .before .before .before .before .args in
+    let the-pre = c .before .before .before .before .before .before .before .before .pre in
+    let the-loop = c .before .before .before .before .before .loop in
+    let the-loop-test = c .before .before .before .before .loop-test in
+    omega (
+      arith,
+      part-fits (a .m .now) (a .count) (a .first) (a .area .now) (the-pre) (the-loop .i) (the-loop .at) (the-loop .area) (the-loop .inv)
+          (the-loop-test .taken),
+    )
 
 sub-write : tie.Need-sub-write Inv-loop μ-loop
-sub-write c = omega (arith, part-fits (c .before .before .before .before .before .before .before .before .before .args .m .now) (c .before .before .before .before .before .before .before .before .before .args .count) (c .before .before .before .before .before .before .before .before .before .args .first) (c .before .before .before .before .before .before .before .before .before .args .area .now) (c .before .before .before .before .before .before .before .before .before .pre) (c .before .before .before .before .before .before .loop .i) (c .before .before .before .before .before .before .loop .at) (c .before .before .before .before .before .before .loop .area) (c .before .before .before .before .before .before .loop .inv) (c .before .before .before .before .before .loop-test .taken))
+sub-write c =
+    let a = c .before .before .before .before .before .before .before .before .before .args in
+    let the-pre = c .before .before .before .before .before .before .before .before .before .pre in
+    let the-loop = c .before .before .before .before .before .before .loop in
+    let the-loop-test = c .before .before .before .before .before .loop-test in
+    omega (
+      arith,
+      part-fits (a .m .now) (a .count) (a .first) (a .area .now) (the-pre) (the-loop .i) (the-loop .at) (the-loop .area) (the-loop .inv)
+          (the-loop-test .taken),
+    )
 
 part-write-start : tie.Need-part-write-start Inv-loop μ-loop
-part-write-start c = omega (arith, part-fits (c .before .before .before .before .before .before .before .before .before .args .m .now) (c .before .before .before .before .before .before .before .before .before .args .count) (c .before .before .before .before .before .before .before .before .before .args .first) (c .before .before .before .before .before .before .before .before .before .args .area .now) (c .before .before .before .before .before .before .before .before .before .pre) (c .before .before .before .before .before .before .loop .i) (c .before .before .before .before .before .before .loop .at) (c .before .before .before .before .before .before .loop .area) (c .before .before .before .before .before .before .loop .inv) (c .before .before .before .before .before .loop-test .taken))
+part-write-start c =
+    let a = c .before .before .before .before .before .before .before .before .before .args in
+    let the-pre = c .before .before .before .before .before .before .before .before .before .pre in
+    let the-loop = c .before .before .before .before .before .before .loop in
+    let the-loop-test = c .before .before .before .before .before .loop-test in
+    omega (
+      arith,
+      part-fits (a .m .now) (a .count) (a .first) (a .area .now) (the-pre) (the-loop .i) (the-loop .at) (the-loop .area) (the-loop .inv)
+          (the-loop-test .taken),
+    )
 
 part-write-end : tie.Need-part-write-end Inv-loop μ-loop
-part-write-end c = omega (arith, part-fits (c .before .before .before .before .before .before .before .before .before .args .m .now) (c .before .before .before .before .before .before .before .before .before .args .count) (c .before .before .before .before .before .before .before .before .before .args .first) (c .before .before .before .before .before .before .before .before .before .args .area .now) (c .before .before .before .before .before .before .before .before .before .pre) (c .before .before .before .before .before .before .loop .i) (c .before .before .before .before .before .before .loop .at) (c .before .before .before .before .before .before .loop .area) (c .before .before .before .before .before .before .loop .inv) (c .before .before .before .before .before .loop-test .taken))
+part-write-end c =
+    let a = c .before .before .before .before .before .before .before .before .before .args in
+    let the-pre = c .before .before .before .before .before .before .before .before .before .pre in
+    let the-loop = c .before .before .before .before .before .before .loop in
+    let the-loop-test = c .before .before .before .before .before .loop-test in
+    omega (
+      arith,
+      part-fits (a .m .now) (a .count) (a .first) (a .area .now) (the-pre) (the-loop .i) (the-loop .at) (the-loop .area) (the-loop .inv)
+          (the-loop-test .taken),
+    )
 
 make-record-requires : tie.Need-make-record-requires Inv-loop μ-loop
 make-record-requires c κs = search needs
 
 write-requires : tie.Need-write-requires Inv-loop μ-loop
-write-requires c κs = part-long (c .before .before .before .before .before .before .before .before .before .before .before .args .m .now) (c .before .before .before .before .before .before .before .before .before .before .before .args .count) (c .before .before .before .before .before .before .before .before .before .before .before .args .first) (c .before .before .before .before .before .before .before .before .before .before .before .args .area .now) (c .before .before .before .before .before .before .before .before .before .before .before .pre) (c .before .before .before .before .before .before .before .before .loop .i) (c .before .before .before .before .before .before .before .before .loop .at) (c .before .before .before .before .before .before .before .before .loop .area) (c .before .before .before .before .before .before .before .before .loop .inv) (c .before .before .before .before .before .before .before .loop-test .taken)
+write-requires c κs =
+    let a = c .before .before .before .before .before .before .before .before .before .before .before .args in
+    let the-pre = c .before .before .before .before .before .before .before .before .before .before .before .pre in
+    let the-loop = c .before .before .before .before .before .before .before .before .loop in
+    let the-loop-test = c .before .before .before .before .before .before .before .loop-test in
+    part-long (a .m .now) (a .count) (a .first) (a .area .now) (the-pre) (the-loop .i) (the-loop .at) (the-loop .area) (the-loop .inv) (the-loop-test .taken)
 
 cast-at : tie.Need-cast-at Inv-loop μ-loop
 cast-at c = search needs
@@ -63,13 +120,28 @@ loop-less : tie.Need-loop-less Inv-loop μ-loop
 loop-less c = search needs
 
 loop-again : tie.Need-loop-again Inv-loop μ-loop
-loop-again c = fill-on (c .before .before .before .before .before .before .before .before .before .before .before .before .before .before .before .args .m .now) (c .before .before .before .before .before .before .before .before .before .before .before .before .before .before .before .args .count) (c .before .before .before .before .before .before .before .before .before .before .before .before .before .before .before .args .first) (c .before .before .before .before .before .before .before .before .before .before .before .before .before .before .before .args .area .now) (c .before .before .before .before .before .before .before .before .before .before .before .before .before .before .before .pre) (c .before .before .before .before .before .before .before .before .before .before .before .before .loop .i) (c .before .before .before .before .before .before .before .before .before .before .before .before .loop .at) (c .before .before .before .before .before .before .before .before .before .before .before .before .loop .area) (c .before .before .before .before .before .before .before .before .before .before .before .before .loop .inv) (c .before .before .before .before .before .before .before .before .before .before .before .loop-test .taken) (stepped (c .before .before .before .before .before .before .before .before .before .before .item .result)) (c .before .before .before .before .before .before .before .before .before .before .item .ensures .0) (stated (c .before .before .before .before .before .before .before .before .before .before .item .result .state)) (ap (λ x. meant x (c .before .before .before .before .before .before .before .before .before .before .item .result .state)) (c .before .before .before .before .before .before .before .enum-told2 .given .1)) (c .before .before .before .write .last .0) (c .before .before .before .write .ensures ∙ c .before .before .before .before .make-record .ensures)
+loop-again c =
+    let a = c .before .before .before .before .before .before .before .before .before .before .before .before .before .before .before .args in
+    let the-pre = c .before .before .before .before .before .before .before .before .before .before .before .before .before .before .before .pre in
+    let the-loop = c .before .before .before .before .before .before .before .before .before .before .before .before .loop in
+    let the-loop-test = c .before .before .before .before .before .before .before .before .before .before .before .loop-test in
+    let the-item = c .before .before .before .before .before .before .before .before .before .before .item in
+    let the-enum-told2 = c .before .before .before .before .before .before .before .enum-told2 in
+    let the-make-record = c .before .before .before .before .make-record in
+    let the-write = c .before .before .before .write in
+    fill-on (a .m .now) (a .count) (a .first) (a .area .now) (the-pre) (the-loop .i) (the-loop .at) (the-loop .area) (the-loop .inv) (the-loop-test .taken)
+    (stepped (the-item .result)) (the-item .ensures .0) (stated (the-item .result .state)) (ap (λ x. metIn x (the-item .result .state)) (the-enum-told2 .given .1))
+    (the-write .last .0) (the-write .ensures ∙ the-make-record .ensures)
 
 same-length-2 : tie.Need-same-length-2 Inv-loop μ-loop
 same-length-2 c = c .before .loop .inv .long
 
 returns-2 : tie.Need-returns-2 Inv-loop μ-loop
-returns-2 c = fill-ends (c .before .before .before .before .args .m .now) (c .before .before .before .before .args .count) (c .before .before .before .before .args .first) (c .before .before .before .before .args .area .now) (c .before .before .before .before .pre) (c .before .loop .i) (c .before .loop .at) (c .before .loop .area) (c .before .loop .inv) (c .loop-test .left)
+returns-2 c =
+    let a = c .before .before .before .before .args in
+    let the-pre = c .before .before .before .before .pre in
+    let the-loop = c .before .loop in
+    fill-ends (a .m .now) (a .count) (a .first) (a .area .now) (the-pre) (the-loop .i) (the-loop .at) (the-loop .area) (the-loop .inv) (c .loop-test .left)
 
 pub fill-spec : {M : Type 1} → statement M
 fill-spec =

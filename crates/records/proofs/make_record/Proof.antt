@@ -41,7 +41,17 @@ array-write-rec : tie.Need-array-write-rec
 array-write-rec c = search needs
 
 returns : tie.Need-returns
-returns c = whole (c .before .before .before .before .before .before .before .before .before .before .before .before .before .args .m .now) (c .before .before .before .before .before .before .before .before .before .before .before .before .before .args .n) (c .before .before .before .before .before .before .before .before .before .before .put .ensures) (c .before .before .before .before .before .before .before .before .before .put2 .ensures) (c .before .before .before .before .before .before .before .before .put3 .ensures) (c .before .before .before .before .before .before .before .put4 .ensures) (c .before .before .before .before .before .before .put5 .ensures) (c .before .before .before .before .before .put6 .ensures) (c .before .before .before .before .put-cents .ensures) (c .before .before .before .put7 .ensures) (c .before .before .put8 .ensures) (c .before .put9 .ensures) (c .put10 .ensures)
+returns c =
+    let a = c .before .before .before .before .before .before .before .before .before .before .before .before .before .args in
+    let the-put = c .before .before .before .before .before .before .before .before .before .before .put in
+    let the-put2 = c .before .before .before .before .before .before .before .before .before .put2 in
+    let the-put3 = c .before .before .before .before .before .before .before .before .put3 in
+    let the-put4 = c .before .before .before .before .before .before .before .put4 in
+    let the-put5 = c .before .before .before .before .before .before .put5 in
+    let the-put6 = c .before .before .before .before .before .put6 in
+    let the-put-cents = c .before .before .before .before .put-cents in
+    whole (a .m .now) (a .n) (the-put .ensures) (the-put2 .ensures) (the-put3 .ensures) (the-put4 .ensures) (the-put5 .ensures) (the-put6 .ensures)
+    (the-put-cents .ensures) (c .before .before .before .put7 .ensures) (c .before .before .put8 .ensures) (c .before .put9 .ensures) (c .put10 .ensures)
 
 pub make-record-spec : {M : Type 1} → statement M
 make-record-spec =

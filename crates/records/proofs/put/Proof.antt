@@ -16,7 +16,10 @@ start-of-requires : tie.Need-start-of-requires
 start-of-requires c κs = search needs
 
 returns : tie.Need-returns
-returns c = laid-none (c .before .before .before .args .at) (c .before .before .before .args .rec) ∙ ap (λ (l : List ℕ). laid (c .before .before .before .args .at) l (c .before .before .before .args .rec)) (sym (field-none (c .before .before .before .args .m .now) (c .before .start-of .result) (c .before .before .before .args .width) (c .if1 .taken))) ∙ ap (λ (p : ℕ). laid (c .before .before .before .args .at) (take (c .before .before .before .args .width) (valueAt (c .before .before .before .args .m .now) p)) (c .before .before .before .args .rec)) (c .before .start-of .ensures)
+returns c =
+    let a = c .before .before .before .args in
+    laid-none (a .at) (a .rec) ∙ ap (λ (l : List ℕ). laid (a .at) l (a .rec)) (sym (field-none (a .m .now) (c .before .start-of .result) (a .width) (c .if1 .taken))) ∙ ap
+    (λ (p : ℕ). laid (a .at) (take (a .width) (valueAt (a .m .now) p)) (a .rec)) (c .before .start-of .ensures)
 
 sub-s : tie.Need-sub-s
 sub-s c = search needs
@@ -31,22 +34,42 @@ upto-requires : tie.Need-upto-requires
 upto-requires c κs = search needs
 
 slice-aggregate-lay : tie.Need-slice-aggregate-lay
-slice-aggregate-lay c = sym (length-take-le _ _ (held (c .before .before .before .before .before .before .before .args .m .now) (c .before .before .before .before .before .start-of .result) (c .before .before .before .before .before .before .before .args .width) (c .before .before .upto .result) (c .before .before .upto .ensures)))
+slice-aggregate-lay c =
+    let a = c .before .before .before .before .before .before .before .args in
+    let the-start-of = c .before .before .before .before .before .start-of in
+    let the-upto = c .before .before .upto in
+    sym (length-take-le _ _ (held (a .m .now) (the-start-of .result) (a .width) (the-upto .result) (the-upto .ensures)))
 
 lay-requires : tie.Need-lay-requires
 lay-requires c κs = simp length-take (omega arith)
 
 returns-2 : tie.Need-returns-2
-returns-2 c = c .lay .ensures ∙ ap (λ (l : List ℕ). laid (c .before .before .before .before .before .before .before .before .args .at) l (c .before .before .before .before .before .before .before .before .args .rec)) (field-short (c .before .before .before .before .before .before .before .before .args .m .now) (c .before .before .before .before .before .before .start-of .result) (c .before .before .before .before .before .before .before .before .args .width) (c .before .before .before .upto .result) (c .before .before .before .upto .ensures) (c .before .before .if2 .taken)) ∙ ap (λ (p : ℕ). laid (c .before .before .before .before .before .before .before .before .args .at) (take (c .before .before .before .before .before .before .before .before .args .width) (valueAt (c .before .before .before .before .before .before .before .before .args .m .now) p)) (c .before .before .before .before .before .before .before .before .args .rec)) (c .before .before .before .before .before .before .start-of .ensures)
+returns-2 c =
+    let a = c .before .before .before .before .before .before .before .before .args in
+    let the-start-of = c .before .before .before .before .before .before .start-of in
+    let the-upto = c .before .before .before .upto in
+    c .lay .ensures ∙ ap (λ (l : List ℕ). laid (a .at) l (a .rec))
+    (field-short (a .m .now) (the-start-of .result) (a .width) (the-upto .result) (the-upto .ensures) (c .before .before .if2 .taken)) ∙ ap
+    (λ (p : ℕ). laid (a .at) (take (a .width) (valueAt (a .m .now) p)) (a .rec)) (the-start-of .ensures)
 
 slice-aggregate-lay-2 : tie.Need-slice-aggregate-lay-2
-slice-aggregate-lay-2 c = sym (length-take-le _ _ (omega (arith, held (c .before .before .before .before .before .before .before .args .m .now) (c .before .before .before .before .before .start-of .result) (c .before .before .before .before .before .before .before .args .width) (c .before .before .upto .result) (c .before .before .upto .ensures))))
+slice-aggregate-lay-2 c =
+    let a = c .before .before .before .before .before .before .before .args in
+    let the-start-of = c .before .before .before .before .before .start-of in
+    let the-upto = c .before .before .upto in
+    sym (length-take-le _ _ (omega (arith, held (a .m .now) (the-start-of .result) (a .width) (the-upto .result) (the-upto .ensures))))
 
 lay-requires-2 : tie.Need-lay-requires-2
 lay-requires-2 c κs = simp length-take (omega arith)
 
 returns-3 : tie.Need-returns-3
-returns-3 c = c .lay2 .ensures ∙ ap (λ (l : List ℕ). laid (c .before .before .before .before .before .before .before .before .args .at) l (c .before .before .before .before .before .before .before .before .args .rec)) (field-long (c .before .before .before .before .before .before .before .before .args .m .now) (c .before .before .before .before .before .before .start-of .result) (c .before .before .before .before .before .before .before .before .args .width) (c .before .before .before .upto .result) (c .before .before .before .upto .ensures) (c .before .before .if2 .left)) ∙ ap (λ (p : ℕ). laid (c .before .before .before .before .before .before .before .before .args .at) (take (c .before .before .before .before .before .before .before .before .args .width) (valueAt (c .before .before .before .before .before .before .before .before .args .m .now) p)) (c .before .before .before .before .before .before .before .before .args .rec)) (c .before .before .before .before .before .before .start-of .ensures)
+returns-3 c =
+    let a = c .before .before .before .before .before .before .before .before .args in
+    let the-start-of = c .before .before .before .before .before .before .start-of in
+    let the-upto = c .before .before .before .upto in
+    c .lay2 .ensures ∙ ap (λ (l : List ℕ). laid (a .at) l (a .rec))
+    (field-long (a .m .now) (the-start-of .result) (a .width) (the-upto .result) (the-upto .ensures) (c .before .before .if2 .left)) ∙ ap
+    (λ (p : ℕ). laid (a .at) (take (a .width) (valueAt (a .m .now) p)) (a .rec)) (the-start-of .ensures)
 
 pub put-spec : {M : Type 1} → statement M
 put-spec =

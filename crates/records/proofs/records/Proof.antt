@@ -17,19 +17,36 @@ enum-known-v-2 : tie.Need-enum-known-v-2
 enum-known-v-2 c = search needs
 
 returns : tie.Need-returns
-returns c = no-room (c .before .before .before .before .before .before .before .args .m .now) (c .before .before .before .before .before .before .before .args .area .now) (c .before .before .before .before .find .result .verdict) (ap (λ (f : Found). f .verdict) (c .before .before .before .before .find .ensures)) _ _ (c .before .before .v2 .given .1) (c .if1 .taken)
+returns c =
+    let a = c .before .before .before .before .before .before .before .args in
+    let the-find = c .before .before .before .before .find in
+    no-room (a .m .now) (a .area .now) (the-find .result .verdict) (ap (λ (f : Found). f .verdict) (the-find .ensures)) _ _ (c .before .before .v2 .given .1)
+    (c .if1 .taken)
 
 fill-requires : tie.Need-fill-requires
-fill-requires c κs = has-room (c .before .before .before .before .before .before .before .before .args .m .now) (c .before .before .before .before .before .before .before .before .args .area .now) (c .before .before .before .before .before .find .result .verdict) (ap (λ (f : Found). f .verdict) (c .before .before .before .before .before .find .ensures)) _ _ (c .before .before .before .v2 .given .1) (c .before .if1 .left) _ (ap (λ (f : Found). f .first) (c .before .before .before .before .before .find .ensures))
+fill-requires c κs =
+    let a = c .before .before .before .before .before .before .before .before .args in
+    let the-find = c .before .before .before .before .before .find in
+    has-room (a .m .now) (a .area .now) (the-find .result .verdict) (ap (λ (f : Found). f .verdict) (the-find .ensures)) _ _ (c .before .before .before .v2 .given .1)
+    (c .before .if1 .left) _ (ap (λ (f : Found). f .first) (the-find .ensures))
 
 returns-2 : tie.Need-returns-2
-returns-2 c = not-accepted (c .before .before .before .before .before .before .args .m .now) (c .before .before .before .before .before .before .args .area .now) (c .before .before .before .find .result .verdict) (ap (λ (f : Found). f .verdict) (c .before .before .before .find .ensures)) _ _ (c .before .v .given .1)
+returns-2 c =
+    let a = c .before .before .before .before .before .before .args in
+    let the-find = c .before .before .before .find in
+    not-accepted (a .m .now) (a .area .now) (the-find .result .verdict) (ap (λ (f : Found). f .verdict) (the-find .ensures)) _ _ (c .before .v .given .1)
 
 same-length : tie.Need-same-length
 same-length c = search needs
 
 returns-3 : tie.Need-returns-3
-returns-3 c = filled-up (c .before .before .before .before .before .before .before .before .before .before .before .args .m .now) (c .before .before .before .before .before .before .before .before .before .before .before .args .area .now) (c .before .before .before .before .before .before .before .before .find .result .verdict) (ap (λ (f : Found). f .verdict) (c .before .before .before .before .before .before .before .before .find .ensures)) _ _ (c .before .before .before .before .before .before .v2 .given .1) (c .before .before .before .before .if1 .left) _ (c .before .before .fill .ensures)
+returns-3 c =
+    let a = c .before .before .before .before .before .before .before .before .before .before .before .args in
+    let the-find = c .before .before .before .before .before .before .before .before .find in
+    let the-v2 = c .before .before .before .before .before .before .v2 in
+    let the-if1 = c .before .before .before .before .if1 in
+    filled-up (a .m .now) (a .area .now) (the-find .result .verdict) (ap (λ (f : Found). f .verdict) (the-find .ensures)) _ _ (the-v2 .given .1) (the-if1 .left) _
+    (c .before .before .fill .ensures)
 
 pub records-spec : {M : Type 1} → statement M
 records-spec =

@@ -1,4 +1,4 @@
--- `profile::has_question` meets its contract. Assumes nothing.
+-- `profile::has_question` meets its contract.
 use Rattle.tags.proofs.Question.{too-short, no-bracket, bracket}
 use borrow.Author.Needs.{needs}
 use Rattle.tags.proofs.has_question.Statement.{statement}

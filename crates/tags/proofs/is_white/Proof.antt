@@ -1,4 +1,4 @@
--- `profile::is_white` meets its contract: one test for each byte of the list. Assumes nothing.
+-- `profile::is_white` meets its contract: one test for each byte of the list.
 use Rattle.text.proofs.Truths.{tests}
 use Rattle.tags.specs.Tags.{white}
 use Rattle.tags.proofs.is_white.Statement.{statement}

@@ -1,4 +1,4 @@
--- `profile::passes` meets its contract: the tests by their places: capitals before 3, then the two bytes. Assumes nothing.
+-- `profile::passes` meets its contract: the tests by their places: capitals before 3, then the two bytes.
 use mathlib.Core.Path.{_≡_}
 use native.Mathlib.Omega.{arith}
 use Rattle.text.specs.Classes.{inClass}

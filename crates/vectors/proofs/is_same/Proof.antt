@@ -1,4 +1,4 @@
--- `vectors::is_same` is safe and ends: the two slices are of one length, and what is left of it falls. Assumes nothing.
+-- `vectors::is_same` is safe and ends: the two slices are of one length, and what is left of it falls.
 use Prim.Native.Nat.{_-_}
 use mathlib.Core.Path.{_≡_}
 use lib.ListN.{length}

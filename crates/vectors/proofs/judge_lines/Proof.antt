@@ -1,4 +1,4 @@
--- `vectors::judge_lines` is safe and ends: each line ends within the slice, and what is left of that falls. Assumes nothing.
+-- `vectors::judge_lines` is safe and ends: each line ends within the slice, and what is left of that falls.
 use Prim.Native.Nat.{_-_}
 use lib.ListN.{length}
 use borrow.Author.Needs.{needs}

@@ -1,4 +1,4 @@
--- `vectors::upto` meets its contract: `i` stays within the slice, and what is left of it falls. Assumes nothing.
+-- `vectors::upto` meets its contract: `i` stays within the slice, and what is left of it falls.
 use Prim.Native.Nat.{_≤_, _-_}
 use native.Mathlib.Omega.{arith}
 use lib.ListN.{length}

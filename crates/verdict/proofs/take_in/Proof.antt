@@ -1,4 +1,4 @@
--- `verdict::take_in` meets its contract: the count stays within the area, whose length stays, and what is left of it falls. Assumes nothing.
+-- `verdict::take_in` meets its contract: the count stays within the area, whose length stays, and what is left of it falls.
 use Prim.Native.Nat.{_≤_, _-_}
 use mathlib.Core.Path.{_≡_}
 use native.Mathlib.Omega.{arith}

@@ -1,4 +1,4 @@
--- `words::reference` meets its contract: each early return is a test of the form that fails, and the last return has passed them all. Assumes nothing.
+-- `words::reference` meets its contract: each early return is a test of the form that fails, and the last return has passed them all.
 use mathlib.Core.Path.{ap}
 use mathlib.Core.Bool.{not}
 use borrow.Author.Needs.{needs}

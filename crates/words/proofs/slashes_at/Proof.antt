@@ -1,4 +1,4 @@
--- `words::slashes_at` meets its contract: the second byte is asked only where the first is a slash. Assumes nothing.
+-- `words::slashes_at` meets its contract: the second byte is asked only where the first is a slash.
 use borrow.Author.Needs.{needs}
 use Rattle.text.proofs.Truths.{yes-of, no-of}
 use Rattle.words.proofs.slashes_at.Statement.{statement}

@@ -1,4 +1,4 @@
--- `words::two_slashes` meets its contract. The loop's invariant: what stands from `i` on has two slashes exactly where the whole has. Assumes nothing.
+-- `words::two_slashes` meets its contract. The loop's invariant: what stands from `i` on has two slashes exactly where the whole has.
 use Prim.Native.Nat.{_≤_, _-_}
 use mathlib.Core.Path.{_≡_, _∙_, sym}
 use mathlib.Core.Bool.{true, false}
