@@ -37,7 +37,7 @@ void bulk_item(const uint8_t *message, size_t length, uint64_t i, uint64_t answe
  * the area is as lent. Bytes behind the last record are as lent. */
 void bulk_records(const uint8_t *message, size_t length, uint8_t *area, size_t area_length, uint64_t answer[BULK_ANSWER]);
 
-/* One value: 0, 0, 0; or number, 0, 0. */
+/* One value: 0, 0, 0; or number, 0, 0. The number is 7; of an IBAN 7, 19 or 8, of a creditor identifier 7 or 8. */
 void bulk_iban(const uint8_t *value, size_t length, uint64_t answer[BULK_ANSWER]);
 void bulk_creditor_id(const uint8_t *value, size_t length, uint64_t answer[BULK_ANSWER]);
 void bulk_bic(const uint8_t *value, size_t length, uint64_t answer[BULK_ANSWER]);
@@ -47,7 +47,7 @@ void bulk_reference(const uint8_t *value, size_t length, uint64_t answer[BULK_AN
 void bulk_text70(const uint8_t *value, size_t length, uint64_t answer[BULK_ANSWER]);
 void bulk_text140(const uint8_t *value, size_t length, uint64_t answer[BULK_ANSWER]);
 
-/* One value: 0, the number or the cents, 0; or number, 0, 0. */
+/* One value: 0, the number or the cents, 0; or number, 0, 0. The number is 7; of an amount 7 or 9. */
 void bulk_count(const uint8_t *value, size_t length, uint64_t answer[BULK_ANSWER]);
 void bulk_item_amount(const uint8_t *value, size_t length, uint64_t answer[BULK_ANSWER]);
 void bulk_header_amount(const uint8_t *value, size_t length, uint64_t answer[BULK_ANSWER]);

@@ -31,6 +31,7 @@ static void check_values(void)
 {
     check(bulk_iban, "DE87200500001234567890", 0, 0);
     check(bulk_iban, "DE87200500001234567891", 8, 0);
+    check(bulk_iban, "DE342005000012345678901", 19, 0);
     check(bulk_creditor_id, "DE98ZZZ09999999999", 0, 0);
     check(bulk_creditor_id, "DE00ZZZ09999999999", 8, 0);
     check(bulk_bic, "BANKDEFFXXX", 0, 0);

@@ -2,3 +2,4 @@ pub mod Bic
 pub mod Head
 pub mod Iban
 pub mod Identifier
+pub mod Lengths

@@ -1,9 +1,10 @@
 -- "A single checker asked alone answers with 7 to 9 and place 0." "Accepting, the amount's answers the cents and the count's the number, the others yes."
+-- Request 1: "Refusals: 19, .., also from the checker alone."
 use Prim.Native.Nat.{ℕ}
 use mathlib.Core.Bool.{Bool, true, false}
 use mathlib.Core.List.{List, [], _∷_}
 use Rattle.answers.specs.declared.Answer.{Answer}
-use Rattle.answers.specs.declared.Answer.the-variants.{Yes, Worth, Form, CheckDigits, Range, Unlisted}
+use Rattle.answers.specs.declared.Answer.the-variants.{Yes, Worth, Form, Length, CheckDigits, Range, Unlisted}
 
 -- what is given: yes; a number, cents or a place in a list; or a refusal, by its number
 pub data Given : Type 0 where
@@ -16,6 +17,7 @@ abbrev pub given : Answer → Given
 given Yes = yes
 given (Worth n) = worth n
 given Form = refused 7
+given Length = refused 19
 given CheckDigits = refused 8
 given Range = refused 9
 given Unlisted = refused 10

@@ -7,6 +7,8 @@ pub enum Answer {
     // The count's number, the amount's cents, or a code's place in its list.
     Worth(u64),
     Form,
+    // No length of an IBAN of its country.
+    Length,
     CheckDigits,
     Range,
     Unlisted,
@@ -20,6 +22,7 @@ pub fn number(a: Answer) -> u8
         Answer::Yes => 0,
         Answer::Worth(_) => 0,
         Answer::Form => 7,
+        Answer::Length => 19,
         Answer::CheckDigits => 8,
         Answer::Range => 9,
         Answer::Unlisted => 10,
@@ -34,6 +37,7 @@ pub fn value(a: Answer) -> u64
         Answer::Yes => 0,
         Answer::Worth(n) => n,
         Answer::Form => 0,
+        Answer::Length => 0,
         Answer::CheckDigits => 0,
         Answer::Range => 0,
         Answer::Unlisted => 0,

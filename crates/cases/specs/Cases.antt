@@ -1,4 +1,5 @@
 -- "The cases marked P go into a single table under a single statement": the kind of value, its text, and what is given.
+-- (Of request 1: a German IBAN one shorter and one longer, with the right check digits and with wrong ones, and a country that is not listed.)
 use Prim.Native.Nat.{ℕ}
 use Prim.Native.String.{String}
 use mathlib.Core.Path.{_≡_, refl}
@@ -13,7 +14,8 @@ use Rattle.money.specs.Amount.{pointForm, amountForm, cents, amountGiven}
 use Rattle.calendar.specs.Pattern.{letter, stands, written}
 use Rattle.calendar.specs.Date.{leap, daysIn, realDay, dateForm, dateGiven}
 use Rattle.accounts.specs.Head.{head}
-use Rattle.accounts.specs.Iban.{ibanForm, ibanGiven}
+use Rattle.accounts.specs.Iban.{ibanForm, ibanLength, ibanGiven}
+use Rattle.accounts.specs.Lengths.{lengths, lengthOf}
 use Rattle.accounts.specs.Identifier.{identifierForm, identifierGiven}
 
 pub data Kind : Type 0 where
@@ -45,6 +47,10 @@ cases =
     ∷ (item of "1000000000" is refused 9)
     ∷ (iban of "DE87200500001234567890" is yes)
     ∷ (iban of "DE87200500001234567891" is refused 8)
+    ∷ (iban of "DE1220050000123456789" is refused 19)
+    ∷ (iban of "DE342005000012345678901" is refused 19)
+    ∷ (iban of "DE872005000012345678901" is refused 19)
+    ∷ (iban of "XX44200500001234567890" is refused 19)
     ∷ (identifier of "DE98ZZZ09999999999" is yes)
     ∷ (identifier of "DE98ABC09999999999" is yes)
     ∷ (identifier of "DE00ZZZ09999999999" is refused 8)
@@ -53,5 +59,5 @@ cases =
     ∷ []
 
 pub as-listed : map (λ (c : Case). answer (c .kind) (bytes (c .text))) cases ≡ map (λ (c : Case). c .answered) cases
-unfolding cases answer allOf among decimal digit capital small capitalOrDigit letterOrDigit referenceSet spell leavesOne inRange ibanChecked identifierChecked pointForm amountForm cents amountGiven letter stands written leap daysIn realDay dateForm dateGiven head ibanForm ibanGiven identifierForm identifierGiven
+unfolding cases answer allOf among decimal digit capital small capitalOrDigit letterOrDigit referenceSet spell leavesOne inRange ibanChecked identifierChecked pointForm amountForm cents amountGiven letter stands written leap daysIn realDay dateForm dateGiven head ibanForm lengths lengthOf ibanLength ibanGiven identifierForm identifierGiven
 as-listed = refl

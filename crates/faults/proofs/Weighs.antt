@@ -22,7 +22,7 @@ use Rattle.money.specs.Count.{countForm, countGiven}
 use Rattle.money.specs.Amount.{most, cents, amountForm, amountGiven}
 use Rattle.check97.specs.Check.{ibanChecked, identifierChecked}
 use Rattle.accounts.specs.Bic.{bicForm, bicGiven}
-use Rattle.accounts.specs.Iban.{ibanForm, ibanGiven}
+use Rattle.accounts.specs.Iban.{ibanForm, ibanLength, ibanGiven}
 use Rattle.accounts.specs.Identifier.{identifierForm, identifierGiven}
 use Rattle.profile.specs.declared.Kind.{Kind}
 use Rattle.profile.specs.declared.Kind.the-variants.{Plain, Count, Total, Amount, Code}
@@ -64,7 +64,7 @@ simple-said Text140 v = in-order (textForm Ustrd v else 7 ∷ []) yes refl tt
 simple-said Date v = in-order (dateForm v else 7 ∷ []) yes refl tt
 simple-said Time v = in-order (timeForm v else 7 ∷ []) yes refl tt
 simple-said Bic v = in-order (bicForm v else 7 ∷ []) yes refl tt
-simple-said Iban v = in-order (ibanForm v else 7 ∷ ibanChecked v else 8 ∷ []) yes refl tt
+simple-said Iban v = in-order (ibanForm v else 7 ∷ ibanLength v else 19 ∷ ibanChecked v else 8 ∷ []) yes refl tt
 simple-said Identifier v = in-order (identifierForm v else 7 ∷ identifierChecked v else 8 ∷ []) yes refl tt
 
 amount-said : (k : Range) (v : List ℕ) → Said (amountGiven k v)

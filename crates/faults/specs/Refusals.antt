@@ -28,7 +28,7 @@ ofForm = 2 ∷ 3 ∷ 4 ∷ 6 ∷ []
 
 -- what is said: a value of its kind, an item, and what was said before
 abbrev pub ofWhatIsSaid : List ℕ
-ofWhatIsSaid = 7 ∷ 8 ∷ 9 ∷ 10 ∷ 11 ∷ 12 ∷ 13 ∷ []
+ofWhatIsSaid = 7 ∷ 19 ∷ 8 ∷ 9 ∷ 10 ∷ 11 ∷ 12 ∷ 13 ∷ []
 
 abbrev pub whileReading : List ℕ
 whileReading = ofForm ++ ofWhatIsSaid

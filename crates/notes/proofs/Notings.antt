@@ -12,7 +12,7 @@ use lib.ListN.{length}
 use Rattle.text.specs.Quoted.{is}
 use Rattle.text.proofs.Truths.{either-same}
 use Rattle.answers.specs.declared.Answer.{Answer}
-use Rattle.answers.specs.declared.Answer.the-variants.{Yes, Worth, Form, CheckDigits, Range, Unlisted}
+use Rattle.answers.specs.declared.Answer.the-variants.{Yes, Worth, Form, Length, CheckDigits, Range, Unlisted}
 use Rattle.answers.specs.Given.{Given, worth, refused, given, numberOf, valueOf}
 use Rattle.codes.specs.declared.Element.{Element}
 use Rattle.codes.specs.declared.Element.the-variants.{SttlmMtd, SvcLvl, LclInstrm, SeqTp, ChrgBr, Prtry}
@@ -102,6 +102,7 @@ module _ (k : Kind) (f : Field) (v : List ℕ) (p : ℕ) (n : Notes) (a : Answer
   stop-given Yes h = absurd (h refl)
   stop-given (Worth c) h = absurd (h refl)
   stop-given Form h = refl
+  stop-given Length h = refl
   stop-given CheckDigits h = refl
   stop-given Range h = refl
   stop-given Unlisted h = refl
@@ -110,6 +111,7 @@ module _ (k : Kind) (f : Field) (v : List ℕ) (p : ℕ) (n : Notes) (a : Answer
   on-given Yes h = refl
   on-given (Worth c) h = refl
   on-given Form h = absurd (omega arith)
+  on-given Length h = absurd (omega arith)
   on-given CheckDigits h = absurd (omega arith)
   on-given Range h = absurd (omega arith)
   on-given Unlisted h = absurd (omega arith)

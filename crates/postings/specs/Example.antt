@@ -19,7 +19,8 @@ use Rattle.money.specs.Count.{countForm, countGiven}
 use Rattle.money.specs.Amount.{pointForm, amountForm, cents, amountGiven}
 use Rattle.accounts.specs.Head.{head}
 use Rattle.accounts.specs.Bic.{bicForm, bicGiven}
-use Rattle.accounts.specs.Iban.{ibanForm, ibanGiven}
+use Rattle.accounts.specs.Lengths.{lengths, lengthOf}
+use Rattle.accounts.specs.Iban.{ibanForm, ibanLength, ibanGiven}
 use Rattle.accounts.specs.Identifier.{identifierForm, identifierGiven}
 use Rattle.tags.specs.Tags.{white, currencyPlace, inEuro, startsQuestion}
 use Rattle.profile.specs.Profile.{profile}
@@ -85,7 +86,7 @@ computed : (judged example ≡ accepted 1 1234) × (recordsFor (theItems example
 unfolding
     allOf among decimal digit capital small capitalOrDigit letterOrDigit referenceSet textSet referenceForm referenceGiven textForm textGiven codeGiven leap daysIn realDay dateForm
     dateGiven letter stands written clockForm offsetForm zoneForm endForm timeForm timeGiven spell leavesOne inRange ibanChecked identifierChecked countForm countGiven pointForm amountForm
-    cents amountGiven head bicForm bicGiven ibanForm ibanGiven identifierForm identifierGiven white currencyPlace inEuro startsQuestion profile simpleGiven closed valued opened behindAll
+    cents amountGiven head bicForm bicGiven lengths lengthOf ibanForm ibanLength ibanGiven identifierForm identifierGiven white currencyPlace inEuro startsQuestion profile simpleGiven closed valued opened behindAll
     message compared judged padded digits recordFor
 computed = (refl, refl)
 

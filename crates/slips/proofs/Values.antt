@@ -13,7 +13,7 @@ use Rattle.text.specs.Quoted.{decimal}
 use Rattle.text.specs.Classes.{digit, capital}
 use Rattle.text.proofs.Truths.{both-true, passes, between-true}
 use Rattle.text.proofs.Digits.{digit-bounds, capital-bounds}
-use Rattle.answers.specs.Given.{yes, worth, refused, inOrder, _else_}
+use Rattle.answers.specs.Given.{yes, worth, refused, Rule, inOrder, _else_}
 use Rattle.money.specs.declared.Range.{Range}
 use Rattle.money.specs.declared.Range.the-variants.{Item as anItem, Total as theTotal}
 use Rattle.money.specs.Count.{countForm, countGiven}
@@ -21,7 +21,7 @@ use Rattle.money.specs.Amount.{most, euros, amountForm, cents, amountGiven}
 use Rattle.money.proofs.Slips.{count-replaced, count-exchanged, amount-replaced, amount-exchanged}
 use Rattle.check97.specs.Check.{ibanChecked, identifierChecked}
 use Rattle.accounts.specs.Head.{head}
-use Rattle.accounts.specs.Iban.{ibanForm, ibanGiven}
+use Rattle.accounts.specs.Iban.{ibanForm, ibanLength, ibanGiven}
 use Rattle.accounts.specs.Identifier.{identifierForm, identifierGiven}
 use Rattle.accounts.proofs.Slips.{iban-replaced, iban-exchanged, identifier-replaced, identifier-exchanged}
 use Rattle.tags.specs.Tags.{white}
@@ -36,18 +36,25 @@ use Rattle.replaced.proofs.Beside.{Solid}
 use Rattle.slips.specs.Slip.{Watched, Slip, replaced, exchanged}
 
 -- ---- checkers that were passed
-passed-yes : (a b : Bool) (i j : ℕ) → Passes (inOrder (a else i ∷ b else j ∷ []) yes) → (a ≡ true) × (inOrder (a else i ∷ b else j ∷ []) yes ≡ yes)
-passed-yes true true i j h = (refl, refl)
-passed-yes true false i j h = absurd h
-passed-yes false b i j h = absurd h
+rules-yes : (l : List Rule) → Passes (inOrder l yes) → inOrder l yes ≡ yes
+rules-yes [] h = refl
+rules-yes (r ∷ l) h = go (r .test) (rules-yes l) h
+  where
+    go : (b : Bool) → (Passes (inOrder l yes) → inOrder l yes ≡ yes) → Passes (inOrder (b else r .number ∷ l) yes) → inOrder (b else r .number ∷ l) yes ≡ yes
+    go true e h = e h
+    go false e h = absurd h
+
+passed-yes : (a : Bool) (i : ℕ) (l : List Rule) → Passes (inOrder (a else i ∷ l) yes) → (a ≡ true) × (inOrder (a else i ∷ l) yes ≡ yes)
+passed-yes true i l h = (refl, rules-yes l h)
+passed-yes false i l h = absurd h
 
 iban-yes : (v : List ℕ) → Passes (ibanGiven v) → (ibanForm v ≡ true) × (ibanGiven v ≡ yes)
 unfolding ibanGiven
-iban-yes v = passed-yes (ibanForm v) (ibanChecked v) 7 8
+iban-yes v = passed-yes (ibanForm v) 7 (ibanLength v else 19 ∷ ibanChecked v else 8 ∷ [])
 
 identifier-yes : (v : List ℕ) → Passes (identifierGiven v) → (identifierForm v ≡ true) × (identifierGiven v ≡ yes)
 unfolding identifierGiven
-identifier-yes v = passed-yes (identifierForm v) (identifierChecked v) 7 8
+identifier-yes v = passed-yes (identifierForm v) 7 (identifierChecked v else 8 ∷ [])
 
 count-form : (v : List ℕ) → Passes (countGiven v) → countForm v ≡ true
 unfolding countGiven

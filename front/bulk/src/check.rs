@@ -5,7 +5,7 @@ use crate::json::Object;
 use crate::language::Language;
 use crate::refusal::{self, range};
 use crate::trouble::Trouble;
-use crate::why::{why, Why};
+use crate::why::{country, why, Why};
 use crate::{out, pages, read, Status};
 use face::Kind;
 use std::ffi::OsStr;
@@ -77,6 +77,7 @@ impl Checked<'_> {
         match self.words[0] {
             7 => why(self.kind, self.value),
             9 => Some(range(self.kind, self.value)),
+            19 => Some(country(self.value)),
             _ => None,
         }
     }

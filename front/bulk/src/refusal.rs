@@ -8,7 +8,7 @@ use crate::place::{self, Found};
 use crate::profile::{self, Content};
 use crate::show::{beginning, ending, shown};
 use crate::tags::{until, Open};
-use crate::why::{why, Why};
+use crate::why::{country, why, Why};
 use face::Kind;
 
 /// The most bytes of a value that are shown.
@@ -204,6 +204,7 @@ fn reason<'a>(
         (9, Found::Bytes(value), Some(Content::Amount(kind))) => Some(range(kind, value)),
         (10, _, Some(Content::Code(codes))) => Some(Why::Codes(codes)),
         (11, ..) => Some(Why::FirstHas(contents.instrument())),
+        (19, Found::Bytes(value), _) => Some(country(value)),
         _ => None,
     }
 }

@@ -34,6 +34,14 @@ pub enum Why<'a> {
     NoDigitBehind,
     ManyDigitsBefore(usize),
     ManyDigitsBehind(usize),
+    /// An IBAN that is not as long as those of its country.
+    CountryLength {
+        country: &'a [u8],
+        length: usize,
+        due: usize,
+    },
+    /// An IBAN whose country is not on the list of lengths.
+    NoCountry(&'a [u8]),
     /// An amount under or over its range, with the cents of its limit.
     LeastCents(u64),
     MostCents(u64),
@@ -55,6 +63,17 @@ pub fn why(kind: Kind, value: &[u8]) -> Option<Why<'_>> {
         Kind::Date => date(value),
         Kind::Time => time(value),
         _ => character(kind, value).or_else(|| length(kind, value)).or_else(|| rule(kind, value)),
+    }
+}
+
+/// Why an IBAN is refused with 19: the length that is due in its country, or that there is none. The
+/// list is the library's alone. To an IBAN of zeros it answers 19 unless the length is the right one.
+pub fn country(value: &[u8]) -> Why<'_> {
+    let country = &value[..value.len().min(2)];
+    let zeros = |length: usize| [country, &vec![b'0'; length - country.len()]].concat();
+    match (15..=34).find(|&length| face::check(Kind::Iban, &zeros(length))[0] != 19) {
+        Some(due) => Why::CountryLength { country, length: value.len(), due },
+        None => Why::NoCountry(country),
     }
 }
 
@@ -172,7 +191,13 @@ fn time(value: &[u8]) -> Option<Why<'static>> {
 impl Why<'_> {
     /// Whether it tells the value's length already.
     pub fn tells_length(&self) -> bool {
-        matches!(self, Why::AtMost { .. } | Why::AtLeast { .. } | Why::EightOrEleven(_))
+        matches!(
+            self,
+            Why::AtMost { .. }
+                | Why::AtLeast { .. }
+                | Why::EightOrEleven(_)
+                | Why::CountryLength { .. }
+        )
     }
 
     /// In words, as a part of a sentence.
@@ -193,6 +218,20 @@ impl Why<'_> {
                 language.say(
                     format!("the first item has {code}"),
                     format!("der erste Posten hat {code}"),
+                )
+            }
+            Why::CountryLength { country, length, due } => {
+                let country = shown(country);
+                language.say(
+                    format!("an IBAN from {country} has {due} characters, this one has {length}"),
+                    format!("eine IBAN aus {country} hat {due} Stellen, diese hat {length}"),
+                )
+            }
+            Why::NoCountry(country) => {
+                let country = shown(country);
+                language.say(
+                    format!("{country} is not on the list of countries"),
+                    format!("{country} steht nicht auf der Länderliste"),
                 )
             }
             _ => self.lengths(language).unwrap_or_else(|| {
@@ -330,6 +369,40 @@ mod tests {
                 agrees(kind, &[b"DE00ZZZ", "7".repeat(length).as_bytes()].concat());
             }
         }
+    }
+
+    /// Of every pair of capitals: the length that is due, by the library; every other one is told.
+    #[test]
+    fn a_length_for_every_country_of_the_list() {
+        let mut listed = 0;
+        for pair in (b'A'..=b'Z').flat_map(|one| (b'A'..=b'Z').map(move |other| [one, other])) {
+            let of = |length: usize| [&pair[..], b"02", &vec![b'1'; length - 4]].concat();
+            let right = (15..=34).filter(|&length| face::check(Kind::Iban, &of(length))[0] != 19);
+            let right: Vec<usize> = right.collect();
+            listed += right.len();
+            for length in 15..=34 {
+                let told = match right[..] {
+                    [] => Why::NoCountry(&pair),
+                    [due] => Why::CountryLength { country: &pair, length, due },
+                    _ => panic!("{} has {right:?}", shown(&pair)),
+                };
+                assert_eq!(country(&of(length)), told);
+            }
+        }
+        assert_eq!(listed, 37);
+    }
+
+    #[test]
+    fn lengths_by_country_in_words() {
+        let told = |value: &str, language| country(value.as_bytes()).words(language);
+        let (long, unlisted) = ("DE342005000012345678901", "US86200500001234567890");
+        assert_eq!(
+            told(long, Language::English),
+            "an IBAN from DE has 22 characters, this one has 23"
+        );
+        assert_eq!(told(long, Language::German), "eine IBAN aus DE hat 22 Stellen, diese hat 23");
+        assert_eq!(told(unlisted, Language::English), "US is not on the list of countries");
+        assert_eq!(told(unlisted, Language::German), "US steht nicht auf der Länderliste");
     }
 
     #[test]

@@ -10,8 +10,14 @@ fn single_values() {
         ("iban", "DE87200500001234567890", 0, "accepted"),
         ("iban", "DE87200500001234567891", 1, "refused 8 0"),
         ("iban", "DE87 2005 0000 1234 5678 90", 1, "refused 7 0"),
+        ("iban", "DE1220050000123456789", 1, "refused 19 0"),
+        ("iban", "DE342005000012345678901", 1, "refused 19 0"),
+        ("iban", "DE872005000012345678901", 1, "refused 19 0"),
+        ("iban", "US86200500001234567890", 1, "refused 19 0"),
+        ("iban", "US862005000012", 1, "refused 7 0"),
         ("creditor-id", "DE98ZZZ09999999999", 0, "accepted"),
         ("creditor-id", "DE00ZZZ09999999999", 1, "refused 8 0"),
+        ("creditor-id", "US86ZZZ200500001234567890", 0, "accepted"),
         ("bic", "BANKDEFFXXX", 0, "accepted"),
         ("bic", "BANKDEFFXX", 1, "refused 7 0"),
         ("count", "007", 0, "accepted 7"),
@@ -51,6 +57,19 @@ fn single_values_in_words() {
     assert_eq!(
         said,
         "iban „DE87200500001234567891“: abgelehnt (Nr. 8): Die Prüfziffern stimmen nicht.\n"
+    );
+    let said = bulk(&["check", "iban", "DE342005000012345678901"]).done(1);
+    assert_eq!(
+        said,
+        "iban “DE342005000012345678901” (an IBAN from DE has 22 characters, this one has 23): \
+         refused 19: The IBAN has the wrong length for its country, or the country is not on the \
+         list.\n"
+    );
+    let said = bulk(&["--de", "check", "iban", "US86200500001234567890"]).done(1);
+    assert_eq!(
+        said,
+        "iban „US86200500001234567890“ (US steht nicht auf der Länderliste): abgelehnt (Nr. 19): \
+         Die Länge der IBAN passt nicht zum Land, oder das Land steht nicht auf der Liste.\n"
     );
     let said = bulk(&["check", "text70", "Anna Glühbirne"]).done(1);
     assert_eq!(

@@ -20,7 +20,7 @@ fn texts(number: u64) -> [Vec<String>; 2] {
 
 #[test]
 fn every_page_is_told_whole_in_both_languages() {
-    for number in 1..=18 {
+    for number in 1..=19 {
         let both = flat(&bulk(&["explain", &number.to_string()]).done(0));
         let [english, german] = texts(number);
         for text in english.iter().chain(&german) {
@@ -33,7 +33,7 @@ fn every_page_is_told_whole_in_both_languages() {
 
 #[test]
 fn a_chosen_language_is_the_only_one() {
-    for number in 1..=18 {
+    for number in 1..=19 {
         let number_text = number.to_string();
         let [english, german] = texts(number);
         let said = flat(&bulk(&["--en", "explain", &number_text]).done(0));
@@ -54,13 +54,13 @@ fn a_chosen_language_is_the_only_one() {
 fn the_list_of_numbers() {
     let both = flat(&bulk(&["explain"]).done(0));
     let german = flat(&bulk(&["--de", "explain"]).done(0));
-    for number in 1..=18 {
+    for number in 1..=19 {
         let sentences = overview(number);
         assert!(both.contains(&format!("{number} {} {}", sentences[0], sentences[1])), "{both}");
         assert!(german.contains(&format!("{number} {}", sentences[1])), "{german}");
         assert!(!german.contains(&sentences[0]), "{german}");
     }
-    for wrong in ["0", "19", "fourteen", "1.4"] {
+    for wrong in ["0", "20", "fourteen", "1.4"] {
         let said = bulk(&["explain", wrong]).trouble();
         assert!(said.contains(&format!("There is no refusal “{wrong}”")), "{said}");
     }
@@ -93,6 +93,7 @@ fn the_texts_as_an_office_writes_them() {
         (7, &["Mandatsreferenz (MndtId)"]),
         (8, &["Tippfehler", "Zahlendreher", "typing error"]),
         (11, &["Basis- (CORE) und Firmenlastschriften (B2B)"]),
+        (19, &["AT EE LT LU 20", "Germany (DE) has 22", "aus Deutschland (DE) hat 22 Stellen"]),
         (14, &["Each item by itself", "Bedeutung", "Häufige Ursachen", "Was tun?"]),
     ] {
         let said = flat(&bulk(&["explain", &number.to_string()]).done(0));

@@ -76,7 +76,11 @@ fn a_wrong_total_leaves_the_table() {
 
 #[test]
 fn no_table_of_a_message_that_is_not_in_order() {
-    for (old, new) in [("Gluehbirne", "Glühbirne"), ("</Document>", "</Document>x")] {
+    for (old, new) in [
+        ("Gluehbirne", "Glühbirne"),
+        ("</Document>", "</Document>x"),
+        ("DE48200999000041726300", "DE592009990000417263000"),
+    ] {
         let said = piped(&["items", "-"], damaged(old, new));
         assert_eq!((said.status, said.out.as_str()), (1, ""));
         assert!(said.err.contains("-: refused "), "{}", said.err);

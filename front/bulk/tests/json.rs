@@ -175,6 +175,24 @@ fn one_object_for_records_and_for_a_value() {
 }
 
 #[test]
+fn an_iban_of_another_length() {
+    let changed = damaged("DE48200999000041726300", "DE592009990000417263000");
+    let said = objects(&piped(&["--json", "judge", "-"], &changed).done(1));
+    assert_eq!((&said[0]["number"], &said[0]["item"]), (&Json::Number(19), &Json::Number(1)));
+    assert_eq!(said[0]["found"], string("DE592009990000417263000"));
+    let why = string("an IBAN from DE has 22 characters, this one has 23");
+    assert_eq!(said[0]["why"], why);
+    let place = changed.find("DE592009990000417263000").unwrap() as u64;
+    assert_eq!(said[0]["place"], Json::Number(place));
+    let said = objects(&bulk(&["--json", "check", "iban", "DE592009990000417263000"]).done(1));
+    assert_eq!((&said[0]["number"], &said[0]["why"]), (&Json::Number(19), &why));
+    // No item of it is told: those behind the place were not judged.
+    let said = piped(&["--json", "items", "-"], &changed);
+    assert_eq!((said.status, said.out.as_str()), (1, ""));
+    assert_eq!(objects(&said.err)[0]["number"], Json::Number(19));
+}
+
+#[test]
 fn a_total_is_never_rounded() {
     // Too large for a float to tell it from its neighbours.
     let said = piped(&["--json", "judge", "-"], damaged("2024.90", "999999999999999.99")).done(1);

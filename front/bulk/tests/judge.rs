@@ -36,6 +36,30 @@ fn the_samples() {
 }
 
 #[test]
+fn the_sample_with_a_digit_too_many() {
+    let file = sample("digit-too-many.xml");
+    assert_eq!(bulk(&["--plain", "judge", text(&file)]).done(1), "refused 19 1134\n");
+    let said = bulk(&["judge", text(&file)]).done(1);
+    assert!(
+        said.contains(
+            ": refused 19 at place 1134 (line 1, column 1135) in \
+             FIToFICstmrDrctDbt/DrctDbtTxInf[1]/DbtrAcct/Id/IBAN (TxId T1, debtor "
+        ) && said.contains(
+            "found “DE535005000098765432101” (an IBAN from DE has 22 characters, this one has 23): \
+             The IBAN has the wrong length for its country, or the country is not on the list.\n"
+        ),
+        "{said}"
+    );
+    let said = bulk(&["--de", "judge", text(&file)]).done(1);
+    assert!(
+        said.contains("abgelehnt (Nr. 19) an Stelle 1134")
+            && said
+                .contains("(eine IBAN aus DE hat 22 Stellen, diese hat 23): Die Länge der IBAN "),
+        "{said}"
+    );
+}
+
+#[test]
 fn the_samples_in_german() {
     let file = sample("evening.xml");
     let said = bulk(&["judge", "--de", text(&file)]).done(0);
@@ -93,7 +117,7 @@ fn money_is_grouped_for_the_eye_alone() {
 type Damage = (&'static str, &'static str, u64, &'static str, &'static str);
 
 /// Each first one of its text in the indented evening is damaged.
-const DAMAGES: [Damage; 22] = [
+const DAMAGES: [Damage; 24] = [
     ("<?xml", "\u{feff}<?xml", 2, "", "found “\\u{feff}” (a byte order mark (BOM)): The beginning"),
     ("001.02", "001.08", 2, "", "pacs.003.001.08\">”: "),
     (
@@ -160,6 +184,20 @@ const DAMAGES: [Damage; 22] = [
         8,
         "/DrctDbtTxInf[4]/DbtrAcct/Id/IBAN (TxId TX-20261028-0004, debtor ",
         "NL65MOLN0123456798”: The check digits are wrong.",
+    ),
+    (
+        "DE48200999000041726300",
+        "DE592009990000417263000",
+        19,
+        "/DrctDbtTxInf[1]/CdtrAcct/Id/IBAN (TxId TX-20261028-0001, 845.00 EUR)",
+        "found “DE592009990000417263000” (an IBAN from DE has 22 characters, this one has 23): The IBAN ",
+    ),
+    (
+        "NL65MOLN0123456789",
+        "US86200500001234567890",
+        19,
+        "/DrctDbtTxInf[4]/DbtrAcct/Id/IBAN (TxId TX-20261028-0004, debtor ",
+        "found “US86200500001234567890” (US is not on the list of countries): The IBAN ",
     ),
     (
         "DE97LAD",

@@ -74,6 +74,8 @@ const DAMAGES: &[(&str, Damage)] = &[
     ("slip in count", slip_in_count),
     ("slip in total", slip_in_total),
     ("check digits 00, 01 or 99", alias),
+    ("IBAN of another length", other_length),
+    ("IBAN of another country", other_country),
     ("white space in a tag", white_in_tag),
     ("white space before the declaration", white_before_declaration),
     ("white space before a value", white_before_value),
@@ -558,6 +560,26 @@ fn alias(mut message: Message, random: &mut Random) -> Option<(Vec<u8>, Known)> 
     let part = pick(&values_of(&message, kind), random)?;
     message.parts[part].bytes = value::alias(kind, random);
     Some((message.bytes(), Known::Refused { number: 8, place: message.place(part) }))
+}
+
+/// An IBAN of a wrong length for its country, or of none: 19.
+fn other_length(mut message: Message, random: &mut Random) -> Option<(Vec<u8>, Known)> {
+    let part = pick(&values_of(&message, Kind::Iban), random)?;
+    message.parts[part].bytes = value::other_length(random);
+    Some((message.bytes(), Known::Refused { number: 19, place: message.place(part) }))
+}
+
+/// One letter of an IBAN's country replaced by another: 19, or 8 where that country has its length.
+fn other_country(mut message: Message, random: &mut Random) -> Option<(Vec<u8>, Known)> {
+    let part = pick(&values_of(&message, Kind::Iban), random)?;
+    let value = &mut message.parts[part].bytes;
+    let (at, letter) = (random.below(2), random.of(value::CAPITALS));
+    if value[at] == letter {
+        return None;
+    }
+    value[at] = letter;
+    let number = value::known_iban(value, false).expect_err("one letter is noticed");
+    Some((message.bytes(), Known::Refused { number, place: message.place(part) }))
 }
 
 /// White space within a tag or the declaration.

@@ -208,12 +208,13 @@ fn large(n: u64, seed: u64) -> ExitCode {
 }
 
 /// A sample, and what its verdict must be.
-const SAMPLES: [(&str, Known); 5] = [
+const SAMPLES: [(&str, Known); 6] = [
     ("evening.xml", Known::Accepted { count: 5, cents: 202_490 }),
     ("evening-indented.xml", Known::Accepted { count: 5, cents: 202_490 }),
     ("october.xml", Known::Refused { number: 14, place: 252 }),
     ("doubled.xml", Known::Accepted { count: 6, cents: 286_990 }),
     ("example.xml", Known::Accepted { count: 1, cents: 1234 }),
+    ("digit-too-many.xml", Known::Refused { number: 19, place: 1134 }),
 ];
 
 /// The samples. The October day: refused with 14; accepted as soon as the count is that of its

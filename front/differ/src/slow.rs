@@ -514,12 +514,29 @@ fn checked(start: &[u8], body: &[u8]) -> Result<u64, u8> {
     ((2..=98).contains(&two) && leaves_one(&written)).then_some(0).ok_or(8)
 }
 
-/// 15 to 34 of the template, and the check digits.
+/// The request's list of lengths, word for word.
+const LENGTHS: &str = "NO 15; BE 16; DK FI NL 18; SI 19; AT EE LT LU 20; CH HR LI LV 21; \
+    BG DE GB IE VA 22; GI 23; AD CZ ES RO SE SK 24; PT 25; IS 26; FR GR IT MC SM 27; CY HU PL 28; \
+    MT 31";
+
+/// Whether the list has this country with this length, read as text.
+fn listed(country: &[u8], length: usize) -> bool {
+    LENGTHS.split("; ").any(|entry| {
+        let mut words = entry.split(' ').rev();
+        words.next() == Some(length.to_string().as_str())
+            && words.any(|word| word.as_bytes() == country)
+    })
+}
+
+/// 15 to 34 of the template, its country's length, and the check digits.
 fn iban(value: &[u8]) -> Result<u64, u8> {
     if !(15..=34).contains(&value.len())
         || !like(value, &format!("AA99{}", "X".repeat(value.len() - 4)))
     {
         return Err(7);
+    }
+    if !listed(&value[..2], value.len()) {
+        return Err(19);
     }
     checked(&value[..4], &value[4..])
 }

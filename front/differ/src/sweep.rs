@@ -2,10 +2,10 @@
 //! its number, so that it can be made again.
 
 use crate::damage::{
-    cut_to, element_at, fine, form_number, is_tag, is_value, kind_of, malform, whole, Case, Known,
-    LONGEST, MALFORMED, MOST_ITEMS,
+    cut_to, element_at, fine, form_number, is_tag, is_value, kind_of, malform, values_of, whole,
+    Case, Known, LONGEST, MALFORMED, MOST_ITEMS,
 };
-use crate::handmade::handmade;
+use crate::handmade::{handmade, PUBLISHED, UNLISTED};
 use crate::kind::Kind;
 use crate::message::{accepted, concat, Message, Part, Plan, Spacing, What};
 use crate::random::Random;
@@ -42,6 +42,7 @@ pub fn sweep(seed: u64, mut each: impl FnMut(u64, Case)) {
         tags(&message, &mut give);
         elements(&message, &mut give);
         values(&message, &mut give);
+        accounts(&message, &mut give);
         totals(&message, &mut give);
     }
 }
@@ -237,6 +238,31 @@ fn values(message: &Message, give: Give) {
             other.parts[at].bytes = value.as_bytes().to_vec();
             give(other.bytes(), "value made by hand", Known::Nothing);
         }
+    }
+}
+
+/// Each IBAN replaced: by the published ones, by those made shorter and longer with right check digits
+/// and with wrong ones, and by those of countries that are not listed.
+fn accounts(message: &Message, give: Give) {
+    let mut with = |at: usize, value: Vec<u8>, known: Result<u64, u8>| {
+        let mut other = message.clone();
+        other.parts[at].bytes = value;
+        let refused = |number| Known::Refused { number, place: message.place(at) };
+        give(other.bytes(), "IBAN replaced", known.map_or_else(refused, |_| fine(message)));
+    };
+    for at in values_of(message, Kind::Iban) {
+        for published in PUBLISHED.map(str::as_bytes) {
+            with(at, published.to_vec(), Ok(0));
+            for length in [14, 15, published.len() - 1, published.len() + 1, 34, 35] {
+                let mut body = published[4..].to_vec();
+                body.resize(length - 4, b'7');
+                let right = value::with_digits(&published[..2], &body);
+                let wrong = value::digits_off(&right);
+                with(at, wrong.clone(), value::known_iban(&wrong, false));
+                with(at, right.clone(), value::known_iban(&right, true));
+            }
+        }
+        UNLISTED.into_iter().for_each(|unlisted| with(at, unlisted.into(), Err(19)));
     }
 }
 

@@ -1,6 +1,6 @@
 //! Values of each kind.
 
-use crate::handmade::handmade;
+use crate::handmade::{handmade, PUBLISHED, UNLISTED};
 use crate::kind::{Kind, CHECKED};
 use crate::random::Random;
 
@@ -125,27 +125,58 @@ pub fn check_digits(country: &[u8], body: &[u8]) -> Vec<u8> {
     format!("{:02}", 98 - rest).into_bytes()
 }
 
-/// A published IBAN, or one made with its check digits.
+/// A published IBAN, or one of its country and length, made with its check digits.
 fn iban(random: &mut Random) -> Vec<u8> {
+    let published = random.pick(&PUBLISHED).as_bytes();
     if random.once_in(8) {
-        let published: [&str; 8] = [
-            "DE87200500001234567890",
-            "DE21500500009876543210",
-            "GB82WEST12345698765432",
-            "FR1420041010050500013M02606",
-            "NO9386011117947",
-            "MT84MALT011000012345MTLCAST001S",
-            "BE68539007547034",
-            "AT611904300234573201",
-        ];
-        return random.pick(&published).as_bytes().to_vec();
+        return published.to_vec();
     }
-    let country = random.bytes(CAPITALS, 2);
-    let length = random.length(11, 30);
     let set = random.pick(&[DIGITS, CAPITALS, CAPITALS_DIGITS, DIGITS]);
-    let body = random.bytes(set, length);
-    let check = check_digits(&country, &body);
-    [country, check, body].concat()
+    let body = random.bytes(set, published.len() - 4);
+    with_digits(&published[..2], &body)
+}
+
+/// A country, what stands behind the check digits, and these, which are right.
+pub fn with_digits(country: &[u8], body: &[u8]) -> Vec<u8> {
+    [country, &check_digits(country, body), body].concat()
+}
+
+/// The length of the IBANs of a country, if it is one of those that the request lists.
+fn length_of(country: &[u8]) -> Option<usize> {
+    PUBLISHED.iter().find(|iban| iban.as_bytes().starts_with(country)).map(|iban| iban.len())
+}
+
+/// What the checker answers to an IBAN of the form whose check digits are right, or are not.
+pub fn known_iban(value: &[u8], right: bool) -> Result<u64, u8> {
+    match (length_of(&value[..2]), right) {
+        _ if !(15..=34).contains(&value.len()) => Err(7),
+        (due, _) if due != Some(value.len()) => Err(19),
+        (_, true) => Ok(0),
+        (_, false) => Err(8),
+    }
+}
+
+/// An IBAN of the form that is 19: too long or too short for its country, by one or by more, or of
+/// no country that is listed; its check digits are right, or any.
+pub fn other_length(random: &mut Random) -> Vec<u8> {
+    loop {
+        let published = random.pick(&PUBLISHED).as_bytes();
+        let (country, length) = match random.below(5) {
+            0 => (published[..2].to_vec(), published.len() - 1),
+            1 => (published[..2].to_vec(), published.len() + 1),
+            2 => (published[..2].to_vec(), random.length(15, 34)),
+            3 => (random.bytes(CAPITALS, 2), published.len()),
+            _ => return random.pick(&UNLISTED).as_bytes().to_vec(),
+        };
+        let body = random.bytes(CAPITALS_DIGITS, length - 4);
+        let mut value = with_digits(&country, &body);
+        if random.once_in(2) {
+            value[2..4].copy_from_slice(&random.bytes(DIGITS, 2));
+        }
+        if known_iban(&value, true) == Err(19) {
+            return value;
+        }
+    }
 }
 
 /// An IBAN or an identifier whose check digits are 00, 01 or 99 and whose rest by 97 is 1.
@@ -272,6 +303,7 @@ pub fn text_of_length(random: &mut Random, length: usize) -> Vec<u8> {
 pub fn near(kind: Kind, random: &mut Random) -> Vec<u8> {
     match (kind, random.below(5)) {
         (_, 0 | 1) => random.pick(handmade(kind)).as_bytes().to_vec(),
+        (Kind::Iban, 2) if random.once_in(2) => other_length(random),
         (Kind::Iban | Kind::CreditorId, 2) => near_length(kind, random),
         (Kind::Iban | Kind::CreditorId, 3) => near_letters(kind, random),
         (Kind::Iban | Kind::CreditorId, 4) => alias(kind, random),
@@ -298,7 +330,10 @@ pub fn near(kind: Kind, random: &mut Random) -> Vec<u8> {
 
 /// An IBAN or an identifier too long or too short by one or so, or just not; the rest is right.
 fn near_length(kind: Kind, random: &mut Random) -> Vec<u8> {
-    let country = random.bytes(CAPITALS, 2);
+    let country = match random.below(2) {
+        0 => random.pick(&PUBLISHED).as_bytes()[..2].to_vec(),
+        _ => random.bytes(CAPITALS, 2),
+    };
     let (set, lengths, business): (_, [&usize; 6], &[u8]) = match kind {
         Kind::Iban => (CAPITALS_DIGITS, [&9, &10, &11, &30, &31, &32], b""),
         _ => (REFERENCE_SET, [&0, &1, &2, &27, &28, &29], b"ZZZ"),
@@ -312,12 +347,15 @@ fn near_length(kind: Kind, random: &mut Random) -> Vec<u8> {
 /// An IBAN or an identifier that is right but for a letter of the body that is small, or the country
 /// that is none, or a place of the business code that is no letter or digit.
 fn near_letters(kind: Kind, random: &mut Random) -> Vec<u8> {
-    let country = random.bytes(LETTERS_DIGITS, 2);
-    let (set, least, most, business) = match kind {
-        Kind::Iban => (LETTERS_DIGITS, 11, 30, Vec::new()),
-        _ => (REFERENCE_SET, 1, 28, random.bytes(REFERENCE_SET, 3)),
+    let published = random.pick(&PUBLISHED).as_bytes();
+    let country = match random.below(3) {
+        0 => random.bytes(LETTERS_DIGITS, 2),
+        _ => published[..2].to_vec(),
     };
-    let length = random.between(least, most);
+    let (set, length, business) = match kind {
+        Kind::Iban => (LETTERS_DIGITS, published.len() - 4, Vec::new()),
+        _ => (REFERENCE_SET, random.between(1, 28), random.bytes(REFERENCE_SET, 3)),
+    };
     let body = random.bytes(set, length);
     let check = check_digits(&country, &body);
     [country, check, business, body].concat()
@@ -407,14 +445,18 @@ pub fn random(kind: Kind, random: &mut Random) -> Vec<u8> {
     }
 }
 
-/// Two capitals, two digits, and more of the shape of an IBAN or of an identifier.
+/// Two capitals, two digits, and more of the shape of an IBAN or of an identifier; an IBAN's country
+/// is listed and its length due, every other time.
 fn random_account(kind: Kind, random: &mut Random) -> Vec<u8> {
-    let head = [random.bytes(CAPITALS, 2), random.bytes(DIGITS, 2)].concat();
+    let published = random.pick(&PUBLISHED).as_bytes();
+    let is_due = kind == Kind::Iban && random.once_in(2);
+    let country = if is_due { published[..2].to_vec() } else { random.bytes(CAPITALS, 2) };
+    let head = [country, random.bytes(DIGITS, 2)].concat();
     let (least, most, business, sets): (_, _, _, [&[u8]; 3]) = match kind {
         Kind::Iban => (9, 32, Vec::new(), [DIGITS, CAPITALS_DIGITS, b"01A"]),
         _ => (0, 30, random.bytes(LETTERS_DIGITS, 3), [DIGITS, REFERENCE_SET, b"/-1a"]),
     };
-    let length = random.between(least, most);
+    let length = if is_due { published.len() - 4 } else { random.between(least, most) };
     let set = random.pick(&sets);
     [head, business, random.bytes(set, length)].concat()
 }
@@ -455,6 +497,9 @@ pub fn case(seed: u64, case: u64) -> Case {
         _ => {
             let mut bytes = valid(kind, random).bytes;
             match kind {
+                Kind::Iban if random.once_in(2) => {
+                    ("other length", other_length(random), Some(Err(19)))
+                }
                 Kind::Iban | Kind::CreditorId => {
                     slip(kind, &mut bytes, random);
                     ("slip", bytes, Some(Err(8)))
@@ -467,13 +512,20 @@ pub fn case(seed: u64, case: u64) -> Case {
 }
 
 /// Values beside each other, for every kind: each place of a valid value set to each byte, each byte
-/// put in at each place, each place left out; each length of one byte; the days of many months, all
-/// hours, minutes, seconds and zones. `each` gets the number of the case too.
+/// put in at each place, each place left out; each length of one byte; IBANs of every pair of
+/// capitals and every length; the days of many months, all hours, minutes, seconds and zones. `each`
+/// gets the number of the case too.
 pub fn sweep(seed: u64, mut each: impl FnMut(u64, Case)) {
     let mut number = 0;
-    let mut give = |kind: Kind, bytes: Vec<u8>, sort: &'static str| {
-        each(number, Case { kind, bytes, sort, known: None });
+    let mut give_known = |kind: Kind, bytes: Vec<u8>, sort: &'static str, known| {
+        each(number, Case { kind, bytes, sort, known });
         number += 1;
+    };
+    sweep_countries(&mut Random::new(seed, 0x1BA4), |bytes, known| {
+        give_known(Kind::Iban, bytes, "sweep: countries", Some(known));
+    });
+    let mut give = |kind: Kind, bytes: Vec<u8>, sort: &'static str| {
+        give_known(kind, bytes, sort, None);
     };
     for (at, kind) in CHECKED.into_iter().enumerate() {
         let random = &mut Random::new(seed, u64::MAX - at as u64);
@@ -492,6 +544,37 @@ pub fn sweep(seed: u64, mut each: impl FnMut(u64, Case)) {
     }
     sweep_days(&mut give);
     sweep_times(|bytes| give(Kind::Time, bytes, "sweep: times"));
+}
+
+/// Every pair of capitals, AA to ZZ, with every length from 14 to 35, once with the right check digits
+/// and once with others; and the published IBANs. What the checker answers is known of each.
+fn sweep_countries(random: &mut Random, mut give: impl FnMut(Vec<u8>, Result<u64, u8>)) {
+    for &first in CAPITALS {
+        for &second in CAPITALS {
+            for length in 14..=35 {
+                let body = random.bytes(CAPITALS_DIGITS, length - 4);
+                let right = with_digits(&[first, second], &body);
+                give(right.clone(), known_iban(&right, true));
+                let wrong = digits_off(&right);
+                give(wrong.clone(), known_iban(&wrong, false));
+            }
+        }
+    }
+    for published in PUBLISHED {
+        give(published.into(), Ok(0));
+        give(digits_off(published.as_bytes()), Err(8));
+    }
+    for unlisted in UNLISTED {
+        give(unlisted.into(), Err(19));
+        give(digits_off(unlisted.as_bytes()), Err(19));
+    }
+}
+
+/// The value with its right check digits one off, so that they are wrong.
+pub fn digits_off(value: &[u8]) -> Vec<u8> {
+    let mut other = value.to_vec();
+    other[3] = if value[3] == b'0' { b'1' } else { value[3] - 1 };
+    other
 }
 
 /// Each place of a value set to each byte, preceded by each byte, left out, and the end.
@@ -543,9 +626,10 @@ fn sweep_times(mut give: impl FnMut(Vec<u8>)) {
     }
 }
 
-/// The places of a value where a slip must be caught.
+/// The places of a value where a slip must be caught by the check digits: another country may be 19.
 fn slip_places(kind: Kind, length: usize) -> Vec<usize> {
     match kind {
+        Kind::Iban => (2..length).collect(),
         Kind::CreditorId => (0..4).chain(7..length).collect(),
         _ => (0..length).collect(),
     }

@@ -126,8 +126,95 @@ fn ibans_either_side() {
     ] {
         assert_eq!(iban(no.as_bytes()), Err(7), "{no}");
     }
-    assert_eq!(iban(&[b"NO93".as_slice(), &[b'1'; 30]].concat()), Err(8));
-    assert_eq!(iban(&[b"NO93".as_slice(), &[b'1'; 31]].concat()), Err(7));
+}
+
+/// An IBAN of this country, with these characters behind its check digits, which are right.
+fn with_digits(country: &str, body: &str) -> String {
+    let mut all = (2..=98).map(|check| format!("{country}{check:02}{body}"));
+    all.find(|value| check_digits_hold(value.as_bytes())).expect("one of them is right")
+}
+
+/// Whether the check digits are right, whatever the length: an identifier has the same, and no
+/// country's length.
+fn check_digits_hold(value: &[u8]) -> bool {
+    creditor_id(&[&value[..4], b"ZZZ", &value[4..]].concat()) == Ok(0)
+}
+
+/// "19, wrong length or no such country, after 7 and before 8".
+#[test]
+fn lengths_by_country_either_side() {
+    assert_eq!(with_digits("DE", "200500001234567890"), "DE87200500001234567890");
+    for (body, answer) in [
+        ("20050000123456789", Err(19)),
+        ("200500001234567890", Ok(0)),
+        ("2005000012345678901", Err(19)),
+    ] {
+        assert_eq!(iban(with_digits("DE", body).as_bytes()), answer, "{body}");
+    }
+    // The desk's: a digit too many, and check digits that match.
+    assert_eq!(iban(b"DE342005000012345678901"), Err(19));
+    // No such country, with right check digits: unlisted ones, and two letters that are none.
+    for none in [
+        "TR330006100519786457841326",
+        "RS35260005601001611379",
+        "US86200500001234567890",
+        "XX44200500001234567890",
+    ] {
+        assert!(check_digits_hold(none.as_bytes()), "{none}");
+        assert_eq!(iban(none.as_bytes()), Err(19), "{none}");
+    }
+}
+
+/// Some countries of the list with each length: their own alone passes.
+#[test]
+fn a_country_has_one_length() {
+    for (country, due) in [("NO", 15), ("SI", 19), ("GI", 23), ("PT", 25), ("IS", 26), ("MT", 31)] {
+        for length in 15..=31 {
+            let value = with_digits(country, &"1".repeat(length - 4));
+            let answer = if length == due { Ok(0) } else { Err(19) };
+            assert_eq!(iban(value.as_bytes()), answer, "{value}");
+        }
+    }
+}
+
+/// 7 comes before 19 and 19 before 8; an identifier has no country's length.
+#[test]
+fn lengths_by_country_in_their_order() {
+    // A length outside 15 to 34, or not of the form: 7, whatever the country.
+    for (length, answer) in [(14, 7), (15, 19), (34, 19), (35, 7)] {
+        for country in ["DE", "US"] {
+            let value = format!("{country}87{}", "1".repeat(length - 4));
+            assert_eq!(iban(value.as_bytes()), Err(answer), "{value}");
+        }
+    }
+    assert_eq!(iban(b"DE8720050000123456789a1"), Err(7));
+    assert_eq!(iban(b"us87200500001234567890"), Err(7));
+    // A wrong length and wrong check digits, also such as are none: 19.
+    for both in ["DE872005000012345678901", "DE002005000012345678901", "US00200500001234567890"] {
+        assert_eq!(iban(both.as_bytes()), Err(19), "{both}");
+    }
+    for body in ["0", "09", "09999999999", "099999999990", "0999999999999999999999999999"] {
+        for country in ["DE", "US"] {
+            let value = with_digits(country, body);
+            let value = format!("{}ZZZ{body}", &value[..4]);
+            assert_eq!(creditor_id(value.as_bytes()), Ok(0), "{value}");
+            let wrong = value.replacen(body, &body.replacen('0', "1", 1), 1);
+            assert_eq!(creditor_id(wrong.as_bytes()), Err(8), "{wrong}");
+        }
+    }
+}
+
+/// In a message: at the value's first byte, in either account.
+#[test]
+fn lengths_by_country_in_place() {
+    for account in ["DE87200500001234567890", "DE21500500009876543210"] {
+        refuses(account, "DE342005000012345678901", 19, 0);
+        refuses(account, "US86200500001234567890", 19, 0);
+        refuses(account, "US00200500001234567890", 19, 0);
+        refuses(account, "DE3420050000123456789012345678901234", 7, 0);
+        accepts(account, "NL91ABNA0417164300");
+        accepts(account, "MT84MALT011000012345MTLCAST001S");
+    }
 }
 
 /// "accepting check digits 00, 01 or 99 because the remainder fits" is an error that looks
@@ -136,7 +223,7 @@ fn ibans_either_side() {
 fn check_digits_are_02_to_98() {
     for (true_digits, false_digits) in [(97, 0), (98, 1), (2, 99)] {
         let account = (0..1000)
-            .map(|n| format!("DE{true_digits:02}{n:011}"))
+            .map(|n| format!("DE{true_digits:02}{n:018}"))
             .find(|account| iban(account.as_bytes()) == Ok(0))
             .expect("one in 97 has these digits");
         let alias = format!("DE{false_digits:02}{}", &account[4..]);

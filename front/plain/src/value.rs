@@ -1,7 +1,7 @@
 //! The value kinds. Each checker is asked for the bytes of one value, as they lie in the message.
 //!
 //! "Accepting, the amount's answers the cents and the count's the number, the others yes" (here 0).
-//! "A single checker asked alone answers with 7 to 9."
+//! "A single checker asked alone answers with 7 to 9"; since request 1 that of an IBAN with 19 too.
 
 /// The refusal numbers of the paper's table. "Number 5 is not used."
 pub mod number {
@@ -39,9 +39,11 @@ pub mod number {
     pub const AREA_TOO_SMALL: u8 = 17;
     /// asked for an item not there
     pub const NO_SUCH_ITEM: u8 = 18;
+    /// IBAN of a wrong length for its country, or of no such country
+    pub const COUNTRY_LENGTH: u8 = 19;
 }
 
-use number::{CHECK_DIGITS, CODE, FORM, RANGE};
+use number::{CHECK_DIGITS, CODE, COUNTRY_LENGTH, FORM, RANGE};
 
 /// "Header total: 1 to 99,999,999,999,999,999 cents."
 pub const HEADER_MOST: u64 = 99_999_999_999_999_999;
@@ -264,14 +266,41 @@ pub fn bic(value: &[u8]) -> Result<u64, u8> {
     )
 }
 
-/// IBAN: "two capitals, two digits, then capitals or digits; 15 to 34 in all", and its check digits:
-/// "move the first four characters to the end".
+/// IBAN: "two capitals, two digits, then capitals or digits; 15 to 34 in all", then its country's
+/// length: "19, wrong length or no such country, after 7 and before 8", and its check digits: "move
+/// the first four characters to the end".
 #[inline]
 pub fn iban(value: &[u8]) -> Result<u64, u8> {
     if !(15..=34).contains(&value.len()) || !value[4..].iter().all(is_capital_or_digit) {
         return Err(FORM);
     }
-    check_digits(country_and_digits(value)?, &value[4..])
+    let head = country_and_digits(value)?;
+    if value.len() != length_of([head[0], head[1]]) {
+        return Err(COUNTRY_LENGTH);
+    }
+    check_digits(head, &value[4..])
+}
+
+/// How long an IBAN of this country is, in the order of the request: "the length or 0 for none".
+#[inline]
+fn length_of(country: [u8; 2]) -> usize {
+    match &country {
+        b"NO" => 15,
+        b"BE" => 16,
+        b"DK" | b"FI" | b"NL" => 18,
+        b"SI" => 19,
+        b"AT" | b"EE" | b"LT" | b"LU" => 20,
+        b"CH" | b"HR" | b"LI" | b"LV" => 21,
+        b"BG" | b"DE" | b"GB" | b"IE" | b"VA" => 22,
+        b"GI" => 23,
+        b"AD" | b"CZ" | b"ES" | b"RO" | b"SE" | b"SK" => 24,
+        b"PT" => 25,
+        b"IS" => 26,
+        b"FR" | b"GR" | b"IT" | b"MC" | b"SM" => 27,
+        b"CY" | b"HU" | b"PL" => 28,
+        b"MT" => 31,
+        _ => 0,
+    }
 }
 
 /// Creditor identifier: "8 to 35; two capitals, two digits, three letters or digits, then the
