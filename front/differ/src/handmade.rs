@@ -18,10 +18,10 @@ pub fn handmade(kind: Kind) -> &'static [&'static str] {
     }
 }
 
-/// One published IBAN of each country that the request lists, in the order of the request: the
-/// registry's examples. The countries and lengths of valid IBANs are taken from these, so that what
-/// is known of a value comes from another source than the judges' lists.
-pub const PUBLISHED: [&str; 37] = [
+/// One IBAN of each country that the request lists, in the order of the request. They were written
+/// down from memory, without a source at hand, and tried by 97; their countries and lengths are those
+/// of the request. The generator takes valid countries and lengths from these.
+pub const EXAMPLES: [&str; 37] = [
     "NO9386011117947",
     "BE68539007547034",
     "DK5000400440116243",
@@ -61,7 +61,7 @@ pub const PUBLISHED: [&str; 37] = [
     "MT84MALT011000012345MTLCAST001S",
 ];
 
-/// Published IBANs of countries that the request leaves out: each is 19.
+/// IBANs of countries that the request leaves out, from memory too and tried by 97: each is 19.
 pub const UNLISTED: [&str; 11] = [
     "BA391290079401028494",
     "XK051212012345678906",

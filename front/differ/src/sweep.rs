@@ -5,7 +5,7 @@ use crate::damage::{
     cut_to, element_at, fine, form_number, is_tag, is_value, kind_of, malform, values_of, whole,
     Case, Known, LONGEST, MALFORMED, MOST_ITEMS,
 };
-use crate::handmade::{handmade, PUBLISHED, UNLISTED};
+use crate::handmade::{handmade, EXAMPLES, UNLISTED};
 use crate::kind::Kind;
 use crate::message::{accepted, concat, Message, Part, Plan, Spacing, What};
 use crate::random::Random;
@@ -241,7 +241,7 @@ fn values(message: &Message, give: Give) {
     }
 }
 
-/// Each IBAN replaced: by the published ones, by those made shorter and longer with right check digits
+/// Each IBAN replaced: by the examples, by those made shorter and longer with right check digits
 /// and with wrong ones, and by those of countries that are not listed.
 fn accounts(message: &Message, give: Give) {
     let mut with = |at: usize, value: Vec<u8>, known: Result<u64, u8>| {
@@ -251,12 +251,12 @@ fn accounts(message: &Message, give: Give) {
         give(other.bytes(), "IBAN replaced", known.map_or_else(refused, |_| fine(message)));
     };
     for at in values_of(message, Kind::Iban) {
-        for published in PUBLISHED.map(str::as_bytes) {
-            with(at, published.to_vec(), Ok(0));
-            for length in [14, 15, published.len() - 1, published.len() + 1, 34, 35] {
-                let mut body = published[4..].to_vec();
+        for example in EXAMPLES.map(str::as_bytes) {
+            with(at, example.to_vec(), Ok(0));
+            for length in [14, 15, example.len() - 1, example.len() + 1, 34, 35] {
+                let mut body = example[4..].to_vec();
                 body.resize(length - 4, b'7');
-                let right = value::with_digits(&published[..2], &body);
+                let right = value::with_digits(&example[..2], &body);
                 let wrong = value::digits_off(&right);
                 with(at, wrong.clone(), value::known_iban(&wrong, false));
                 with(at, right.clone(), value::known_iban(&right, true));

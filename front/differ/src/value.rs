@@ -1,6 +1,6 @@
 //! Values of each kind.
 
-use crate::handmade::{handmade, PUBLISHED, UNLISTED};
+use crate::handmade::{handmade, EXAMPLES, UNLISTED};
 use crate::kind::{Kind, CHECKED};
 use crate::random::Random;
 
@@ -125,15 +125,15 @@ pub fn check_digits(country: &[u8], body: &[u8]) -> Vec<u8> {
     format!("{:02}", 98 - rest).into_bytes()
 }
 
-/// A published IBAN, or one of its country and length, made with its check digits.
+/// An example IBAN, or one of its country and length, made with its check digits.
 fn iban(random: &mut Random) -> Vec<u8> {
-    let published = random.pick(&PUBLISHED).as_bytes();
+    let example = random.pick(&EXAMPLES).as_bytes();
     if random.once_in(8) {
-        return published.to_vec();
+        return example.to_vec();
     }
     let set = random.pick(&[DIGITS, CAPITALS, CAPITALS_DIGITS, DIGITS]);
-    let body = random.bytes(set, published.len() - 4);
-    with_digits(&published[..2], &body)
+    let body = random.bytes(set, example.len() - 4);
+    with_digits(&example[..2], &body)
 }
 
 /// A country, what stands behind the check digits, and these, which are right.
@@ -143,7 +143,7 @@ pub fn with_digits(country: &[u8], body: &[u8]) -> Vec<u8> {
 
 /// The length of the IBANs of a country, if it is one of those that the request lists.
 fn length_of(country: &[u8]) -> Option<usize> {
-    PUBLISHED.iter().find(|iban| iban.as_bytes().starts_with(country)).map(|iban| iban.len())
+    EXAMPLES.iter().find(|iban| iban.as_bytes().starts_with(country)).map(|iban| iban.len())
 }
 
 /// What the checker answers to an IBAN of the form whose check digits are right, or are not.
@@ -160,12 +160,12 @@ pub fn known_iban(value: &[u8], right: bool) -> Result<u64, u8> {
 /// no country that is listed; its check digits are right, or any.
 pub fn other_length(random: &mut Random) -> Vec<u8> {
     loop {
-        let published = random.pick(&PUBLISHED).as_bytes();
+        let example = random.pick(&EXAMPLES).as_bytes();
         let (country, length) = match random.below(5) {
-            0 => (published[..2].to_vec(), published.len() - 1),
-            1 => (published[..2].to_vec(), published.len() + 1),
-            2 => (published[..2].to_vec(), random.length(15, 34)),
-            3 => (random.bytes(CAPITALS, 2), published.len()),
+            0 => (example[..2].to_vec(), example.len() - 1),
+            1 => (example[..2].to_vec(), example.len() + 1),
+            2 => (example[..2].to_vec(), random.length(15, 34)),
+            3 => (random.bytes(CAPITALS, 2), example.len()),
             _ => return random.pick(&UNLISTED).as_bytes().to_vec(),
         };
         let body = random.bytes(CAPITALS_DIGITS, length - 4);
@@ -331,7 +331,7 @@ pub fn near(kind: Kind, random: &mut Random) -> Vec<u8> {
 /// An IBAN or an identifier too long or too short by one or so, or just not; the rest is right.
 fn near_length(kind: Kind, random: &mut Random) -> Vec<u8> {
     let country = match random.below(2) {
-        0 => random.pick(&PUBLISHED).as_bytes()[..2].to_vec(),
+        0 => random.pick(&EXAMPLES).as_bytes()[..2].to_vec(),
         _ => random.bytes(CAPITALS, 2),
     };
     let (set, lengths, business): (_, [&usize; 6], &[u8]) = match kind {
@@ -347,7 +347,7 @@ fn near_length(kind: Kind, random: &mut Random) -> Vec<u8> {
 /// An IBAN or an identifier that is right but for a letter of the body that is small, or the country
 /// that is none, or a place of the business code that is no letter or digit.
 fn near_letters(kind: Kind, random: &mut Random) -> Vec<u8> {
-    let published = random.pick(&PUBLISHED).as_bytes();
+    let published = random.pick(&EXAMPLES).as_bytes();
     let country = match random.below(3) {
         0 => random.bytes(LETTERS_DIGITS, 2),
         _ => published[..2].to_vec(),
@@ -448,7 +448,7 @@ pub fn random(kind: Kind, random: &mut Random) -> Vec<u8> {
 /// Two capitals, two digits, and more of the shape of an IBAN or of an identifier; an IBAN's country
 /// is listed and its length due, every other time.
 fn random_account(kind: Kind, random: &mut Random) -> Vec<u8> {
-    let published = random.pick(&PUBLISHED).as_bytes();
+    let published = random.pick(&EXAMPLES).as_bytes();
     let is_due = kind == Kind::Iban && random.once_in(2);
     let country = if is_due { published[..2].to_vec() } else { random.bytes(CAPITALS, 2) };
     let head = [country, random.bytes(DIGITS, 2)].concat();
@@ -560,7 +560,7 @@ fn sweep_countries(random: &mut Random, mut give: impl FnMut(Vec<u8>, Result<u64
             }
         }
     }
-    for published in PUBLISHED {
+    for published in EXAMPLES {
         give(published.into(), Ok(0));
         give(digits_off(published.as_bytes()), Err(8));
     }

@@ -74,8 +74,13 @@ returns-6 : tie.Need-returns-6
 unfolding identifierForm inClass
 returns-6 c =
     let s = c .before .before .before .before .before .before .before .before .before .before .before .before .before .args .s .now in
-    sym
-    (pass _ _ _ (between-of 8 35 _ (c .before .before .before .before .before .before .before .before .before .before .before .if1 .left) (c .before .before .before .before .before .before .before .before .before .before .if2 .left)) (pass _ _ _ (yes-not (c .before .before .before .before .before .before .before .before .before .is-head .ensures) (c .before .before .before .before .before .before .before .before .if3 .left)) (pass _ _ _ (yes-not (c .before .before .before .before .before .before .all-in .ensures) (c .before .before .before .before .before .if4 .left)) (pass _ _ _ (yes-not (c .before .before .before .all-in2 .ensures ∙ ap (every referenceSet) (rest-of 7 s)) (c .before .before .if5 .left)) (lastly _ _ (c .some-in .ensures ∙ ap (some letterOrDigit) (rest-of 7 s)))))))
+    let b = c .before .before .before .before .before in
+    let long = between-of 8 35 _ (b .before .before .before .before .before .before .if1 .left) (b .before .before .before .before .before .if2 .left) in
+    let first = yes-not (b .before .before .before .before .is-head .ensures) (b .before .before .before .if3 .left) in
+    let three = yes-not (b .before .all-in .ensures) (b .if4 .left) in
+    let set = yes-not (c .before .before .before .all-in2 .ensures ∙ ap (every referenceSet) (rest-of 7 s)) (c .before .before .if5 .left) in
+    let rest = c .some-in .ensures ∙ ap (some letterOrDigit) (rest-of 7 s) in
+    sym (pass _ _ _ long (pass _ _ _ first (pass _ _ _ three (pass _ _ _ set (lastly _ _ rest)))))
 
 pub is-identifier-spec : {M : Type 1} → statement M
 is-identifier-spec =
