@@ -3,11 +3,14 @@
 --   a count or an amount holds   0, its number or cents, 0
 --   a message is accepted        0, its count, its cents
 --   an item lies                 0, the place of its `<`, the place behind its `>`
+--   the plain form is written    0, its length, 0
 --   refused                      the refusal's number, its place, 0
 use Prim.Native.Nat.{ℕ}
+use mathlib.Core.Path.{_≡_}
 use mathlib.Core.List.{List, [], _∷_}
 use Rattle.answers.specs.Given.{Given, yes, worth, refused}
 use Rattle.reading.specs.Verdict.{Judged, accepted, refused as denied, Located, lies, notThere}
+use Rattle.forms.specs.Written.{Answered, written, refused as notWritten, Wrote}
 
 abbrev pub told : Given → List ℕ
 told yes = 0 ∷ 0 ∷ 0 ∷ []
@@ -21,3 +24,13 @@ toldVerdict (denied number place) = number ∷ place ∷ 0 ∷ []
 abbrev pub toldExtent : Located → List ℕ
 toldExtent (lies from to) = 0 ∷ from ∷ to ∷ []
 toldExtent (notThere number place) = number ∷ place ∷ 0 ∷ []
+
+abbrev pub toldWritten : Answered → List ℕ
+toldWritten (written length) = 0 ∷ length ∷ 0 ∷ []
+toldWritten (notWritten number place) = number ∷ place ∷ 0 ∷ []
+
+-- of a message and a lent area: the three words, and the area afterwards
+pub record PlainTold (m a words b : List ℕ) : Type 0 where
+  pub answer : Answered
+  pub wrote : Wrote m a (record { answer = answer; area = b })
+  pub told : words ≡ toldWritten answer

@@ -4,6 +4,7 @@ use answers::Answer;
 use judge::Extent;
 use judge::Verdict;
 use money::Range;
+use plain::Written;
 use words::Field;
 ghost use mathlib.Core.Path.{_≡_};
 ghost use Rattle.answers.specs.Given.{given};
@@ -16,7 +17,8 @@ ghost use Rattle.money.specs.Amount.{amountGiven};
 ghost use Rattle.accounts.specs.Iban.{ibanGiven};
 ghost use Rattle.accounts.specs.Identifier.{identifierGiven};
 ghost use Rattle.accounts.specs.Bic.{bicGiven};
-ghost use Rattle.bulk.specs.Told.{told, toldVerdict, toldExtent};
+ghost use Rattle.bulk.specs.Told.{told, toldVerdict, toldExtent, toldWritten, PlainTold};
+ghost use Rattle.plain.specs.Answer.{answered};
 ghost use Rattle.judge.specs.Verdict.{meant, located};
 ghost use Rattle.reading.specs.Judged.{judged};
 ghost use Rattle.reading.specs.Items.{item as itemOf};
@@ -57,6 +59,20 @@ fn tell_extent(x: Extent, answer: &mut [u64; 3])
     }
 }
 
+// Writes the three words of a plain form.
+fn tell_written(w: Written, answer: &mut [u64; 3])
+    ensures { λ _. ⌜ now (answer .exit) ≡ toldWritten (answered w) ⌝ }
+{
+    match w {
+        Written::Length(length) => {
+            *answer = [0, length as u64, 0];
+        }
+        Written::Refused(number, place) => {
+            *answer = [number as u64, place as u64, 0];
+        }
+    }
+}
+
 // A message: 0, the count and the cents; or the number, the place and 0.
 #[no_mangle]
 pub extern "C" fn bulk_judge(message: &[u8], answer: &mut [u64; 3])
@@ -80,6 +96,14 @@ pub extern "C" fn bulk_records(message: &[u8], area: &mut [u8], answer: &mut [u6
     ensures { λ _. ⌜ (now (answer .exit) ≡ toldVerdict (recorded (now (message .entry)) (now (area .entry)) .verdict)) × (now (area .exit) ≡ recorded (now (message .entry)) (now (area .entry)) .area) ⌝ }
 {
     tell_verdict(records::records(message, area), answer);
+}
+
+// The plain form: 0, its length and 0, and the area begins with it; or the number, the place and 0, and the area is as lent.
+#[no_mangle]
+pub extern "C" fn bulk_plain(message: &[u8], area: &mut [u8], answer: &mut [u64; 3])
+    ensures { λ _. ⌜ PlainTold (now (message .entry)) (now (area .entry)) (now (answer .exit)) (now (area .exit)) ⌝ }
+{
+    tell_written(plain::write(message, area), answer);
 }
 
 // An IBAN.

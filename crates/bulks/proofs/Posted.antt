@@ -19,11 +19,13 @@ records-of : (v : Version) (l : List (DocItem v)) (p : ℕ) → recordsFor (item
 records-of v [] p = refl
 records-of v (x ∷ l) p = ap (λ (y : List ℕ). itemRecord v x ++ y) (records-of v l (p + length (itemText v x)))
 
+-- the records of an accepted message's items
+pub accepted-records : (m : List ℕ) (n c : ℕ) → judged m ≡ accepted n c → (k : Bulked m) → recordsFor (theItems m) ≡ texts (itemRecord (k .version)) (k .bulk .items)
+accepted-records m n c e k = ap recordsFor (accepted-items m n c e k) ∙ records-of (k .version) (k .bulk .items) (length (front (k .bulk)))
+
 -- For an accepted message and an area with room: the records are those of its bulk's items, one for each, in order, and behind them stands what stood there.
 -- So an item that stands twice has two records.
 pub accepted-posted : (m a : List ℕ) (n c : ℕ) → judged m ≡ accepted n c → recordLength * n ≤ length a → (k : Bulked m) → Posted m a n c (k .bulk)
 unfolding recorded
 accepted-posted m a n c e h k =
-    let z : recordsFor (theItems m) ≡ texts (itemRecord (k .version)) (k .bulk .items) =
-    ap recordsFor (accepted-items m n c e k) ∙ records-of (k .version) (k .bulk .items) (length (front (k .bulk))) in
-    record { as-many = accepted-many m n c e k; outcome = rw (e, le-ltb (length a) (recordLength * n) h, z) }
+    record { as-many = accepted-many m n c e k; outcome = rw (e, le-ltb (length a) (recordLength * n) h, accepted-records m n c e k) }

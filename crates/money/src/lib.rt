@@ -11,6 +11,7 @@ ghost use Rattle.text.specs.Classes.{digit};
 ghost use Rattle.answers.specs.Given.{given};
 ghost use Rattle.money.specs.Count.{countForm, countGiven};
 ghost use Rattle.money.specs.Amount.{pointForm, asTwoDigits, most, amountGiven};
+ghost use Rattle.money.specs.Plain.{withoutZeros};
 
 // Which range is asked for: an item's, or the header total's.
 pub enum Range {
@@ -120,4 +121,18 @@ pub fn amount(k: Range, s: &[u8]) -> Answer
         return Answer::Range;
     }
     Answer::Worth(cents)
+}
+
+// How many zeros in front of a number are needless: its last digit stays.
+pub fn needless(s: &[u8]) -> usize
+    ensures { λ r. ⌜ (withoutZeros (now (s .entry)) ≡ drop r (now (s .entry))) × (r ≤ length (now (s .entry))) ⌝ }
+{
+    let mut i = 0;
+    while i + 1 < s.len() {
+        if s[i] != b'0' {
+            return i;
+        }
+        i += 1;
+    }
+    i
 }

@@ -1,7 +1,9 @@
 -- "Indented order, 1 each unless marked. A slash means a group with that one child." (▹ is the slash; a value has its field's name and its kind.)
+use Prim.Native.Nat.{ℕ}
 use Prim.Native.String.{String}
 use mathlib.Core.List.{List, [], _∷_}
 use Rattle.codes.specs.declared.Element.the-variants as code
+use Rattle.tags.specs.Tags.{plainTag}
 use Rattle.profile.specs.declared.Kind.{Kind}
 use Rattle.profile.specs.declared.Kind.the-variants.{Plain, Count, Total, Amount, Code}
 use Rattle.profile.specs.declared.Simple.the-variants.{Reference, Text70, Text140, Date, Time, Bic, Iban, Identifier}
@@ -115,3 +117,7 @@ profile v =
     (headerName holds header v
     ∷ itemName repeats item v
     ∷ [])) (end "Document")
+
+-- the count's start tag
+abbrev pub countTag : List ℕ
+countTag = plainTag "NbOfTxs"

@@ -2,10 +2,12 @@
 use codes::Element;
 use tags::Look;
 ghost use mathlib.Core.Path.{_≡_};
+ghost use Rattle.text.specs.Quoted.{alike};
 ghost use Rattle.tags.specs.Tags.{look, exactly};
 ghost use Rattle.profile.specs.Version.{v02, root};
 ghost use Rattle.profile.specs.Fields.{fieldNumber};
 ghost use Rattle.profile.specs.Kinds.{isAmount};
+ghost use Rattle.profile.specs.Profile.{countTag};
 
 // Limits 1 and 12.
 pub const MOST_BYTES: usize = 16_777_216;
@@ -125,4 +127,11 @@ pub fn root_at(s: &[u8]) -> Look
         b"<Document xmlns=\"urn:iso:std:iso:20022:tech:xsd:pacs.003.001.02\">",
         s,
     )
+}
+
+// Whether a tag is the count's start tag.
+pub fn is_count(tag: &[u8]) -> bool
+    ensures { λ r. ⌜ r ≡ alike countTag (now (tag .entry)) ⌝ }
+{
+    text::same(b"<NbOfTxs>", tag)
 }

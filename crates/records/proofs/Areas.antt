@@ -3,12 +3,11 @@ use mathlib.Core.Path.{_≡_, refl, sym, ap, _∙_}
 use mathlib.Core.Bool.{true}
 use mathlib.Core.List.{List, [], _∷_, _++_, append-nil, append-assoc}
 use Prim.Native.Nat.{ℕ, zero, suc, _+_, _-_, _*_, _/_, _≤_, _<_}
-use native.Mathlib.Numerals.{add-one}
 use native.Mathlib.Omega.{arith}
 use borrow.Author.Tests.{lt-ltb, le-ltb}
 use borrow.Rule.Slice.PartMut.{putMid}
-use lib.ListN.{length, take, drop, getD, set, length-append, length-take, length-drop, drop-of-length-le}
-use lib.Seq.{take-suc, take-suc-set, take-all, take-at, drop-at, drop-drop, length-take-le}
+use lib.ListN.{length, take, drop, length-append, length-take, length-drop}
+use lib.Seq.{take-at, drop-at, drop-drop}
 use Rattle.tags.specs.Values.{valueAt}
 use Rattle.profile.specs.declared.Kind.the-variants.{Amount}
 use Rattle.profile.specs.declared.Field.{Field}
@@ -37,14 +36,6 @@ use Rattle.judge.specs.Found.{Found, found}
 use Rattle.judge.proofs.Alone.{Again, stands-again}
 use Rattle.judge.proofs.Walks.{found-verdict, found-chained, short}
 use Rattle.records.specs.Engine.{fieldAt, recordOf, Room}
-
--- ---- one record, byte by byte
-module _ (part rec : List ℕ) (i : ℕ) (e : take i part ≡ take i rec) where
-  pub write-more : i < length part → i < length rec → take (i + 1) (set part i (getD rec i 0)) ≡ take (i + 1) rec
-  write-more h g = rw (add-one i, take-suc-set part i (getD rec i 0) h, e, take-suc rec i 0 g)
-
-  pub write-end : length part ≤ i → length rec ≤ i → part ≡ rec
-  write-end h g = sym (take-all i part h) ∙ e ∙ take-all i rec g
 
 -- ---- an item read again: the record of its notes is the record of what it holds
 module _ (m : List ℕ) (p : ℕ) (x : Item) (s : Stands v02 m p x) (a : Again v02 m p x s) where

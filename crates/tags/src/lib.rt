@@ -5,7 +5,7 @@ ghost use Prim.Native.Nat.{_<_};
 ghost use lib.ListN.{getD};
 ghost use Rattle.text.specs.Truth.{lead};
 ghost use Rattle.text.specs.Classes.{capital};
-ghost use Rattle.tags.specs.Tags.{look, exactly, currency, white, startsQuestion, declaration, currencyPlace, inEuro};
+ghost use Rattle.tags.specs.Tags.{look, exactly, currency, white, startsQuestion, declaration as declared, currencyPlace, inEuro};
 ghost use Rattle.tags.specs.Values.{inValue};
 
 // How fixed bytes lie at a place.
@@ -127,11 +127,19 @@ pub fn has_question(s: &[u8]) -> bool
 // How many bytes the declaration has.
 pub const DECLARATION: usize = 38;
 
+// The declaration.
+pub fn declaration() -> [u8; DECLARATION]
+    ensures { λ r. ⌜ r ≡ declared ⌝ }
+{
+    *b"<?xml version=\"1.0\" encoding=\"UTF-8\"?>"
+}
+
 // How the declaration lies at the beginning of s.
 pub fn declaration_at(s: &[u8]) -> Look
-    ensures { λ r. ⌜ r ≡ look (exactly declaration) (now (s .entry)) ⌝ }
+    ensures { λ r. ⌜ r ≡ look (exactly declared) (now (s .entry)) ⌝ }
 {
-    text_at(b"<?xml version=\"1.0\" encoding=\"UTF-8\"?>", s)
+    let text = declaration();
+    text_at(&text, s)
 }
 
 // How many bytes a currency takes, with the end of its tag.

@@ -4,7 +4,7 @@ use native.Mathlib.Omega.{arith}
 use mathlib.Core.Path.{_≡_, refl}
 use Prim.Native.Nat.{_≤_, _-_}
 use lib.ListN.{length, take}
-use Rattle.records.proofs.Areas.{write-more, write-end}
+use Rattle.text.proofs.Scan.{copy-more, copy-end}
 use Rattle.records.proofs.write.Statement.{statement}
 use Rattle.records.proofs.write.Tie as tie
 
@@ -33,7 +33,7 @@ loop-again : tie.Need-loop-again Inv-loop μ-loop
 loop-again c =
     let s = c .before .before in
     let l = c .before .loop in
-    (write-more (l .part) (s .args .t2) (l .i) (l .inv .0) (omega arith) (omega (arith, s .good .1 .0 .1 .0 .1)), search needs, search needs)
+    (copy-more (l .part) (s .args .t2) (l .i) (l .inv .0) (omega arith) (omega (arith, s .good .1 .0 .1 .0 .1)), search needs, search needs)
 
 same-length : tie.Need-same-length Inv-loop μ-loop
 same-length c = search needs
@@ -42,7 +42,7 @@ returns : tie.Need-returns Inv-loop μ-loop
 returns c =
     let s = c .before .before in
     let l = c .before .loop in
-    write-end (l .part) (s .args .t2) (l .i) (l .inv .0) (omega arith) (omega (arith, s .good .1 .0 .1 .0 .1))
+    copy-end (l .part) (s .args .t2) (l .i) (l .inv .0) (omega arith) (omega (arith, s .good .1 .0 .1 .0 .1))
 
 pub write-spec : {M : Type 1} → statement M
 write-spec =

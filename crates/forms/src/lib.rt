@@ -1,0 +1,1 @@
+// The plain form of a message: what is right, and laws. No code.

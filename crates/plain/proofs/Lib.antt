@@ -1,0 +1,6 @@
+pub mod Parts
+pub mod Scans
+pub mod Values
+pub mod Pieces
+pub mod Documents
+pub mod Answers

@@ -1,0 +1,55 @@
+-- `plain::body_of` meets its contract.
+use borrow.Author.Needs.{needs}
+use native.Mathlib.Omega.{arith}
+use Rattle.plain.proofs.Scans.{body-none, body-fits, body-is}
+use Rattle.plain.proofs.body_of.Statement.{statement}
+use Rattle.plain.proofs.body_of.Tie as tie
+
+declared-requires : tie.Need-declared-requires
+declared-requires c κs = search needs
+
+slice-aggregate-result : tie.Need-slice-aggregate-result
+slice-aggregate-result c = search needs
+
+returns : tie.Need-returns
+returns c = body-none (c .before .before .before .before .args .m .now) (c .before .before .declared .result) (c .before .before .declared .ensures) (c .before .if1 .taken)
+
+sub-s : tie.Need-sub-s
+sub-s c = search needs
+
+part-s-start : tie.Need-part-s-start
+part-s-start c = search needs
+
+part-s-end : tie.Need-part-s-end
+part-s-end c = search needs
+
+upto-requires : tie.Need-upto-requires
+upto-requires c κs = search needs
+
+sub-result : tie.Need-sub-result
+sub-result c = body-fits (c .before .before .before .before .before .args .m .now) (c .before .before .before .declared .result) (c .before .before .before .declared .ensures) (c .upto .result) (c .upto .ensures)
+
+part-result-start : tie.Need-part-result-start
+part-result-start c = omega (arith, body-fits (c .before .before .before .before .before .args .m .now) (c .before .before .before .declared .result) (c .before .before .before .declared .ensures) (c .upto .result) (c .upto .ensures))
+
+part-result-end : tie.Need-part-result-end
+part-result-end c = search needs
+
+returns-2 : tie.Need-returns-2
+returns-2 c = body-is (c .before .before .before .before .before .before .args .m .now) (c .before .before .before .before .declared .result) (c .before .before .before .before .declared .ensures) (c .before .upto .result) (c .before .upto .ensures)
+
+pub body-of-spec : {M : Type 1} → statement M
+body-of-spec =
+    tie.close
+    (tie.spec
+    declared-requires
+    slice-aggregate-result
+    returns
+    sub-s
+    part-s-start
+    part-s-end
+    upto-requires
+    sub-result
+    part-result-start
+    part-result-end
+    returns-2)

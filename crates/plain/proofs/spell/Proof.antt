@@ -1,0 +1,87 @@
+-- `plain::spell` meets its contract.
+use borrow.Author.Needs.{needs}
+use mathlib.Core.Path.{refl, sym, ap, _∙_}
+use lib.ListN.{length, length-drop}
+use Rattle.text.proofs.Scan.{rest-of}
+use Rattle.plain.specs.declared.Spelling.{Spelling}
+use Rattle.plain.specs.Engine.{spelled}
+use Rattle.plain.proofs.Values.{number-long, none-left}
+use Rattle.plain.proofs.spell.Statement.{statement}
+use Rattle.plain.proofs.spell.Tie as tie
+
+enum-told : tie.Need-enum-told
+enum-told c = search needs
+
+enum-told-2 : tie.Need-enum-told-2
+enum-told-2 c = search needs
+
+copy-requires : tie.Need-copy-requires
+copy-requires c κs = c .before .before .before .before .before .pre ∙ ap (λ (k : Spelling). length (spelled k (c .before .before .before .before .before .args .v .now))) (c .before .enum-told2 .given .1)
+
+enum-told-3 : tie.Need-enum-told-3
+enum-told-3 c = search needs
+
+needless-requires : tie.Need-needless-requires
+needless-requires c κs = search needs
+
+sub-copy : tie.Need-sub-copy
+sub-copy c = search needs
+
+part-copy-start : tie.Need-part-copy-start
+part-copy-start c = search needs
+
+part-copy-end : tie.Need-part-copy-end
+part-copy-end c = search needs
+
+copy-requires-2 : tie.Need-copy-requires-2
+copy-requires-2 c κs = c .before .before .before .before .before .before .before .pre ∙ ap (λ (k : Spelling). length (spelled k (c .before .before .before .before .before .before .before .args .v .now))) (c .before .before .before .enum-told3 .given .1) ∙ sym (number-long (c .before .before .before .before .before .before .before .args .v .now) (c .before .before .needless .result) (c .before .before .needless .ensures .0)) ∙ sym (ap length (rest-of _ (c .before .before .before .before .before .before .before .args .v .now)) ∙ length-drop _ (c .before .before .before .before .before .before .before .args .v .now))
+
+enum-told-4 : tie.Need-enum-told-4
+enum-told-4 c = search needs
+
+spell-amount-requires : tie.Need-spell-amount-requires
+spell-amount-requires c κs = c .before .before .before .before .before .pre ∙ ap (λ (k : Spelling). length (spelled k (c .before .before .before .before .before .args .v .now))) (c .before .enum-told4 .given .1)
+
+returns : tie.Need-returns
+returns c = none-left (c .before .before .before .before .args .to .now) (c .before .before .before .before .args .k) (c .before .before .before .before .args .v .now) (c .enum-told .given .1) (c .before .before .before .before .pre)
+
+same-length : tie.Need-same-length
+same-length c = search needs
+
+returns-2 : tie.Need-returns-2
+returns-2 c = search needs
+
+same-length-2 : tie.Need-same-length-2
+same-length-2 c = search needs
+
+returns-3 : tie.Need-returns-3
+returns-3 c = c .before .before .copy2 .ensures ∙ rest-of _ (c .before .before .before .before .before .before .before .before .before .before .args .v .now) ∙ rw (c .before .before .before .before .before .before .enum-told3 .given .1) (sym (c .before .before .before .before .before .needless .ensures .0))
+
+same-length-3 : tie.Need-same-length-3
+same-length-3 c = search needs
+
+returns-4 : tie.Need-returns-4
+returns-4 c = c .before .before .spell-amount .ensures ∙ rw (c .before .before .before .before .enum-told4 .given .1)
+
+pub spell-spec : {M : Type 1} → statement M
+spell-spec =
+    tie.close
+    (tie.spec
+    enum-told
+    enum-told-2
+    copy-requires
+    enum-told-3
+    needless-requires
+    sub-copy
+    part-copy-start
+    part-copy-end
+    copy-requires-2
+    enum-told-4
+    spell-amount-requires
+    returns
+    same-length
+    returns-2
+    same-length-2
+    returns-3
+    same-length-3
+    returns-4)
