@@ -37,6 +37,11 @@ void bulk_item(const uint8_t *message, size_t length, uint64_t i, uint64_t answe
  * the area is as lent. Bytes behind the last record are as lent. */
 void bulk_records(const uint8_t *message, size_t length, uint8_t *area, size_t area_length, uint64_t answer[BULK_ANSWER]);
 
+/* The plain form, which two messages share exactly when they say the same: 0, its length, 0, and the area begins with it; or number,
+ * place, 0, and the area is as lent. Bytes behind the form are as lent. It is at most 38 bytes, and 3 for the total and for each item,
+ * longer than the message. */
+void bulk_plain(const uint8_t *message, size_t length, uint8_t *area, size_t area_length, uint64_t answer[BULK_ANSWER]);
+
 /* One value: 0, 0, 0; or number, 0, 0. The number is 7; of an IBAN 7, 19 or 8, of a creditor identifier 7 or 8. */
 void bulk_iban(const uint8_t *value, size_t length, uint64_t answer[BULK_ANSWER]);
 void bulk_creditor_id(const uint8_t *value, size_t length, uint64_t answer[BULK_ANSWER]);

@@ -108,6 +108,28 @@ static void check_records(const uint8_t *message, size_t length, const uint8_t r
     }
 }
 
+/* The plain form of the example, which lacks but the declaration: in an area too small and in one that is larger. */
+static void check_plain(const uint8_t *message, size_t length)
+{
+    static const char declaration[] = "<?xml version=\"1.0\" encoding=\"UTF-8\"?>";
+    static uint8_t area[65536 + sizeof declaration];
+    size_t before = sizeof declaration - 1, whole = before + length;
+    uint64_t answer[BULK_ANSWER];
+    memset(area, 7, sizeof area);
+    bulk_plain(message, length, area, whole - 1, answer);
+    hold("plain, an area too small", answer, 17, 0, 0);
+    if (area[0] != 7 || memcmp(area, area + 1, sizeof area - 1) != 0) {
+        printf("plain, an area too small: the area is not as lent\n");
+        wrong++;
+    }
+    bulk_plain(message, length, area, whole + 1, answer);
+    hold("plain", answer, 0, whole, 0);
+    if (memcmp(area, declaration, before) != 0 || memcmp(area + before, message, length) != 0 || area[whole] != 7) {
+        printf("plain: not the plain form, or more than it\n");
+        wrong++;
+    }
+}
+
 int main(int words, char **word)
 {
     static uint8_t message[65536], record[BULK_RECORD + 1];
@@ -119,5 +141,6 @@ int main(int words, char **word)
     check_values();
     check_message(message, length);
     check_records(message, length, record);
+    check_plain(message, length);
     return wrong ? 1 : 0;
 }

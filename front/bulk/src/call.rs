@@ -13,6 +13,8 @@ pub enum Command {
     Judge,
     Items,
     Records,
+    Plain,
+    Same,
     Check,
     Explain,
     Help,
@@ -150,10 +152,12 @@ impl Form {
 }
 
 impl Command {
-    const ALL: [Command; 6] = [
+    const ALL: [Command; 8] = [
         Command::Judge,
         Command::Items,
         Command::Records,
+        Command::Plain,
+        Command::Same,
         Command::Check,
         Command::Explain,
         Command::Help,
@@ -165,6 +169,8 @@ impl Command {
             Command::Judge => "judge",
             Command::Items => "items",
             Command::Records => "records",
+            Command::Plain => "plain",
+            Command::Same => "same",
             Command::Check => "check",
             Command::Explain => "explain",
             Command::Help => "help",
@@ -203,6 +209,16 @@ impl Command {
                  output.",
                 "Aufruf: bulk records DATEI ZIEL. ZIEL ist eine Datei für die Buchungssätze oder - \
                  für die Standardausgabe.",
+            ),
+            Command::Plain => (
+                "Usage: bulk plain FILE [OUT]. OUT is a file for the plain form; without it, or with \
+                 -, the form goes to standard output.",
+                "Aufruf: bulk plain DATEI [ZIEL]. ZIEL ist eine Datei für die Normalform; ohne ZIEL \
+                 oder mit - geht sie auf die Standardausgabe.",
+            ),
+            Command::Same => (
+                "Usage: bulk same FILE FILE. Two files, and - at most once.",
+                "Aufruf: bulk same DATEI DATEI. Zwei Dateien, und - höchstens einmal.",
             ),
             Command::Check => (
                 "Usage: bulk check KIND VALUE. A VALUE with spaces stands in quotes.",

@@ -100,8 +100,8 @@ fn shared(item: &Item, language: Language) -> String {
     format!("{id}, {iban}, {euros}, {}", shown(item.collection_date))
 }
 
-/// The numbers of a group, with neighbours drawn together: `1, 6`, `2 to 9`.
-fn numbers(group: &Group, language: Language) -> String {
+/// Numbers of items, with neighbours drawn together: `1, 6`, `2 to 9`.
+pub fn numbers(group: &Group, language: Language) -> String {
     let mut texts = Vec::new();
     let mut at = 0;
     while at < group.len() {

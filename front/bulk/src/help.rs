@@ -13,10 +13,11 @@ const ENGLISH: &str = "\
 bulk judges a SEPA direct-debit bulk (pacs.003.001.02) before it is signed.
 
   bulk judge FILE..       one line per file: accepted with count and total, or
-                          refused with number, place, value found and why;
-                          warnings below it. In short: bulk FILE..
+                          refused with place and why. In short: bulk FILE..
   bulk items FILE         table of the items, doubled ones marked
   bulk records FILE OUT   write the posting records to OUT, whole or not at all
+  bulk plain FILE [OUT]   the plain form: no indentation, no needless zeros
+  bulk same FILE FILE     whether two plain forms are the same, or what differs
   bulk check KIND VALUE   one value; KIND is iban, creditor-id, bic, count,
                           item-amount, header-amount, date, time, reference,
                           text70 (a name) or text140 (a remittance text)
@@ -32,21 +33,21 @@ means its .xml files. Places count bytes from 0; lines, columns, items from 1.
   --csv        items for a spreadsheet, with semicolons
   --help       this page, also bulk help; --version; -- ends the options
 
-Exit status: 0 all accepted, 1 something refused, 2 could not do its work.
+Exit status: 0 accepted, same; 1 refused, different; 2 could not do its work.
 ";
 
 const GERMAN: &str = "\
 bulk prüft einen SEPA-Lastschrift-Bulk (Sammler), pacs.003.001.02, vor Freigabe.
 
   bulk judge DATEI..       je Datei eine Zeile: angenommen mit Anzahl und Summe
-                           oder abgelehnt mit Nummer, Stelle, Wert und Grund;
-                           darunter Warnungen. Kurz: bulk DATEI..
+                           oder abgelehnt mit Stelle und Grund. Kurz: bulk DATEI
   bulk items DATEI         Tabelle der Posten, doppelte markiert
   bulk records DATEI ZIEL  Buchungssätze nach ZIEL, ganz oder gar nicht
+  bulk plain DATEI [ZIEL]  Normalform: ohne Einrückung und überflüssige Nullen
+  bulk same DATEI DATEI    ob zwei Normalformen gleich sind, sonst was abweicht
   bulk check ART WERT      ein Wert; ART ist iban, bic, count, date, time,
-                           creditor-id (Gläubiger-ID), item-amount (Betrag),
-                           header-amount (Gesamtsumme), reference, text70 (Name)
-                           oder text140 (Verwendungszweck)
+                           reference, creditor-id (Gläubiger-ID), item-amount,
+                           header-amount, text70 (Name) oder text140 (Zweck)
   bulk explain [N]         Bedeutung von Ablehnung N, Ursachen, was zu tun ist
 
 - ist die Standardeingabe, als ZIEL die Standardausgabe. Ein Ordner meint seine
@@ -59,7 +60,7 @@ bulk prüft einen SEPA-Lastschrift-Bulk (Sammler), pacs.003.001.02, vor Freigabe
   --csv        Posten für die Tabellenkalkulation, mit Semikolons
   --help       diese Seite, auch bulk help; --version; -- beendet die Optionen
 
-Exit-Status: 0 alles angenommen, 1 etwas abgelehnt, 2 Fehler bei der Ausführung.
+Status: 0 angenommen/gleich, 1 abgelehnt/ungleich, 2 Fehler bei der Ausführung.
 ";
 
 #[cfg(test)]

@@ -4,6 +4,7 @@
 
 mod call;
 mod check;
+mod compared;
 mod csv;
 mod doubled;
 mod euro;
@@ -13,14 +14,15 @@ mod items;
 mod json;
 mod judge;
 mod language;
+mod made;
 mod message;
 mod out;
 mod pages;
 mod place;
 mod profile;
 mod read;
-mod records;
 mod refusal;
+mod same;
 mod show;
 #[allow(unsafe_code)]
 mod system;
@@ -32,10 +34,12 @@ mod why;
 
 use call::{Call, Command};
 use language::Language;
+use made::Made;
 use std::process::ExitCode;
 use trouble::Trouble;
 
-/// The exit status: 0, 1 or 2, each worse than the one before.
+/// The exit status: 0, 1 or 2, each worse than the one before. Two bulks that differ end as a refusal
+/// does.
 #[derive(Clone, Copy, Debug, PartialEq, Eq, PartialOrd, Ord)]
 pub enum Status {
     Accepted,
@@ -73,7 +77,10 @@ fn run(call: &Call) -> Result<Status, Trouble> {
     match (command, &words[..]) {
         (Command::Judge, names) => judge::judge(call, names),
         (Command::Items, [name]) => items::items(call, name),
-        (Command::Records, [name, out]) => records::records(call, name, out),
+        (Command::Records, [name, out]) => made::made(call, Made::Records, name, out),
+        (Command::Plain, [name]) => made::made(call, Made::Plain, name, out::OUTPUT.as_ref()),
+        (Command::Plain, [name, out]) => made::made(call, Made::Plain, name, out),
+        (Command::Same, [one, other]) => same::same(call, one, other),
         (Command::Check, [kind, value]) => check::check(call, kind, value),
         (Command::Explain, []) => pages::explain(call, None).map(|()| Status::Accepted),
         (Command::Explain, [number]) => {

@@ -1,7 +1,11 @@
 //! Standard output and standard error.
 
+use crate::made::Made;
 use crate::trouble::Trouble;
-use std::io::{self, Write};
+use std::io::{self, IsTerminal, Write};
+
+/// The name of standard output.
+pub const OUTPUT: &str = "-";
 
 /// To standard output, all of it. A reader that has gone, as `head` does, has what it wanted: the
 /// work goes on, so that the exit status is that of the verdict whoever reads.
@@ -23,12 +27,17 @@ pub fn put_unless(is_taken: bool, text: &str) -> Result<(), Trouble> {
     }
 }
 
-/// Records to standard output, all of them: here a reader that has gone has not got them.
-pub fn put_records(records: &[u8]) -> Result<(), Trouble> {
+/// What was made to standard output, all of it: here a reader that has gone has not got it.
+pub fn put_made(made: Made, bytes: &[u8]) -> Result<(), Trouble> {
     if crate::system::is_closed(&io::stdout()) {
-        return Err(Trouble::OutputClosed);
+        return Err(Trouble::OutputClosed(made));
     }
-    write(records).map_err(Trouble::Output)
+    write(bytes).map_err(Trouble::Output)?;
+    // A plain form ends without a line end, and on a screen what is told next would follow it directly.
+    if made == Made::Plain && io::stdout().is_terminal() {
+        tell("\n");
+    }
+    Ok(())
 }
 
 /// Writes all bytes, and waits until they are out.

@@ -1,7 +1,8 @@
-//! The file for the records: which file it really is, whether it may be replaced, and a new one in its
-//! place that is whole or not there at all.
+//! The file for the records or the plain form: which file it really is, whether it may be replaced, and
+//! a new one in its place that is whole or not there at all.
 
 use crate::language::Language;
+use crate::made::Made;
 use crate::trouble::Trouble;
 use crate::{read, system};
 use face::RECORD;
@@ -59,9 +60,9 @@ impl Lost {
 }
 
 impl Target {
-    /// Nothing, or a file that may be replaced: anything else stays as it is. The message itself is
-    /// never written over.
-    pub fn of(out: &OsStr, message: &OsStr) -> Result<Target, Trouble> {
+    /// Nothing, or a file that may be replaced by what was made: anything else stays as it is. The
+    /// message itself is never written over.
+    pub fn of(out: &OsStr, message: &OsStr, made: Made, area: &[u8]) -> Result<Target, Trouble> {
         let fail = |error: io::Error| Trouble::Unwritable(out.to_owned(), error);
         let (folder, file, is_there) = real(out)?;
         let out = out.to_owned();
@@ -73,14 +74,18 @@ impl Target {
             return Err(Trouble::NoFile(out));
         }
         if is_same(&data, message) {
-            return Err(Trouble::IsMessage(out));
+            return Err(Trouble::IsMessage(made, out));
         }
         // A file that is write-protected stays: a new one in its place would undo that.
         let open = OpenOptions::new().read(true).append(true).open(&file);
         let mut old = open.map_err(|error| Trouble::Unwritable(out.clone(), error))?;
-        match looks_like_records(&mut old) {
+        let may_go = match made {
+            Made::Records => looks_like_records(&mut old),
+            Made::Plain => is_empty_or(&mut old, area),
+        };
+        match may_go {
             Ok(true) => Ok(Target { out, folder, file, old: Some(old) }),
-            Ok(false) => Err(Trouble::NoRecords(out)),
+            Ok(false) => Err(Trouble::NotReplaced(made, out)),
             Err(error) => Err(Trouble::Unreadable(out, error)),
         }
     }
@@ -103,8 +108,8 @@ impl Target {
             let _ = fs::remove_file(&new);
             return done;
         }
-        // The name is on the disk when the folder is. Not every file system can do that, and the
-        // records are whole under either name, so a failure here is none.
+        // The name is on the disk when the folder is. Not every file system can do that, and what was
+        // made is whole under either name, so a failure here is none.
         let _ = File::open(&self.folder).and_then(|folder| folder.sync_all());
         done
     }
@@ -129,7 +134,7 @@ impl Target {
         }
     }
 
-    /// Writes the records, and what the old file had.
+    /// Writes what was made, and what the old file had.
     fn fill(&self, mut file: &File, area: &[u8]) -> io::Result<Vec<Lost>> {
         file.write_all(area)?;
         file.flush()?;
@@ -199,6 +204,18 @@ fn looks_like_records(file: &mut File) -> io::Result<bool> {
             Err(error) => return Err(error),
         }
     }
+}
+
+/// Whether a file is empty, or holds just these bytes. A plain form is a bulk itself and cannot be told
+/// from one that somebody exported, so no other is replaced.
+fn is_empty_or(file: &mut File, bytes: &[u8]) -> io::Result<bool> {
+    let length = file.metadata()?.len();
+    if length != bytes.len() as u64 {
+        return Ok(length == 0);
+    }
+    let mut held = Vec::new();
+    file.take(length).read_to_end(&mut held)?;
+    Ok(held == bytes)
 }
 
 /// The name of a new file of a process.

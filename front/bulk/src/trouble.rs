@@ -4,6 +4,7 @@
 use crate::call::{Command, Form};
 use crate::failure::cause;
 use crate::language::Language;
+use crate::made::Made;
 use crate::show::name;
 use crate::{check, pages};
 use std::ffi::OsString;
@@ -29,16 +30,17 @@ pub enum Trouble {
     NoXml(OsString),
     /// Standard output.
     Output(io::Error),
-    OutputClosed,
-    /// The records were written to this file; only their verdict was not.
-    OutputAfterRecords(OsString, io::Error),
-    /// The file for the records.
-    NoName,
+    OutputClosed(Made),
+    /// What was made is in this file; only the verdict could not be told.
+    OutputAfter(Made, OsString, io::Error),
+    /// The file for what is made.
+    NoName(Made),
     NoFile(OsString),
     LeadsNowhere(OsString),
     Device(OsString),
-    IsMessage(OsString),
-    NoRecords(OsString),
+    IsMessage(Made, OsString),
+    /// What it holds would be lost.
+    NotReplaced(Made, OsString),
     Unwritable(OsString, io::Error),
     /// The command and the library do not agree.
     Disagreement,
@@ -57,8 +59,13 @@ impl Trouble {
             | Trouble::SeveralForms
             | Trouble::FormOf(..) => self.of_call(language),
             Trouble::Output(error) => output(error, language),
-            Trouble::OutputAfterRecords(out, error) => {
-                let written = language.say("The records are in", "Die Buchungssätze stehen in");
+            Trouble::OutputAfter(made, out, error) => {
+                let written = match made {
+                    Made::Records => {
+                        language.say("The records are in", "Die Buchungssätze stehen in")
+                    }
+                    Made::Plain => language.say("The plain form is in", "Die Normalform steht in"),
+                };
                 format!("{} {written} {}", output(error, language), name(out))
             }
             Trouble::Unreadable(file, error) => {
@@ -72,8 +79,10 @@ impl Trouble {
             | Trouble::NoFile(file)
             | Trouble::LeadsNowhere(file)
             | Trouble::Device(file)
-            | Trouble::IsMessage(file)
-            | Trouble::NoRecords(file) => format!("{}: {}", name(file), self.of_file(language)),
+            | Trouble::IsMessage(_, file)
+            | Trouble::NotReplaced(_, file) => {
+                format!("{}: {}", name(file), self.of_file(language))
+            }
             _ => self.of_file(language).to_string(),
         }
     }
@@ -154,15 +163,15 @@ impl Trouble {
                 "Die Standardeingabe ist geschlossen. Bitte eine Datei nennen oder die Nachricht \
                  an den Befehl leiten.",
             ),
-            Trouble::OutputClosed => (
+            Trouble::OutputClosed(Made::Records) => (
                 "Standard output is closed, so the records would be lost. Name a file for them.",
                 "Die Standardausgabe ist geschlossen, die Buchungssätze gingen verloren. Bitte \
                  eine Datei dafür nennen.",
             ),
-            Trouble::NoName => (
-                "OUT is empty. Name a file for the records, or - for standard output.",
-                "ZIEL ist leer. Bitte eine Datei für die Buchungssätze nennen oder - für die \
-                 Standardausgabe.",
+            Trouble::OutputClosed(Made::Plain) => (
+                "Standard output is closed, so the plain form would be lost. Name a file for it.",
+                "Die Standardausgabe ist geschlossen, die Normalform ginge verloren. Bitte eine \
+                 Datei dafür nennen.",
             ),
             Trouble::Disagreement => (
                 "The command and the library do not agree on this message. Please report this, \
@@ -175,9 +184,12 @@ impl Trouble {
         language.say(english, german)
     }
 
-    /// Why the file for the records stays as it is.
+    /// Why the file for what is made stays as it is.
     fn of_out(&self) -> (&'static str, &'static str) {
         match self {
+            Trouble::NoName(made) | Trouble::IsMessage(made, _) | Trouble::NotReplaced(made, _) => {
+                self.of_made(*made)
+            }
             Trouble::NoFile(_) => (
                 "It is a folder or a device, not a file. Name a file. Nothing was changed.",
                 "Das ist ein Ordner oder ein Gerät, keine Datei. Bitte eine Datei nennen. Nichts \
@@ -188,21 +200,47 @@ impl Trouble {
                 "Das ist ein Verweis auf eine Datei, die es nicht gibt. Bitte entfernen oder \
                  einen anderen Namen wählen.",
             ),
-            Trouble::Device(_) => (
+            _ => (
                 "Nothing is written under /dev or /proc. For standard output give - as OUT.",
                 "Unter /dev und /proc wird nichts geschrieben. Für die Standardausgabe bitte - als \
                  ZIEL angeben.",
             ),
-            Trouble::IsMessage(_) => (
+        }
+    }
+
+    /// The same, where it depends on what is made.
+    fn of_made(&self, made: Made) -> (&'static str, &'static str) {
+        match (self, made) {
+            (Trouble::NoName(_), Made::Records) => (
+                "OUT is empty. Name a file for the records, or - for standard output.",
+                "ZIEL ist leer. Bitte eine Datei für die Buchungssätze nennen oder - für die \
+                 Standardausgabe.",
+            ),
+            (Trouble::NoName(_), Made::Plain) => (
+                "OUT is empty. Name a file for the plain form, or - for standard output.",
+                "ZIEL ist leer. Bitte eine Datei für die Normalform nennen oder - für die \
+                 Standardausgabe.",
+            ),
+            (Trouble::IsMessage(..), Made::Records) => (
                 "OUT is the message itself. Choose another name for the records.",
                 "ZIEL ist die Nachricht selbst. Bitte einen anderen Namen für die Buchungssätze \
                  wählen.",
             ),
-            _ => (
+            (Trouble::IsMessage(..), Made::Plain) => (
+                "OUT is the message itself. Choose another name for the plain form.",
+                "ZIEL ist die Nachricht selbst. Bitte einen anderen Namen für die Normalform wählen.",
+            ),
+            (_, Made::Records) => (
                 "The file does not hold posting records, so it was not replaced. Choose another \
                  name, or remove it first.",
                 "Die Datei enthält keine Buchungssätze und wurde nicht ersetzt. Bitte einen anderen \
                  Namen wählen oder sie vorher löschen.",
+            ),
+            (_, Made::Plain) => (
+                "The file is not empty and holds something else, perhaps another bulk, so it was \
+                 not replaced. Choose another name, or remove it first.",
+                "Die Datei ist nicht leer und enthält etwas anderes, vielleicht einen anderen Bulk; \
+                 sie wurde nicht ersetzt. Bitte einen anderen Namen wählen oder sie vorher löschen.",
             ),
         }
     }

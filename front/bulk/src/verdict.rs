@@ -91,8 +91,7 @@ impl<'a> Judged<'a> {
         match self.verdict {
             Verdict::Accepted { count, cents } => {
                 let accepted = language.say("accepted", "angenommen");
-                let (items, money) = (language.items(count.into()), language.money(cents));
-                format!("{name}: {accepted}, {items}, {money}{}", self.signed(language))
+                format!("{name}: {accepted}, {}", self.signed(count, cents, language))
             }
             Verdict::Refused { number, place } => {
                 let refusal = Refusal::of(self.message, &self.contents, number, place);
@@ -101,12 +100,14 @@ impl<'a> Judged<'a> {
         }
     }
 
-    /// What is signed: which bulk, when it settles, of which kind.
-    fn signed(&self, language: Language) -> String {
+    /// What is signed: so many items and cents, which bulk, when it settles, of which kind.
+    pub fn signed(&self, count: u64, cents: u64, language: Language) -> String {
         let header = &self.contents.header;
+        let (items, money) = (language.items(count.into()), language.money(cents));
         let (msg_id, date) = (shown(header.msg_id), shown(header.settlement_date));
         let settles = language.say("settlement date", "Abrechnungsdatum");
-        format!(", MsgId {msg_id}, {settles} {date}, {}", shown(self.contents.instrument()))
+        let instrument = shown(self.contents.instrument());
+        format!("{items}, {money}, MsgId {msg_id}, {settles} {date}, {instrument}")
     }
 
     /// What stands below the line, indented: an excerpt of the place, and the warnings.

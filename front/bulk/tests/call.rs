@@ -21,6 +21,8 @@ fn help_is_one_screen() {
             "judge",
             "items",
             "records",
+            "bulk plain",
+            "bulk same",
             "check",
             "explain",
             "bulk help",
@@ -54,7 +56,7 @@ fn the_version() {
 /// A bad call, in which FILE stands for a message, and what is said of it in English and German.
 type BadCall = (&'static [&'static str], &'static str, &'static str);
 
-const BAD_CALLS: [BadCall; 16] = [
+const BAD_CALLS: [BadCall; 21] = [
     (&[], "bulk judge FILE", "bulk judge DATEI"),
     (
         &["jugde", "FILE"],
@@ -72,6 +74,15 @@ const BAD_CALLS: [BadCall; 16] = [
     (&["items", "FILE", "FILE"], "bulk items FILE", "bulk items DATEI"),
     (&["records", "FILE"], "bulk records FILE OUT", "bulk records DATEI ZIEL"),
     (&["records", "FILE", "a", "b"], "bulk records FILE OUT", "bulk records DATEI ZIEL"),
+    (&["plain"], "bulk plain FILE [OUT]", "bulk plain DATEI [ZIEL]"),
+    (&["plain", "FILE", "a", "b"], "bulk plain FILE [OUT]", "bulk plain DATEI [ZIEL]"),
+    (&["same", "FILE"], "bulk same FILE FILE", "bulk same DATEI DATEI"),
+    (&["same", "FILE", "FILE", "FILE"], "bulk same FILE FILE", "bulk same DATEI DATEI"),
+    (
+        &["same", "--csv", "FILE", "FILE"],
+        "There is no --csv for same.",
+        "Für same gibt es --csv nicht.",
+    ),
     (&["check", "iban"], "bulk check KIND VALUE", "bulk check ART WERT"),
     (&["check", "iban", "a", "b"], "bulk check KIND VALUE", "bulk check ART WERT"),
     (&["explain", "1", "2"], "bulk explain 14", "bulk explain 14"),

@@ -82,7 +82,7 @@ fn the_texts_as_an_office_writes_them() {
         (10, "This code is not allowed here.", "Dieser Code ist hier nicht zulässig."),
         (12, "More than 10,000 items.", "Mehr als 10.000 Posten."),
         (16, "More data follows </Document>.", "Nach </Document> folgen weitere Daten."),
-        (17, "", "Der Speicherbereich für die Buchungssätze ist zu klein."),
+        (17, "", "Der Speicherbereich für die Buchungssätze oder die Normalform ist zu klein."),
     ] {
         let [told, told_german] = overview(number);
         assert!(english.is_empty() || told == english, "{told}");
@@ -93,6 +93,8 @@ fn the_texts_as_an_office_writes_them() {
         (7, &["Mandatsreferenz (MndtId)"]),
         (8, &["Tippfehler", "Zahlendreher", "typing error"]),
         (11, &["Basis- (CORE) und Firmenlastschriften (B2B)"]),
+        (1, &["A plain form over that limit", "Auch eine Normalform über dieser Grenze"]),
+        (17, &["or asked for the plain form and lent fewer bytes", "für die Normalform die Länge"]),
         (19, &["AT EE LT LU 20", "Germany (DE) has 22", "aus Deutschland (DE) hat 22 Stellen"]),
         (14, &["Each item by itself", "Bedeutung", "Häufige Ursachen", "Was tun?"]),
     ] {

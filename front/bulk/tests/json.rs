@@ -175,6 +175,62 @@ fn one_object_for_records_and_for_a_value() {
 }
 
 #[test]
+fn one_object_for_the_plain_form() {
+    let folder = Folder::new();
+    let (file, out) = (sample("evening.xml"), folder.path("out"));
+    let said = objects(&bulk(&["--json", "plain", text(&file), text(&out)]).done(0));
+    assert_eq!(
+        (&said[0]["plain"], &said[0]["cents"]),
+        (&string(text(&out)), &Json::Number(202_490))
+    );
+    // To standard output: the object is on standard error.
+    let said = bulk(&["--json", "plain", text(&file)]);
+    assert_eq!(said.out, std::fs::read_to_string(&out).unwrap());
+    let object = &objects(&said.err)[0];
+    assert_eq!((&object["plain"], &object["verdict"]), (&Json::Null, &string("accepted")));
+}
+
+#[test]
+fn one_object_for_two_files() {
+    let [one, padded, doubled, bad] =
+        ["evening.xml", "evening-padded.xml", "doubled.xml", "october.xml"].map(sample);
+    let compare = |one, other, status| {
+        let said = objects(&bulk(&["--json", "same", text(one), text(other)]).done(status));
+        assert_eq!(said.len(), 1);
+        said.into_iter().next().unwrap()
+    };
+    let same = compare(&one, &padded, 0);
+    assert_eq!((&same["file"], &same["other"]), (&string(text(&one)), &string(text(&padded))));
+    assert_eq!((&same["verdict"], &same["count"]), (&string("same"), &Json::Number(5)));
+    assert_eq!(
+        (&same["cents"], &same["differences"]),
+        (&Json::Number(202_490), &Json::List(vec![]))
+    );
+
+    let different = compare(&one, &doubled, 1);
+    assert_eq!((&different["verdict"], &different["count"]), (&string("different"), &Json::Null));
+    assert_eq!(different["different_items"], Json::List(vec![Json::Number(6)]));
+    let Json::List(differences) = &different["differences"] else { panic!() };
+    let object = |item, tx_id, other, element: &str, here, there| {
+        let keys = ["item", "tx_id", "other_tx_id", "element", "here", "there"].map(String::from);
+        let values = [item, tx_id, other, string(element), here, there];
+        Json::Object(keys.into_iter().zip(values).collect())
+    };
+    let null = || Json::Null;
+    let count = object(null(), null(), null(), "NbOfTxs", string("5"), string("6"));
+    let tx_id = || string("TX-20261028-0001");
+    let item = object(Json::Number(6), null(), tx_id(), "DrctDbtTxInf", null(), tx_id());
+    assert_eq!((&differences[0], &differences[2], differences.len()), (&count, &item, 3));
+
+    let refused = compare(&bad, &one, 1);
+    assert_eq!(refused["verdict"], string("refused"));
+    let judged = bulk(&["--json", "judge", text(&bad)]).done(1);
+    let judged = Reader { rest: judged.trim_end() }.value();
+    assert_eq!(refused["refused"], Json::List(vec![judged]));
+    assert!(same.keys().eq(different.keys()) && same.keys().eq(refused.keys()));
+}
+
+#[test]
 fn an_iban_of_another_length() {
     let changed = damaged("DE48200999000041726300", "DE592009990000417263000");
     let said = objects(&piped(&["--json", "judge", "-"], &changed).done(1));
@@ -210,10 +266,18 @@ fn every_key_is_documented() {
         &["judge", text(&file)][..],
         &["items", text(&file)],
         &["records", text(&sample("evening.xml")), text(&out)],
+        &["plain", text(&sample("evening.xml")), text(&folder.path("plain"))],
+        &["same", text(&sample("evening.xml")), text(&sample("doubled.xml"))],
         &["check", "iban", "x"],
     ] {
         for object in objects(&bulk(&[&["--json"], words].concat()).out) {
-            for key in object.keys() {
+            let mut keys: Vec<&String> = object.keys().collect();
+            // Those of a difference too.
+            if let Some(Json::List(list)) = object.get("differences") {
+                let Json::Object(pairs) = &list[0] else { panic!() };
+                keys.extend(pairs.iter().map(|pair| &pair.0));
+            }
+            for key in keys {
                 assert!(readme.contains(&format!("| `{key}` |")), "{key}");
             }
         }

@@ -26,7 +26,12 @@ fn the_locale_chooses_the_language() {
 #[test]
 fn what_is_meant_for_programs_is_the_same_in_both() {
     let (good, bad) = (sample("evening.xml"), sample("october.xml"));
-    for words in [&["judge", text(&good), text(&bad)][..], &["items", text(&good)]] {
+    for words in [
+        &["judge", text(&good), text(&bad)][..],
+        &["items", text(&good)],
+        &["plain", text(&good)],
+        &["same", text(&good), text(&bad)],
+    ] {
         let words = |language| [&["--plain", language], words].concat();
         assert_eq!(bulk(&words("--de")).out, bulk(&words("--en")).out);
     }

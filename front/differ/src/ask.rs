@@ -49,10 +49,10 @@ fn is_large(bytes: &[u8]) -> bool {
     bytes.len() > 1_000_000
 }
 
-/// The questions about one case after another.
+/// The questions about one case after another. Those about the plain form are in [`crate::form`].
 pub struct Asker {
     pub tally: Tally,
-    slow: Slow,
+    pub(crate) slow: Slow,
 }
 
 impl Asker {
@@ -127,13 +127,14 @@ impl Asker {
         }
     }
 
-    /// All that is asked of a message but its records: the judge, also the slow one, where the items
-    /// lie, and the law of the names.
-    pub fn message(&mut self, name: &Name, case: &Case) {
+    /// All that is asked of a message but its records and its plain form: the judge, also the slow
+    /// one, where the items lie, and the law of the names. Answers the library's verdict.
+    pub fn message(&mut self, name: &Name, case: &Case) -> Words {
         let library = self.quickly(name, case);
         self.slowly(name, case, library);
         self.items(name, case, library);
         self.names(name, case, library);
+        library
     }
 
     /// The slow judge: the verdict, and where each item lies.
@@ -141,12 +142,12 @@ impl Asker {
         let bytes = &case.bytes;
         let answer = self.slow.judge(bytes);
         let words = match &answer {
-            Ok((count, cents, _)) => [0, *count, *cents],
+            Ok(accepted) => [0, accepted.count, accepted.cents],
             Err((number, place)) => [u64::from(*number), *place as u64, 0],
         };
         let question = || "judge".to_string();
         self.tally.hold(name, &question, bytes, ("library", &library), ("slow", &words));
-        let Ok((_, _, items)) = answer else { return };
+        let Ok(slow::Accepted { items, .. }) = answer else { return };
         if !case.items.is_empty() {
             let question = || "where each item lies".to_string();
             self.tally.hold(name, &question, bytes, ("slow", &items), ("known", &case.items));
@@ -282,18 +283,19 @@ pub fn other_names(bytes: &[u8], random: &mut Random) -> Option<Vec<u8>> {
     (other != bytes).then_some(other)
 }
 
-/// An area to lend, with bytes before and behind it, all of a pattern that no record has.
+/// An area to lend, with bytes before and behind it, all of a pattern that no record and no message
+/// has.
 #[derive(Clone)]
-struct Area {
-    bytes: Vec<u8>,
-    before: usize,
+pub(crate) struct Area {
+    pub bytes: Vec<u8>,
+    pub before: usize,
 }
 
 impl Area {
     const BEHIND: usize = 300;
 
     /// It begins at any place of a word, by the seed.
-    fn new(length: usize, seed: u64) -> Area {
+    pub fn new(length: usize, seed: u64) -> Area {
         let before = 64 + (seed % 16) as usize;
         let bytes = (0..before + length + Area::BEHIND)
             .map(|at| (at as u8).wrapping_mul(37).wrapping_add(seed as u8) | 0x80)
@@ -302,7 +304,7 @@ impl Area {
     }
 
     /// The lent part, between the bytes that must stay.
-    fn area(&mut self) -> &mut [u8] {
+    pub fn area(&mut self) -> &mut [u8] {
         let end = self.bytes.len() - Area::BEHIND;
         &mut self.bytes[self.before..end]
     }

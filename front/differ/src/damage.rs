@@ -27,15 +27,25 @@ pub struct Case {
     /// What was done to it.
     pub damage: &'static str,
     pub known: Known,
-    /// For a message that is known to be accepted: where each item lies, and its records.
+    /// For a message that is known to be accepted: where each item lies, its records, its plain form.
     pub items: Vec<(usize, usize)>,
     pub records: Vec<u8>,
+    pub plain: Vec<u8>,
+    pub twin: Option<Twin>,
+}
+
+/// Another accepted message, from which a case was made, and whether the two are known to have the
+/// same plain form.
+pub struct Twin {
+    pub bytes: Vec<u8>,
+    pub is_same: bool,
 }
 
 impl Case {
-    /// A case of which no item and no record is known.
+    /// A case of which no item, no record and no plain form is known.
     pub fn new(bytes: Vec<u8>, damage: &'static str, known: Known) -> Case {
-        Case { bytes, damage, known, items: Vec::new(), records: Vec::new() }
+        let (items, records, plain) = (Vec::new(), Vec::new(), Vec::new());
+        Case { bytes, damage, known, items, records, plain, twin: None }
     }
 }
 
@@ -166,6 +176,8 @@ pub fn whole(message: Message) -> Case {
         known: fine(&message),
         items: message.item_places(),
         records: message.records.concat(),
+        plain: message.plain(),
+        twin: None,
     }
 }
 

@@ -1,7 +1,7 @@
 //! The library under test, asked by the kinds of these tests.
 
 use crate::kind::Kind;
-pub use face::{item, judge, records, Words, FOLDER, RECORD};
+pub use face::{item, judge, plain, records, Words, FOLDER, RECORD};
 
 /// The single checker of a kind: `0, number or cents, 0`, or `number, 0, 0`.
 pub fn check(kind: Kind, value: &[u8]) -> Words {

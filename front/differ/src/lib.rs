@@ -7,9 +7,12 @@
 //! - [`damage`]: damaged messages, with what is known of their refusal.
 //! - [`sweep`]: every byte and every part of small messages damaged; messages at the limits.
 //! - [`slips`]: every slip of an accepted message.
+//! - [`twins`]: accepted messages in pairs, which mean the same or do not.
+//! - [`spellings`]: every spelling of counts and amounts, white space at every place.
 //! - [`slow`]: a second judge, made from a table of the elements, to hold `plain` against.
 //! - [`face`]: the library under test, asked by the kinds of these tests.
-//! - [`ask`]: the questions: the judges, what is known, and the laws held against each other.
+//! - [`ask`], [`form`]: the questions: the judges, what is known, and the laws held against each
+//!   other; those about the plain form.
 //! - [`tally`]: what a run has seen; a difference, printed so that it can be run again.
 //! - [`usual`], [`bench`]: messages like those that are sent, and the stopwatch.
 
@@ -19,13 +22,16 @@ pub mod ask;
 pub mod bench;
 pub mod damage;
 pub mod face;
+pub mod form;
 pub mod handmade;
 pub mod kind;
 pub mod message;
 pub mod random;
 pub mod slips;
 pub mod slow;
+pub mod spellings;
 pub mod sweep;
 pub mod tally;
+pub mod twins;
 pub mod usual;
 pub mod value;

@@ -5,10 +5,10 @@
 
 use differ::ask::{area_lengths, verdict_words, Asker};
 use differ::bench::{bench, Machine};
-use differ::damage::{self, Case, Known};
+use differ::damage::{self, Case, Known, Twin};
 use differ::random::Random;
 use differ::tally::Name;
-use differ::{face, slips, sweep, value};
+use differ::{face, form, slips, spellings, sweep, twins, value};
 use std::process::ExitCode;
 
 const USAGE: &str = "\
@@ -19,6 +19,9 @@ differ messages N SEED        N messages, accepted and damaged: judge, items, la
 differ sweep SEED             every byte and every part of small messages damaged
 differ slips N SEED           every slip of N messages
 differ records N SEED         N messages with record areas of all sizes
+differ plain N SEED           N messages with areas of all sizes for the plain form
+differ twins N SEED           N pairs of messages, of the same plain form or not
+differ spellings SEED         every spelling of small messages: the plain form
 differ limits                 messages at the limits of length and of items
 differ large N SEED           N messages of up to 10,000 items
 differ samples FOLDER         the sample messages, and the October day with its own count
@@ -69,6 +72,7 @@ fn swept(run: &str, seed: u64) -> Option<ExitCode> {
     Some(match run {
         "value-sweep" => value_sweep(seed),
         "sweep" => message_sweep(seed),
+        "spellings" => spelled(seed),
         _ => return None,
     })
 }
@@ -80,6 +84,8 @@ fn counted(run: &str, n: u64, seed: u64) -> Option<ExitCode> {
         "messages" => messages(n, seed),
         "slips" => slipped(n, seed),
         "records" => records(n, seed),
+        "plain" => plain_forms(n, seed),
+        "twins" => twinned(n, seed),
         "large" => large(n, seed),
         _ => return None,
     })
@@ -91,11 +97,14 @@ fn all(times: u64) -> ExitCode {
     for seed in 1..=1 + times / 20 {
         runs.push(value_sweep(seed));
         runs.push(message_sweep(seed));
+        runs.push(spelled(seed));
     }
     runs.push(values(100_000 * times, 1));
     runs.push(messages(20_000 * times, 1));
     runs.push(slipped(100 * times, 1));
     runs.push(records(2_000 * times, 1));
+    runs.push(plain_forms(2_000 * times, 1));
+    runs.push(twinned(10_000 * times, 1));
     runs.push(limits());
     runs.push(large(6 * times, 1));
     let failed = runs.iter().any(|run| *run != ExitCode::SUCCESS);
@@ -122,21 +131,24 @@ fn values(n: u64, seed: u64) -> ExitCode {
     asker.tally.end()
 }
 
-/// Every question but the records is asked of one case in sixteen; of the others the judge only.
+/// Every question but the records is asked of one case in sixteen; of the others the judge only, and
+/// the plain form of those that are accepted.
 fn message_sweep(seed: u64) -> ExitCode {
     let mut asker = Asker::new(format!("sweep {seed}"));
     sweep::sweep(seed, |number, case| {
         let name = Name { run: "sweep", seed, number, sort: case.damage };
-        if number % 16 == 0 {
-            asker.message(&name, &case);
-        } else {
-            asker.quickly(&name, &case);
+        let library = match number % 16 {
+            0 => asker.message(&name, &case),
+            _ => asker.quickly(&name, &case),
+        };
+        if library[0] == 0 {
+            asker.plain(&name, &case, &[case.bytes.len() + 100]);
         }
     });
     asker.tally.end()
 }
 
-/// So many messages, accepted and damaged, each with every question but the records.
+/// So many messages, accepted and damaged, each with every question but records and plain form.
 fn messages(n: u64, seed: u64) -> ExitCode {
     let mut asker = Asker::new(format!("messages {n} {seed}"));
     for number in 0..n {
@@ -179,6 +191,50 @@ fn records(n: u64, seed: u64) -> ExitCode {
     asker.tally.end()
 }
 
+/// The areas that a case is asked with for its plain form, by its seed and number.
+fn form_areas(seed: u64, number: u64, case: &Case) -> Vec<usize> {
+    form::area_lengths(&case.bytes, &mut Random::new(seed ^ 0xF0A4, number))
+}
+
+/// So many messages, each with areas of all sizes for its plain form.
+fn plain_forms(n: u64, seed: u64) -> ExitCode {
+    let mut asker = Asker::new(format!("plain {n} {seed}"));
+    for number in 0..n {
+        let case = damage::case(seed, number);
+        let name = Name { run: "plain", seed, number, sort: case.damage };
+        asker.tally.met(face::judge(&case.bytes)[0]);
+        asker.plain(&name, &case, &form_areas(seed, number, &case));
+    }
+    asker.tally.end()
+}
+
+/// So many messages, each with another that means the same or does not.
+fn twinned(n: u64, seed: u64) -> ExitCode {
+    let mut asker = Asker::new(format!("twins {n} {seed}"));
+    for number in 0..n {
+        let case = twins::case(seed, number);
+        let name = Name { run: "twins", seed, number, sort: case.damage };
+        asker.quickly(&name, &case);
+        asker.plain(&name, &case, &[case.plain.len()]);
+    }
+    asker.tally.end()
+}
+
+/// Every spelling of small messages; the first of them with areas of every size.
+fn spelled(seed: u64) -> ExitCode {
+    let mut asker = Asker::new(format!("spellings {seed}"));
+    spellings::spellings(seed, |number, case| {
+        let name = Name { run: "spellings", seed, number, sort: case.damage };
+        asker.quickly(&name, &case);
+        let exact = case.plain.len();
+        match number {
+            0 => asker.plain(&name, &case, &(0..=exact + 3).collect::<Vec<usize>>()),
+            _ => asker.plain(&name, &case, &[exact]),
+        }
+    });
+    asker.tally.end()
+}
+
 /// Messages at the limits, with an area of just the room that the most items take.
 fn limits() -> ExitCode {
     let mut asker = Asker::new("limits".into());
@@ -189,6 +245,8 @@ fn limits() -> ExitCode {
         let lengths = [exact, exact - 1, exact + 300, 0, face::RECORD];
         let asked = if case.damage == "none" { 5 } else { 1 };
         asker.records(&name, &case, &lengths[..asked]);
+        let exact = case.plain.len();
+        asker.plain(&name, &case, &[exact.saturating_sub(1), exact, exact + 1]);
     });
     asker.tally.end()
 }
@@ -203,14 +261,16 @@ fn large(n: u64, seed: u64) -> ExitCode {
         let items = face::judge(&case.bytes)[1].min(damage::MOST_ITEMS as u64) as usize;
         let exact = face::RECORD * items;
         asker.records(&name, &case, &[exact.saturating_sub(1), exact + 1]);
+        asker.plain(&name, &case, &[case.plain.len(), case.bytes.len() / 2]);
     }
     asker.tally.end()
 }
 
 /// A sample, and what its verdict must be.
-const SAMPLES: [(&str, Known); 6] = [
+const SAMPLES: [(&str, Known); 7] = [
     ("evening.xml", Known::Accepted { count: 5, cents: 202_490 }),
     ("evening-indented.xml", Known::Accepted { count: 5, cents: 202_490 }),
+    ("evening-padded.xml", Known::Accepted { count: 5, cents: 202_490 }),
     ("october.xml", Known::Refused { number: 14, place: 252 }),
     ("doubled.xml", Known::Accepted { count: 6, cents: 286_990 }),
     ("example.xml", Known::Accepted { count: 1, cents: 1234 }),
@@ -218,14 +278,20 @@ const SAMPLES: [(&str, Known); 6] = [
 ];
 
 /// The samples. The October day: refused with 14; accepted as soon as the count is that of its
-/// items, so nothing but the count tells it.
+/// items, so nothing but the count tells it. The three evenings have one plain form, and no other
+/// sample has it.
 fn samples(folder: &str) -> ExitCode {
     let mut asker = Asker::new("samples".into());
+    let Some(evening) = read(&format!("{folder}/evening.xml")) else { return ExitCode::from(2) };
     let mut ask = |number: u64, sort: &'static str, bytes: Vec<u8>, known: Known| {
         let name = Name { run: "file", seed: 0, number, sort };
-        let case = Case::new(bytes, sort, known);
+        let is_accepted = matches!(known, Known::Accepted { .. });
+        let is_same = sort.starts_with("evening");
+        let twin = is_accepted.then(|| Twin { bytes: evening.clone(), is_same });
+        let case = Case { twin, ..Case::new(bytes, sort, known) };
         asker.message(&name, &case);
         asker.records(&name, &case, &areas(0, number, &case));
+        asker.plain(&name, &case, &form_areas(0, number, &case));
     };
     for (number, (file, known)) in SAMPLES.into_iter().enumerate() {
         let Some(bytes) = read(&format!("{folder}/{file}")) else { return ExitCode::from(2) };
@@ -260,11 +326,12 @@ fn file_asked(file: &str) -> ExitCode {
     every_question(&name, &case)
 }
 
-/// The judge, the items, the laws and the records of one case.
+/// The judge, the items, the laws, the records and the plain form of one case.
 fn every_question(name: &Name, case: &Case) -> ExitCode {
     let mut asker = Asker::new(format!("{} {} {}", name.run, name.seed, name.number));
     asker.message(name, case);
     asker.records(name, case, &areas(name.seed, name.number, case));
+    asker.plain(name, case, &form_areas(name.seed, name.number, case));
     asker.tally.end()
 }
 
@@ -302,7 +369,9 @@ fn one_message(run: &str, seed: u64, number: u64, of_message: OneMessage) -> Opt
         }
     };
     match run {
-        "messages" | "records" => message(number, damage::case(seed, number)),
+        "messages" | "records" | "plain" => message(number, damage::case(seed, number)),
+        "twins" => message(number, twins::case(seed, number)),
+        "spellings" => spellings::spellings(seed, message),
         "large" => message(number, damage::large(seed, number)),
         "sweep" => sweep::sweep(seed, message),
         "slips" => slips::slips(seed, number / slips::NUMBERS, message),

@@ -347,6 +347,24 @@ impl Message {
         concat(&self.parts)
     }
 
+    /// The plain form, made from the parts: "declaration, no white space between tags, count without
+    /// leading zeros, amounts with two decimals and no needless zeros, all other values as read".
+    pub fn plain(&self) -> Vec<u8> {
+        let mut form = DECLARATION.as_bytes().to_vec();
+        for part in &self.parts {
+            match part.what {
+                What::Declaration | What::White => {}
+                What::Value(Kind::Count) => form.extend(self.count.to_string().bytes()),
+                What::Value(Kind::HeaderAmount) => form.extend(value::euros(self.cents).bytes()),
+                What::Value(Kind::ItemAmount) => {
+                    form.extend(value::euros(value::cents_of(&part.bytes)).bytes());
+                }
+                What::Start | What::End | What::Value(_) => form.extend(&part.bytes),
+            }
+        }
+        form
+    }
+
     /// The place of a part's first byte.
     pub fn place(&self, part: usize) -> usize {
         self.parts[..part].iter().map(|part| part.bytes.len()).sum()

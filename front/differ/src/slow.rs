@@ -4,6 +4,9 @@
 
 use crate::kind::Kind;
 
+const DECLARATION: &str = "<?xml version=\"1.0\" encoding=\"UTF-8\"?>";
+const ROOT: &str = "<Document xmlns=\"urn:iso:std:iso:20022:tech:xsd:pacs.003.001.02\">";
+
 /// The paper's indented order. `?` 0 or 1, `+` 1 or more; `=` and the kind for a value.
 const TABLE: &str = "
 FIToFICstmrDrctDbt
@@ -75,6 +78,16 @@ struct Node {
     end: String,
 }
 
+impl Node {
+    /// Whether a value is its own, or that of an element below it.
+    fn has(&self, value: &Said) -> bool {
+        match self.value {
+            Some(_) => self.name == value.name,
+            None => self.children.iter().any(|child| child.has(value)),
+        }
+    }
+}
+
 /// The table as a tree.
 pub struct Slow {
     top: Vec<Node>,
@@ -128,6 +141,22 @@ fn fits(pattern: &str, byte: u8, at: usize) -> bool {
     }
 }
 
+/// What a value means: "count and amounts as numbers, others by bytes".
+#[derive(Clone, Copy, Debug, PartialEq, Eq)]
+pub enum Meaning<'m> {
+    Count(u64),
+    Cents(u64),
+    Bytes(&'m [u8]),
+}
+
+/// A value that was read: the element's name, the items that were closed before it, what it means.
+#[derive(Clone, Copy, Debug, PartialEq, Eq)]
+pub struct Said<'m> {
+    name: &'static str,
+    items: usize,
+    meaning: Meaning<'m>,
+}
+
 struct Run<'m> {
     message: &'m [u8],
     at: usize,
@@ -138,9 +167,10 @@ struct Run<'m> {
     instrument: Option<Vec<u8>>,
     /// The names of the groups that are open.
     path: Vec<&'static str>,
+    said: Vec<Said<'m>>,
 }
 
-impl Run<'_> {
+impl<'m> Run<'m> {
     /// Which of the patterns stands here; `number` where none does.
     fn choose(&mut self, patterns: &[&str], number: u8) -> Result<usize, Refusal> {
         let left = &self.message[self.at..];
@@ -252,6 +282,12 @@ impl Run<'_> {
             }
             _ => {}
         }
+        let meaning = match kind {
+            "count" => Meaning::Count(worth),
+            "item-amount" | "header-amount" => Meaning::Cents(worth),
+            _ => Meaning::Bytes(bytes),
+        };
+        self.said.push(Said { name: node.name, items: self.items.len(), meaning });
         self.at = place + length;
         self.choose(&[&node.end], 4)?;
         Ok(())
@@ -266,8 +302,13 @@ fn start_tag(name: &str, value: Option<&str>) -> String {
     }
 }
 
-/// What the slow judge answers: count, cents and the items' places.
-pub type Answer = Result<(u64, u64, Vec<(usize, usize)>), Refusal>;
+/// An accepted message: count, cents, the items' places, and all that it says in its order.
+pub struct Accepted<'m> {
+    pub count: u64,
+    pub cents: u64,
+    pub items: Vec<(usize, usize)>,
+    pub said: Vec<Said<'m>>,
+}
 
 impl Default for Slow {
     /// As [`Slow::new`].
@@ -286,7 +327,7 @@ impl Slow {
     }
 
     /// Judges a message.
-    pub fn judge(&self, message: &[u8]) -> Answer {
+    pub fn judge<'m>(&self, message: &'m [u8]) -> Result<Accepted<'m>, Refusal> {
         if message.len() > 16 << 20 {
             return Err((1, 0));
         }
@@ -299,13 +340,13 @@ impl Slow {
             sum: 0,
             instrument: None,
             path: Vec::new(),
+            said: Vec::new(),
         };
         if message.len() >= 2 && &message[..2] == b"<?" {
-            run.choose(&["<?xml version=\"1.0\" encoding=\"UTF-8\"?>"], 2)?;
+            run.choose(&[DECLARATION], 2)?;
         }
         run.white();
-        let root = "<Document xmlns=\"urn:iso:std:iso:20022:tech:xsd:pacs.003.001.02\">";
-        run.choose(&[root], 2)?;
+        run.choose(&[ROOT], 2)?;
         run.children(&self.top, "</Document>")?;
         run.white();
         if run.at < message.len() {
@@ -317,8 +358,50 @@ impl Slow {
         if u128::from(run.total.0) != run.sum {
             return Err((15, run.total.1));
         }
-        Ok((run.items.len() as u64, run.total.0, run.items))
+        let Run { total, items, said, .. } = run;
+        Ok(Accepted { count: items.len() as u64, cents: total.0, items, said })
     }
+
+    /// The plain form of a message that says this: the table written out, with these values.
+    pub fn plain(&self, said: &[Said]) -> Vec<u8> {
+        let mut form = [DECLARATION, ROOT].concat().into_bytes();
+        let mut left = said;
+        for node in &self.top {
+            write(node, &mut left, &mut form);
+        }
+        form.extend(b"</Document>");
+        form
+    }
+}
+
+/// Writes an element as often as it stands in what is said, with all that it holds. One that may be
+/// left out, or stand again, is there if the next value is one of its own.
+fn write(node: &Node, left: &mut &[Said], form: &mut Vec<u8>) {
+    let mut times = 0;
+    while times < node.least || (times < node.most && left.first().is_some_and(|v| node.has(v))) {
+        form.extend(node.start.replace("^^^", "EUR").bytes());
+        if node.value.is_some() {
+            write_next(left, form);
+        }
+        for child in &node.children {
+            write(child, left, form);
+        }
+        form.extend(node.end.bytes());
+        times += 1;
+    }
+}
+
+/// Writes the next value that is said as it is meant.
+fn write_next(left: &mut &[Said], form: &mut Vec<u8>) {
+    let Some((first, rest)) = left.split_first() else { return };
+    match first.meaning {
+        Meaning::Count(count) => form.extend(count.to_string().bytes()),
+        Meaning::Cents(cents) => {
+            form.extend(format!("{}.{:02}", cents / 100, cents % 100).bytes());
+        }
+        Meaning::Bytes(bytes) => form.extend(bytes),
+    }
+    *left = rest;
 }
 
 type Checker = fn(&[u8]) -> Result<u64, u8>;

@@ -9,6 +9,7 @@ use crate::handmade::{handmade, EXAMPLES, UNLISTED};
 use crate::kind::Kind;
 use crate::message::{accepted, concat, Message, Part, Plan, Spacing, What};
 use crate::random::Random;
+use crate::spellings;
 use crate::value::{self, WHITE};
 
 type Give<'a> = &'a mut dyn FnMut(Vec<u8>, &'static str, Known);
@@ -303,6 +304,7 @@ pub fn limits(mut each: impl FnMut(u64, Case)) {
     let most = accepted(&compact(MOST_ITEMS), &mut Random::new(1, 2));
     give(whole(most.clone()));
     most_items(&most, &mut |bytes, damage, known| give(Case::new(bytes, damage, known)));
+    spellings::limits(&mut give);
 }
 
 /// A plan for so many short items.

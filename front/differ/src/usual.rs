@@ -3,7 +3,7 @@
 
 use crate::message::{DECLARATION, ROOT};
 use crate::random::Random;
-use crate::value::{check_digits, DIGITS};
+use crate::value::{check_digits, euros, DIGITS};
 
 /// A bar stands where white space may stand.
 const ITEM: &str = "<DrctDbtTxInf>|<PmtId>|<InstrId>INSTR-2010-12-@NUMBER</InstrId>|\
@@ -29,11 +29,6 @@ const HEADER: &str = "<FIToFICstmrDrctDbt>|<GrpHdr>|<MsgId>MSG-2010-12-01</MsgId
 const NAMES: [&str; 5] =
     ["Erika Mustermann", "Max Mustermann", "J. van der Berg", "Hafenkontor Nord KG", "A. Schmidt"];
 const BICS: [&str; 4] = ["SPUEDE2UXXX", "BANKDEFFXXX", "COBADEHH", "ABNANL2AXXX"];
-
-/// Cents as an amount.
-fn euros(cents: u64) -> String {
-    format!("{}.{:02}", cents / 100, cents % 100)
-}
 
 /// One item as banks write it.
 fn item(number: usize, cents: u64, random: &mut Random) -> String {

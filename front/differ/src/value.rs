@@ -101,6 +101,27 @@ pub fn amount(cents: u64, random: &mut Random) -> Vec<u8> {
     bytes
 }
 
+/// Every way to write cents as an amount: each number of decimals that can be, each number of
+/// leading zeros.
+pub fn amounts(cents: u64) -> Vec<Vec<u8>> {
+    let (whole, fraction) = ((cents / 100).to_string(), format!("{:02}", cents % 100));
+    let mut ends = vec![format!(".{fraction}")];
+    if let Some(tens) = fraction.strip_suffix('0') {
+        ends.push(format!(".{tens}"));
+        ends.extend((tens == "0").then(String::new));
+    }
+    let mut all = Vec::new();
+    for zeros in (0..=15 - whole.len()).map(|zeros| "0".repeat(zeros)) {
+        all.extend(ends.iter().map(|end| format!("{zeros}{whole}{end}").into_bytes()));
+    }
+    all
+}
+
+/// Cents as an amount with two decimals and no needless zeros.
+pub fn euros(cents: u64) -> String {
+    format!("{}.{:02}", cents / 100, cents % 100)
+}
+
 /// The cents of an amount that is of the form. By text, to be of another make than the judges.
 pub fn cents_of(amount: &[u8]) -> u64 {
     let text = std::str::from_utf8(amount).expect("an amount is of digits and a point");

@@ -4,7 +4,7 @@ use differ::damage::{self, Known};
 use differ::kind::Kind;
 use differ::message::{Message, What};
 use differ::value::WHITE;
-use differ::{slips, sweep};
+use differ::{slips, spellings, sweep, twins};
 use std::collections::{BTreeMap, BTreeSet};
 
 /// The first messages that the gate's run of seed 1 is made from.
@@ -149,6 +149,97 @@ fn every_damage_and_every_number() {
         }
     });
     assert!(at_limits.contains(&1) && at_limits.contains(&12), "{at_limits:?}");
+}
+
+/// Each way to make a twin, with what is known of it: whether the plain form is the same.
+#[test]
+fn every_way_to_make_a_twin() {
+    let mut met = BTreeSet::new();
+    for case in (0..2_000).map(|case| twins::case(1, case)) {
+        let twin = case.twin.expect("it is made from another message");
+        met.insert((case.damage, twin.is_same));
+        assert!(twin.is_same || twin.bytes != case.bytes, "{}", case.damage);
+    }
+    assert_eq!(met, twins::ways().collect());
+}
+
+/// What is told apart by bytes alone is among the twins: a zero, a space, a branch, a sign, a case.
+#[test]
+fn twins_that_are_nearly_the_same() {
+    let mut ends = BTreeSet::new();
+    for case in (0..10_000).map(|case| twins::case(1, case)) {
+        let twin = case.twin.expect("it is made from another message");
+        if case.damage != "a value nearly the same" {
+            continue;
+        }
+        for element in ["MsgId", "CreDtTm", "Id", "Nm", "BIC"] {
+            let start = format!("<{element}>");
+            let (one, other) = (values(&twin.bytes, &start), values(&case.bytes, &start));
+            for (one, other) in one.iter().zip(&other).filter(|(one, other)| one != other) {
+                let more = other.strip_prefix(one.as_str()).unwrap_or("otherwise");
+                ends.insert(format!("{element} {more}"));
+            }
+        }
+    }
+    for due in [
+        "MsgId otherwise",
+        "CreDtTm otherwise",
+        "CreDtTm .000",
+        "Id /",
+        "Id otherwise",
+        "Nm  ",
+        "BIC XXX",
+    ] {
+        assert!(ends.contains(due), "{due}: {ends:?}");
+    }
+}
+
+/// The values behind each start tag like this one. White space, which stands behind that of a group,
+/// is none.
+fn values(message: &[u8], start: &str) -> Vec<String> {
+    let text = String::from_utf8(message.to_vec()).expect("an accepted message is ASCII");
+    let value = |piece: &str| piece.split('<').next().unwrap_or("").to_string();
+    let values = text.split(start).skip(1).map(value);
+    values.filter(|value| !value.trim().is_empty()).collect()
+}
+
+/// Amounts of none, one and two decimals and of up to 15 digits, counts of up to 15; and each of
+/// these has the one plain form of its message.
+#[test]
+fn every_spelling() {
+    let mut amounts = BTreeSet::new();
+    let mut counts = BTreeSet::new();
+    let mut forms = BTreeSet::new();
+    spellings::spellings(1, |_, case| {
+        for name in ["TtlIntrBkSttlmAmt", "IntrBkSttlmAmt"] {
+            let value = values(&case.bytes, &format!("<{name} Ccy=\"EUR\">")).remove(0);
+            let (whole, decimals) = value.split_once('.').unwrap_or((&value, ""));
+            amounts.insert((name, whole.len(), decimals.len()));
+        }
+        counts.extend(values(&case.bytes, "<NbOfTxs>"));
+        forms.insert(case.plain);
+    });
+    let each = |name| {
+        let lengths = (1..=15).flat_map(|whole| [0, 1, 2].map(|decimals| (whole, decimals)));
+        lengths.map(move |(whole, decimals)| (name, whole, decimals))
+    };
+    assert_eq!(amounts, each("TtlIntrBkSttlmAmt").chain(each("IntrBkSttlmAmt")).collect());
+    let padded = |count: &str| -> Vec<String> {
+        (count.len()..=15).map(|width| format!("{count:0>width$}")).collect()
+    };
+    assert_eq!(counts, [padded("1"), padded("12")].concat().into_iter().collect());
+    // Two messages of one item, with an amount of their own and with ten others; two of twelve items.
+    assert_eq!(forms.len(), 2 * (1 + 10) + 2);
+}
+
+/// The longest plain form that there is, and one that is as much longer than its message as can be.
+#[test]
+fn plain_forms_at_the_limits() {
+    let mut lengths = Vec::new();
+    spellings::limits(&mut |case| lengths.push((case.bytes.len(), case.plain.len())));
+    let (longest, growing) = (lengths[0], lengths[1]);
+    assert_eq!(longest, (13_460_514 - 38, 13_460_514));
+    assert_eq!(growing.1 - growing.0, 38 + 3 * 10_001);
 }
 
 /// The same seed gives the same case, and every slip is known to be refused.

@@ -53,6 +53,13 @@ extern "C" {
         area_length: usize,
         answer: *mut u64,
     );
+    fn bulk_plain(
+        message: *const u8,
+        length: usize,
+        area: *mut u8,
+        area_length: usize,
+        answer: *mut u64,
+    );
 }
 
 /// What the three words hold before the call, and the guard words beside them before and after it.
@@ -122,6 +129,14 @@ pub fn records(message: &[u8], area: &mut [u8]) -> Words {
     answered(|answer| unsafe {
         bulk_records(message.as_ptr(), message.len(), lent, length, answer)
     })
+}
+
+/// The plain form: `0, length, 0` and the form at the area's start, or `number, place, 0` and the
+/// area as lent. Bytes behind the form are as lent.
+pub fn plain(message: &[u8], area: &mut [u8]) -> Words {
+    let (lent, length) = (area.as_mut_ptr(), area.len());
+    // SAFETY: the message is lent for the call, the area mutably so, the answer is three words.
+    answered(|answer| unsafe { bulk_plain(message.as_ptr(), message.len(), lent, length, answer) })
 }
 
 #[cfg(test)]

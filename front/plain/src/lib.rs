@@ -1,4 +1,4 @@
-//! A plain judge of one SEPA interbank collection message (pacs.003.001.02), by document 01.
+//! A plain judge of one SEPA interbank collection message (pacs.003.001.02), by documents 01 and 02.
 //!
 //! The message lies in lent bytes and is read once, left to right; the first fault met ends the
 //! reading. Nothing is allocated.
@@ -6,6 +6,7 @@
 #![forbid(unsafe_code)]
 #![warn(missing_docs)]
 
+mod form;
 mod message;
 mod record;
 mod value;
@@ -15,7 +16,7 @@ pub use value::{
     time,
 };
 
-use message::{read, Refusal};
+use message::{read, Refusal, LONGEST};
 use value::number;
 
 /// What the judge answers.
@@ -70,6 +71,28 @@ pub fn records(message: &[u8], area: &mut [u8]) -> Verdict {
     verdict(read::<true>(message, |at, item| {
         record::write(&mut area[record::LENGTH * at..][..record::LENGTH], item);
     }))
+}
+
+/// Judges a message, writes its plain form to the area's start and answers its length. "Bytes after
+/// it stay. Refusals, area unchanged: the judge's own; then 1, place 0, when the plain form would pass
+/// 16,777,216 bytes; then 17 when it is longer than the lent area", at place 0 too.
+pub fn plain_form(message: &[u8], area: &mut [u8]) -> Result<usize, (u8, usize)> {
+    read::<false>(message, |_, _| {})?;
+    let mut length = 0;
+    form::write(message, |part| length += part.len());
+    // No plain form is that long: 10,000 items of at most 1,346 bytes and 514 around them.
+    if length > LONGEST {
+        return Err((number::TOO_LONG, 0));
+    }
+    if length > area.len() {
+        return Err((number::AREA_TOO_SMALL, 0));
+    }
+    let mut at = 0;
+    form::write(message, |part| {
+        area[at..at + part.len()].copy_from_slice(part);
+        at += part.len();
+    });
+    Ok(length)
 }
 
 /// What was read, as a verdict.

@@ -9,11 +9,11 @@ use crate::value::{
 pub type Refusal = (u8, usize);
 
 /// "1: over 16,777,216 bytes"
-const LONGEST: usize = 16_777_216;
+pub const LONGEST: usize = 16_777_216;
 /// "12: item 10,001 begins"
 const MOST_ITEMS: usize = 10_000;
 
-const DECLARATION: &[u8; 38] = br#"<?xml version="1.0" encoding="UTF-8"?>"#;
+pub const DECLARATION: &[u8; 38] = br#"<?xml version="1.0" encoding="UTF-8"?>"#;
 const ROOT: &[u8; 65] = br#"<Document xmlns="urn:iso:std:iso:20022:tech:xsd:pacs.003.001.02">"#;
 const ITEM: &[u8; 14] = b"<DrctDbtTxInf>";
 const ITEM_END: &[u8; 15] = b"</DrctDbtTxInf>";

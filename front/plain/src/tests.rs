@@ -595,3 +595,158 @@ fn limits() {
     assert_eq!(refused(&format!("{most} <DrctDbtTxInf/>")), (4, most.len() + 1));
     assert_eq!(refused(&format!("{most} <DrctDbtTxInf>x")), (12, most.len() + 1));
 }
+
+/// The plain form of a message, by an area with bytes behind it, which stay.
+fn plain(message: &str) -> Result<String, (u8, usize)> {
+    let mut area = vec![0xAA; message.len() + 200];
+    let length = plain_form(message.as_bytes(), &mut area)?;
+    assert!(area[length..].iter().all(|&byte| byte == 0xAA), "{message}");
+    Ok(String::from_utf8(area[..length].to_vec()).expect("a plain form is ASCII"))
+}
+
+/// The example's: only the declaration is missing in it.
+fn plain_example() -> String {
+    format!("{DECLARATION}{EXAMPLE}")
+}
+
+#[test]
+fn plain_form_of_the_example() {
+    assert_eq!(plain(EXAMPLE), Ok(plain_example()));
+    assert_eq!(plain(&plain_example()), Ok(plain_example()));
+    let spaced = EXAMPLE.replace("><", "> \t\r\n<");
+    for message in [
+        format!("{DECLARATION}\n{spaced}"),
+        format!("{DECLARATION}{EXAMPLE}\r\n"),
+        format!(" \n{spaced}\t"),
+        spaced,
+    ] {
+        assert_eq!(plain(&message), Ok(plain_example()), "{message}");
+    }
+}
+
+#[test]
+fn plain_counts_and_amounts() {
+    for (spelled, due) in [
+        ("0.01", "0.01"),
+        ("000000000000000.01", "0.01"),
+        ("0.1", "0.10"),
+        ("00.10", "0.10"),
+        ("5", "5.00"),
+        ("5.3", "5.30"),
+        ("0005.00", "5.00"),
+        ("100", "100.00"),
+        ("1000.0", "1000.00"),
+        ("000000999999999.99", "999999999.99"),
+        ("999999999", "999999999.00"),
+    ] {
+        for count in ["1", "01", "000000000000001"] {
+            let message = whole(count, spelled, &[one_item(spelled, "CORE")]);
+            let due = format!("{DECLARATION}{}", whole("1", due, &[one_item(due, "CORE")]));
+            assert_eq!(plain(&message), Ok(due), "{spelled}");
+        }
+    }
+    let ten = vec![one_item("10", "B2B"); 10];
+    let due = vec![one_item("10.00", "B2B"); 10];
+    let due = format!("{DECLARATION}{}", whole("10", "100.00", &due));
+    assert_eq!(plain(&whole("0010", "0100", &ten)), Ok(due));
+}
+
+/// "all other values as read": zeros and points in them, spaces in a text, the case of letters.
+#[test]
+fn other_values_stay_as_read() {
+    for (old, new) in [
+        ("MSG/1", "0001.0"),
+        ("<TxId>T1<", "<TxId>007<"),
+        ("<EndToEndId>E1<", "<EndToEndId>00.10<"),
+        ("<MndtId>M1<", "<MndtId>5.3<"),
+        ("<InstrId>I1<", "<InstrId>05<"),
+        ("Invoice 1", "000  1.0  "),
+        ("DE98ZZZ09999999999", "DE98zzz/09999999999"),
+    ] {
+        let message = EXAMPLE.replacen(old, new, 1);
+        let form = plain_example().replacen(old, new, 1);
+        assert_ne!(form, plain_example(), "{old}");
+        assert_eq!(plain(&message.replace("><", ">\n<")), Ok(form), "{new}");
+    }
+}
+
+#[test]
+fn plain_form_areas() {
+    let form = plain_example();
+    for length in [0, 1, 38, form.len() - 1] {
+        let mut area = vec![7; length];
+        assert_eq!(plain_form(EXAMPLE.as_bytes(), &mut area), Err((17, 0)), "{length}");
+        assert_eq!(area, vec![7; length]);
+    }
+    for more in [0, 1, 300] {
+        let mut area = vec![7; form.len() + more];
+        assert_eq!(plain_form(EXAMPLE.as_bytes(), &mut area), Ok(form.len()));
+        assert_eq!(area, [form.as_bytes(), &vec![7; more]].concat());
+    }
+}
+
+/// The judge's own refusal comes first, and the area stays.
+#[test]
+fn no_plain_form_of_a_refused_message() {
+    for message in [
+        String::new(),
+        EXAMPLE.replacen("</Document>", "</Document", 1),
+        EXAMPLE.replacen("<NbOfTxs>1<", "<NbOfTxs>2<", 1),
+        EXAMPLE.replacen(">12.34</Ttl", ">12.33</Ttl", 1),
+        EXAMPLE.replacen("DE21500500009876543210", "DE21500500009876543211", 1),
+    ] {
+        for length in [0, 2000] {
+            let mut area = vec![7; length];
+            let refusal = plain_form(message.as_bytes(), &mut area);
+            assert_eq!(refusal, Err(refused(&message)), "{message}");
+            assert_eq!(area, vec![7; length]);
+        }
+    }
+    let too_long = vec![b' '; LONGEST + 1];
+    assert_eq!(plain_form(&too_long, &mut []), Err((1, 0)));
+}
+
+/// The longest plain form: 10,000 items, each value as long as it can be. It is under the limit of 1.
+#[test]
+fn the_longest_plain_form() {
+    let mut header = header("10000", "9999999999900.00");
+    let mut item = one_item("999999999.99", "CORE");
+    for (name, value) in [
+        ("MsgId", "A".repeat(35)),
+        ("CreDtTm", "2010-12-01T09:30:00.000+01:00".into()),
+        ("BIC", "BANKDEFFXXX".into()),
+    ] {
+        header = with_value(&header, name, &value);
+    }
+    for (name, value) in [
+        ("InstrId", "A".repeat(35)),
+        ("EndToEndId", "A".repeat(35)),
+        ("TxId", "A".repeat(35)),
+        ("MndtId", "A".repeat(35)),
+        ("Othr><Id", format!("DE98ZZZ09999999999{}", "+".repeat(17))),
+        ("Nm", "A".repeat(70)),
+        ("IBAN", "MT84MALT011000012345MTLCAST001S".into()),
+        ("BIC", "BANKDEFFXXX".into()),
+        ("Ustrd", "A".repeat(140)),
+    ] {
+        item = with_value(&item, name, &value);
+    }
+    assert_eq!((header.len() - "<FIToFICstmrDrctDbt>".len(), item.len()), (359, 1_346));
+    let longest = format!("{ROOT}{header}{}{CLOSE}", item.repeat(10_000));
+    let form = plain(&longest).expect("it is accepted");
+    assert_eq!(form, format!("{DECLARATION}{longest}"));
+    assert_eq!(form.len(), 13_460_514);
+    assert!(form.len() <= LONGEST);
+}
+
+/// A part of a message with this value for each element of the name.
+fn with_value(part: &str, name: &str, value: &str) -> String {
+    let start = format!("<{name}>");
+    let mut pieces = part.split(&start);
+    let mut text = pieces.next().expect("there is a first piece").to_string();
+    for piece in pieces {
+        text += &format!("{start}{value}{}", &piece[place_of(piece, "<")..]);
+    }
+    assert!(text.contains(value), "{name}");
+    text
+}

@@ -5,7 +5,7 @@
 
 /// The refusal numbers of the paper's table. "Number 5 is not used."
 pub mod number {
-    /// over 16,777,216 bytes
+    /// over 16,777,216 bytes, the message or its plain form
     pub const TOO_LONG: u8 = 1;
     /// starts `<?` but not the declaration, or root tag wrong
     pub const ROOT: u8 = 2;
@@ -35,7 +35,7 @@ pub mod number {
     pub const TOTAL: u8 = 15;
     /// bytes after `</Document>` and white space
     pub const AFTER: u8 = 16;
-    /// record area under 256 times the count
+    /// record area under 256 times the count, or a plain form longer than its area
     pub const AREA_TOO_SMALL: u8 = 17;
     /// asked for an item not there
     pub const NO_SUCH_ITEM: u8 = 18;
