@@ -6,7 +6,7 @@ use Rattle.answers.specs.Given.{Given}
 use Rattle.reading.specs.Verdict.{Judged, Located}
 use Rattle.postings.specs.Area.{recorded}
 use Rattle.forms.specs.Written.{Outcome}
-use Rattle.forms.proofs.Once.{one-outcome}
+use Rattle.forms.proofs.Once.{one-written}
 use Rattle.bulk.specs.Told.{told, toldVerdict, toldExtent, toldWritten, PlainTold}
 
 module _ (x y : List ℕ) where
@@ -25,5 +25,5 @@ module _ (x y : List ℕ) where
 
   pub one-told-plain : (m a b c : List ℕ) → PlainTold m a x b → PlainTold m a y c → (x ≡ y) × (b ≡ c)
   one-told-plain m a b c k l =
-      let e = one-outcome m a (record { answer = k .answer; area = b }) (record { answer = l .answer; area = c }) (k .wrote) (l .wrote) in
+      let e = one-written m a (record { answer = k .answer; area = b }) (record { answer = l .answer; area = c }) (k .wrote) (l .wrote) in
       (k .told ∙ ap (λ (o : Outcome). toldWritten (o .answer)) e ∙ sym (l .told), ap (λ (o : Outcome). o .area) e)

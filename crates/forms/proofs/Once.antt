@@ -16,12 +16,12 @@ module _ (m a : List ℕ) where
       let z : judge.accepted (k .count) (k .cents) ≡ judge.refused n p = sym (form-accepted m f k .0) ∙ e in
       never (cc)
 
-  pub one-outcome : (o q : Outcome) → Wrote m a o → Wrote m a q → o ≡ q
-  one-outcome o q (asJudged n p e g) (asJudged i j d h) =
+  pub one-written : (o q : Outcome) → Wrote m a o → Wrote m a q → o ≡ q
+  one-written o q (asJudged n p e g) (asJudged i j d h) =
       let z : judge.refused n p ≡ judge.refused i j = sym e ∙ d in
       let x : n ≡ i = cc in
       let y : p ≡ j = cc in
       g ∙ rw (x, y) (sym h)
-  one-outcome o q (asJudged n p e g) (inForm f k h) = not-both f k n p e
-  one-outcome o q (inForm f k h) (asJudged n p e g) = not-both f k n p e
-  one-outcome o q (inForm f k g) (inForm b l h) = g ∙ ap (λ (x : List ℕ). placed x a) (one-form m f b k l) ∙ sym h
+  one-written o q (asJudged n p e g) (inForm f k h) = not-both f k n p e
+  one-written o q (inForm f k h) (asJudged n p e g) = not-both f k n p e
+  one-written o q (inForm f k g) (inForm b l h) = g ∙ ap (λ (x : List ℕ). placed x a) (one-form m f b k l) ∙ sym h
