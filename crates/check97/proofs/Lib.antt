@@ -1,4 +1,5 @@
 pub mod Spelled
 pub mod Modulo
+pub mod Groups
 pub mod Told
 pub mod Turned

@@ -25,14 +25,16 @@ cancel (suc k) a b e = cancel k a b (cancel-ten (a * 10 ^ k) (b * 10 ^ k) (simp 
 pub same-before : (m n : ℕ) (s : List ℕ) → followedBy m s % 97 ≡ followedBy n s % 97 → m % 97 ≡ n % 97
 same-before m n s e = cancel (length s) m n (omega (arith, linear m s, linear n s))
 
--- what is written behind depends on the remainder only
+-- What is written behind depends on the remainder only: that of a number continued by a group is that of its remainder continued by the group.
+-- Once over the group's length: p is ten to that power, and v what the group writes.
 scaled : (m n p : ℕ) → m % 97 ≡ n % 97 → m * p + 97 * (n / 97 * p) ≡ n * p + 97 * (m / 97 * p)
 scaled m n p e = omega (arith, ap (λ (k : ℕ). k * p) (div-add-mod' m 97), ap (λ (k : ℕ). k * p) (div-add-mod' n 97), ap (λ (k : ℕ). k * p) e)
 
+pub continued : (m n p v : ℕ) → m % 97 ≡ n % 97 → (m * p + v) % 97 ≡ (n * p + v) % 97
+continued m n p v e = mod-by (n / 97 * p) (m / 97 * p) (m * p + v) (n * p + v) (omega (arith, scaled m n p e))
+
 pub same-behind : (m n : ℕ) (s : List ℕ) → m % 97 ≡ n % 97 → followedBy m s % 97 ≡ followedBy n s % 97
-same-behind m n s e =
-    mod-by (n / 97 * 10 ^ length s) (m / 97 * 10 ^ length s) (followedBy m s) (followedBy n s)
-    (omega (arith, linear m s, linear n s, scaled m n (10 ^ length s) e))
+same-behind m n s e = rw (linear m s, linear n s) (continued m n (10 ^ length s) (followedBy 0 s) e)
 
 -- what two numbers of one remainder differ by leaves the same
 pub differ : (a b q d : ℕ) → a % 97 ≡ b % 97 → b + d ≡ a + q → q % 97 ≡ d % 97
@@ -40,8 +42,12 @@ differ a b q d e f = mod-by (a / 97) (b / 97) q d (omega arith)
 
 -- ---- how a loop reads it
 module _ (n : ℕ) (s : List ℕ) (i : ℕ) where
-  pub spelled-next : i < length s → followedBy n (spelled (drop i s)) ≡ followedBy (followedBy n (spell (getD s i 0))) (spelled (drop (i + 1) s))
-  spelled-next h = rw (next s i h) (followed-append n (spell (getD s i 0)) (spelled (drop (i + 1) s)))
+  -- m leaves what n leaves with one character behind it
+  pub spelled-next : (m : ℕ) → i < length s → m % 97 ≡ followedBy n (spell (getD s i 0)) % 97
+      → followedBy m (spelled (drop (i + 1) s)) % 97 ≡ followedBy n (spelled (drop i s)) % 97
+  spelled-next m h e =
+      rw (next s i h, followed-append n (spell (getD s i 0)) (spelled (drop (i + 1) s)))
+      (same-behind m (followedBy n (spell (getD s i 0))) (spelled (drop (i + 1) s)) e)
 
-  pub spelled-end : length s ≤ i → followedBy n (spelled (drop i s)) ≡ n
+  pub spelled-end : length s ≤ i → n % 97 ≡ followedBy n (spelled (drop i s)) % 97
   spelled-end h = rw drop-of-length-le

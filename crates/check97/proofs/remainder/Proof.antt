@@ -1,23 +1,25 @@
 -- `check97::remainder` meets its contract.
 use borrow.Author.Needs.{needs}
 use native.Mathlib.Omega.{arith}
-use mathlib.Core.Path.{_≡_, _∙_, sym, ap}
-use Prim.Native.Nat.{ℕ, _≤_, _<_, _+_, _-_, _%_}
-use lib.ListN.{length, drop, getD}
+use mathlib.Core.Path.{_≡_, _∙_}
+use Prim.Native.Nat.{_≤_, _-_, _%_}
+use lib.ListN.{length, drop}
 use Rattle.text.specs.Quoted.{followedBy}
-use Rattle.check97.specs.Check.{spell, spelled}
-use Rattle.check97.proofs.Modulo.{same-behind, spelled-next, spelled-end}
+use Rattle.check97.specs.Check.{spelled}
+use Rattle.check97.specs.Group.{whole, Fits}
+use Rattle.check97.proofs.Modulo.{spelled-next, spelled-end}
+use Rattle.check97.proofs.Groups.{first-fits, first-whole}
 use Rattle.check97.proofs.remainder.Statement.{statement}
 use Rattle.check97.proofs.remainder.Tie as tie
 
 abbrev Inv-loop : tie.InvT-loop
-Inv-loop r s t₀ i₀ t i = (i ≤ length s) × (t < 97) × (followedBy t (spelled (drop i s)) % 97 ≡ followedBy r (spelled s) % 97)
+Inv-loop r s g₀ i₀ g i = (i ≤ length s) × Fits g × (followedBy (whole g) (spelled (drop i s)) % 97 ≡ followedBy r (spelled s) % 97)
 
 abbrev μ-loop : tie.MeasureT-loop
-μ-loop r s t₀ i₀ t i = length s - i
+μ-loop r s g₀ i₀ g i = length s - i
 
 loop-holds : tie.Need-loop-holds Inv-loop μ-loop
-loop-holds c = search needs
+loop-holds c = (omega arith, first-fits (c .before .args .r) (c .before .pre), first-whole (c .before .args .r) (spelled (c .before .args .s .now)))
 
 shared-slice-read-step : tie.Need-shared-slice-read-step Inv-loop μ-loop
 shared-slice-read-step c = search needs
@@ -36,10 +38,16 @@ loop-again c =
     let l = c .before .before .before .loop in
     let s = c .before .before .before .before .before .args .s .now in
     let e = c .step .ensures in
-    (omega arith, omega arith, same-behind (c .step .result) (followedBy (l .t) (spell (getD s (l .i) 0))) (spelled (drop (l .i + 1) s)) (omega arith) ∙ ap (λ (k : ℕ). k % 97) (sym (spelled-next (l .t) s (l .i) (omega arith))) ∙ l .inv .2)
+    (omega arith, e .0, spelled-next (whole (l .g)) s (l .i) (whole (c .step .result)) (omega arith) (e .1) ∙ l .inv .2)
+
+taken-requires : tie.Need-taken-requires Inv-loop μ-loop
+taken-requires c κs = search needs
 
 returns : tie.Need-returns Inv-loop μ-loop
-returns c = omega (arith, spelled-end (c .before .loop .t) (c .before .before .before .args .s .now) (c .before .loop .i) (omega arith))
+returns c =
+    let l = c .before .before .loop in
+    let s = c .before .before .before .before .args .s .now in
+    c .taken .ensures ∙ spelled-end (whole (l .g)) s (l .i) (omega arith) ∙ l .inv .2
 
 pub remainder-spec : {M : Type 1} → statement M
 remainder-spec =
@@ -53,4 +61,5 @@ remainder-spec =
     add-i
     loop-less
     loop-again
+    taken-requires
     returns)

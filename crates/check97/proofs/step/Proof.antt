@@ -1,106 +1,108 @@
 -- `check97::step` meets its contract.
 use native.Mathlib.Omega.{arith}
-use mathlib.Core.Path.{ap, sym}
-use Prim.Native.Nat.{ℕ, _%_}
-use Rattle.text.specs.Classes.{inClass}
+use mathlib.Core.Path.{_≡_, _∙_, refl}
+use mathlib.Core.Bool.{true, false}
+use Rattle.text.specs.Classes.{digit, capital, small}
 use Rattle.text.proofs.Truths.{yes-of, no-of}
-use Rattle.text.proofs.Digits.{digit-bounds, capital-bounds, small-bounds}
+use Rattle.text.proofs.Digits.{digit-range, capital-range, small-range, digit-bounds, capital-bounds, small-bounds}
+use Rattle.check97.specs.Group.{whole}
 use Rattle.check97.proofs.Spelled.{onto-digit, onto-capital, onto-small, onto-none}
 use borrow.Author.Needs.{needs}
 use Rattle.check97.proofs.step.Statement.{statement}
 use Rattle.check97.proofs.step.Tie as tie
 
-is-in-requires : tie.Need-is-in-requires
-is-in-requires c κs = search needs
+-- what each test tells
+is-digit : (c : tie.Then1) → digit (c .before .before .args .c) ≡ true
+is-digit c = digit-range (c .before .before .args .c) ∙ yes-of (c .before .is-between .ensures) (c .if1 .taken)
 
-mul-result : tie.Need-mul-result
-mul-result c = search needs
+no-digit : (c : tie.Else1) → digit (c .before .before .args .c) ≡ false
+no-digit c = digit-range (c .before .before .args .c) ∙ no-of (c .before .is-between .ensures) (c .if1 .left)
 
-sub-result : tie.Need-sub-result
-unfolding inClass
-sub-result c = omega (arith, digit-bounds (c .before .before .args .c) (yes-of (c .before .is-in .ensures) (c .if1 .taken)))
+is-capital : (c : tie.Then2) → capital (c .before .before .before .before .args .c) ≡ true
+is-capital c = capital-range (c .before .before .before .before .args .c) ∙ yes-of (c .before .is-between2 .ensures) (c .if2 .taken)
 
-cast-result : tie.Need-cast-result
-cast-result c = search needs
+no-capital : (c : tie.Else2) → capital (c .before .before .before .before .args .c) ≡ false
+no-capital c = capital-range (c .before .before .before .before .args .c) ∙ no-of (c .before .is-between2 .ensures) (c .if2 .left)
 
-add-result : tie.Need-add-result
-add-result c = search needs
+is-small : (c : tie.Then3) → small (c .before .before .before .before .before .before .args .c) ≡ true
+is-small c = small-range (c .before .before .before .before .before .before .args .c) ∙ yes-of (c .before .is-between3 .ensures) (c .if3 .taken)
+
+no-small : (c : tie.Else3) → small (c .before .before .before .before .before .before .args .c) ≡ false
+no-small c = small-range (c .before .before .before .before .before .before .args .c) ∙ no-of (c .before .is-between3 .ensures) (c .if3 .left)
+
+is-between-requires : tie.Need-is-between-requires
+is-between-requires c κs = search needs
+
+sub-joined : tie.Need-sub-joined
+sub-joined c = omega (arith, digit-bounds (c .before .before .args .c) (is-digit c))
+
+cast-joined : tie.Need-cast-joined
+cast-joined c = search needs
+
+joined-requires : tie.Need-joined-requires
+joined-requires c κs = (c .before .before .pre, omega arith, omega (arith, digit-bounds (c .before .before .args .c) (is-digit c)))
 
 returns : tie.Need-returns
-unfolding inClass
-returns c = ap (λ (k : ℕ). k % 97) (sym (onto-digit _ _ (yes-of (c .before .is-in .ensures) (c .if1 .taken))))
+returns c =
+    let a = c .before .before .before .args in
+    rw (onto-digit (whole (a .g)) (a .c) (is-digit (c .before))) (c .joined .ensures)
 
-is-in-requires-2 : tie.Need-is-in-requires-2
-is-in-requires-2 c κs = search needs
+is-between-requires-2 : tie.Need-is-between-requires-2
+is-between-requires-2 c κs = search needs
 
-mul-result-2 : tie.Need-mul-result-2
-mul-result-2 c = search needs
+sub-joined-2 : tie.Need-sub-joined-2
+sub-joined-2 c = omega (arith, capital-bounds (c .before .before .before .before .args .c) (is-capital c))
 
-sub-result-2 : tie.Need-sub-result-2
-unfolding inClass
-sub-result-2 c = omega (arith, capital-bounds (c .before .before .before .before .args .c) (yes-of (c .before .is-in2 .ensures) (c .if2 .taken)))
+cast-joined-2 : tie.Need-cast-joined-2
+cast-joined-2 c = search needs
 
-cast-result-2 : tie.Need-cast-result-2
-cast-result-2 c = search needs
-
-add-result-2 : tie.Need-add-result-2
-add-result-2 c = search needs
+joined-requires-2 : tie.Need-joined-requires-2
+joined-requires-2 c κs = (c .before .before .before .before .pre, omega arith, omega (arith, capital-bounds (c .before .before .before .before .args .c) (is-capital c)))
 
 returns-2 : tie.Need-returns-2
-unfolding inClass
 returns-2 c =
-    ap (λ (k : ℕ). k % 97)
-    (sym (onto-capital _ _ (no-of (c .before .before .before .is-in .ensures) (c .before .before .if1 .left)) (yes-of (c .before .is-in2 .ensures) (c .if2 .taken))))
+    let a = c .before .before .before .before .before .args in
+    rw (onto-capital (whole (a .g)) (a .c) (no-digit (c .before .before .before)) (is-capital (c .before))) (c .joined2 .ensures)
 
-is-in-requires-3 : tie.Need-is-in-requires-3
-is-in-requires-3 c κs = search needs
+is-between-requires-3 : tie.Need-is-between-requires-3
+is-between-requires-3 c κs = search needs
 
-mul-result-3 : tie.Need-mul-result-3
-mul-result-3 c = search needs
+sub-joined-3 : tie.Need-sub-joined-3
+sub-joined-3 c = omega (arith, small-bounds (c .before .before .before .before .before .before .args .c) (is-small c))
 
-sub-result-3 : tie.Need-sub-result-3
-unfolding inClass
-sub-result-3 c = omega (arith, small-bounds (c .before .before .before .before .before .before .args .c) (yes-of (c .before .is-in3 .ensures) (c .if3 .taken)))
+cast-joined-3 : tie.Need-cast-joined-3
+cast-joined-3 c = search needs
 
-cast-result-3 : tie.Need-cast-result-3
-cast-result-3 c = search needs
-
-add-result-3 : tie.Need-add-result-3
-add-result-3 c = search needs
+joined-requires-3 : tie.Need-joined-requires-3
+joined-requires-3 c κs = (c .before .before .before .before .before .before .pre, omega arith, omega (arith, small-bounds (c .before .before .before .before .before .before .args .c) (is-small c)))
 
 returns-3 : tie.Need-returns-3
-unfolding inClass
 returns-3 c =
-    ap (λ (k : ℕ). k % 97)
-    (sym (onto-small _ _ (no-of (c .before .before .before .before .before .is-in .ensures) (c .before .before .before .before .if1 .left)) (no-of (c .before .before .before .is-in2 .ensures) (c .before .before .if2 .left)) (yes-of (c .before .is-in3 .ensures) (c .if3 .taken))))
+    let a = c .before .before .before .before .before .before .before .args in
+    rw (onto-small (whole (a .g)) (a .c) (no-digit (c .before .before .before .before .before)) (no-capital (c .before .before .before)) (is-small (c .before))) (c .joined3 .ensures)
 
 returns-4 : tie.Need-returns-4
-unfolding inClass
 returns-4 c =
     let a = c .before .before .before .before .before .before .args in
-    omega
-    (arith, onto-none (a .r) (a .c) (no-of (c .before .before .before .before .before .is-in .ensures) (c .before .before .before .before .if1 .left)) (no-of (c .before .before .before .is-in2 .ensures) (c .before .before .if2 .left)) (no-of (c .before .is-in3 .ensures) (c .if3 .left)))
+    rw (onto-none (whole (a .g)) (a .c) (no-digit (c .before .before .before .before)) (no-capital (c .before .before)) (no-small c)) (c .before .before .before .before .before .before .pre, refl)
 
 pub step-spec : {M : Type 1} → statement M
 step-spec =
     tie.close
     (tie.spec
-    is-in-requires
-    mul-result
-    sub-result
-    cast-result
-    add-result
+    is-between-requires
+    sub-joined
+    cast-joined
+    joined-requires
     returns
-    is-in-requires-2
-    mul-result-2
-    sub-result-2
-    cast-result-2
-    add-result-2
+    is-between-requires-2
+    sub-joined-2
+    cast-joined-2
+    joined-requires-2
     returns-2
-    is-in-requires-3
-    mul-result-3
-    sub-result-3
-    cast-result-3
-    add-result-3
+    is-between-requires-3
+    sub-joined-3
+    cast-joined-3
+    joined-requires-3
     returns-3
     returns-4)
