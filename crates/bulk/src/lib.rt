@@ -9,6 +9,7 @@ use words::Field;
 ghost use mathlib.Core.Path.{_≡_};
 ghost use Rattle.answers.specs.Given.{given};
 ghost use Rattle.words.specs.Reference.{referenceGiven};
+ghost use Rattle.words.specs.EndToEnd.{endToEndGiven};
 ghost use Rattle.words.specs.Text.{textGiven};
 ghost use Rattle.calendar.specs.Date.{dateGiven};
 ghost use Rattle.calendar.specs.Time.{timeGiven};
@@ -152,6 +153,14 @@ pub extern "C" fn bulk_reference(value: &[u8], answer: &mut [u64; 3])
     ensures { λ _. ⌜ now (answer .exit) ≡ told (referenceGiven (now (value .entry))) ⌝ }
 {
     tell(words::reference(value), answer);
+}
+
+// An EndToEndId: 0, or 7.
+#[no_mangle]
+pub extern "C" fn bulk_end_to_end(value: &[u8], answer: &mut [u64; 3])
+    ensures { λ _. ⌜ now (answer .exit) ≡ told (endToEndGiven (now (value .entry))) ⌝ }
+{
+    tell(words::end_to_end(value), answer);
 }
 
 // A text of at most 70.

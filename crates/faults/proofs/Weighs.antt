@@ -12,6 +12,8 @@ use Rattle.text.proofs.Truths.{both-true}
 use Rattle.answers.specs.Given.{Given, yes, worth, refused, Rule, inOrder, _else_}
 use Rattle.words.specs.declared.Field.the-variants.{Nm, Ustrd}
 use Rattle.words.specs.Reference.{referenceForm, referenceGiven}
+use Rattle.words.specs.Collapsed.{collapsed}
+use Rattle.words.specs.EndToEnd.{endToEndForm, endToEndGiven}
 use Rattle.words.specs.Text.{textForm, textGiven}
 use Rattle.codes.specs.Listed.{codesOf, orElse, place, codeGiven}
 use Rattle.calendar.specs.Date.{dateForm, dateGiven}
@@ -27,7 +29,7 @@ use Rattle.accounts.specs.Identifier.{identifierForm, identifierGiven}
 use Rattle.profile.specs.declared.Kind.{Kind}
 use Rattle.profile.specs.declared.Kind.the-variants.{Plain, Count, Total, Amount, Code}
 use Rattle.profile.specs.declared.Simple.{Simple}
-use Rattle.profile.specs.declared.Simple.the-variants.{Reference, Text70, Text140, Date, Time, Bic, Iban, Identifier}
+use Rattle.profile.specs.declared.Simple.the-variants.{Reference, EndToEnd, Text70, Text140, Date, Time, Bic, Iban, Identifier}
 use Rattle.kinds.specs.Given.{simpleGiven, kindGiven}
 use Rattle.reading.specs.Trace.{What, itemBegins, itemEnds, there, absent, value}
 use Rattle.reading.specs.Rules.{rules, ownKind, fitting, weighed}
@@ -57,10 +59,11 @@ in-order (r ∷ l) g e h =
 
 -- ---- by the kinds
 simple-said : (s : Simple) (v : List ℕ) → Said (simpleGiven s v)
-unfolding simpleGiven referenceGiven textGiven dateGiven timeGiven bicGiven ibanGiven identifierGiven
+unfolding simpleGiven referenceGiven endToEndGiven textGiven dateGiven timeGiven bicGiven ibanGiven identifierGiven
 simple-said Reference v = in-order (referenceForm v else 7 ∷ []) yes refl tt
-simple-said Text70 v = in-order (textForm Nm v else 7 ∷ []) yes refl tt
-simple-said Text140 v = in-order (textForm Ustrd v else 7 ∷ []) yes refl tt
+simple-said EndToEnd v = in-order (endToEndForm (collapsed v) else 7 ∷ []) yes refl tt
+simple-said Text70 v = in-order (textForm Nm (collapsed v) else 7 ∷ []) yes refl tt
+simple-said Text140 v = in-order (textForm Ustrd (collapsed v) else 7 ∷ []) yes refl tt
 simple-said Date v = in-order (dateForm v else 7 ∷ []) yes refl tt
 simple-said Time v = in-order (timeForm v else 7 ∷ []) yes refl tt
 simple-said Bic v = in-order (bicForm v else 7 ∷ []) yes refl tt

@@ -57,7 +57,7 @@ each g [] = []
 each g (v ∷ l) = g v ∷ each g l
 
 module _ {A : Type 0} (g : List ℕ → A) where
-  each-append : (a b : List (List ℕ)) → each g (a ++ b) ≡ each g a ++ each g b
+  pub each-append : (a b : List (List ℕ)) → each g (a ++ b) ≡ each g a ++ each g b
   each-append [] b = refl
   each-append (v ∷ a) b = ap (λ (l : List A). g v ∷ l) (each-append a b)
 

@@ -16,7 +16,9 @@ use Rattle.text.proofs.Scan.{paired-same-length}
 use Rattle.answers.specs.Given.{Given, yes, numberOf, Rule, inOrder, _else_}
 use Rattle.words.specs.declared.Field.{Field}
 use Rattle.words.specs.declared.Field.the-variants.{Nm, Ustrd}
+use Rattle.words.specs.Collapsed.{collapsed}
 use Rattle.words.specs.Reference.{referenceForm, referenceGiven}
+use Rattle.words.specs.EndToEnd.{endToEndForm, endToEndGiven}
 use Rattle.words.specs.Text as text
 use Rattle.words.specs.Text.{textForm, textGiven}
 use Rattle.codes.specs.declared.Element.{Element}
@@ -35,13 +37,14 @@ use Rattle.accounts.proofs.Forms.{iban-long, identifier-long}
 use Rattle.profile.specs.declared.Kind.{Kind}
 use Rattle.profile.specs.declared.Kind.the-variants.{Plain, Count, Total, Amount, Code}
 use Rattle.profile.specs.declared.Simple.{Simple}
-use Rattle.profile.specs.declared.Simple.the-variants.{Reference, Text70, Text140, Date, Time, Bic, Iban, Identifier}
+use Rattle.profile.specs.declared.Simple.the-variants.{Reference, EndToEnd, Text70, Text140, Date, Time, Bic, Iban, Identifier}
 use Rattle.kinds.specs.Given.{simpleGiven, kindGiven}
-use Rattle.kinds.specs.Meant.{asMeant}
+use Rattle.kinds.specs.Meant.{simplyMeant, asMeant}
 use Rattle.kinds.proofs.Meant.{count-formed, amount-formed}
 
 abbrev pub longestSimple : Simple → ℕ
 longestSimple Reference = 35
+longestSimple EndToEnd = 35
 longestSimple Text70 = 70
 longestSimple Text140 = 140
 longestSimple Date = 10
@@ -67,9 +70,13 @@ reference-long : (v : List ℕ) → numberOf (referenceGiven v) ≡ 0 → length
 unfolding referenceGiven referenceForm
 reference-long v e = between-true 1 35 (length v) (passes _ (first-passes (referenceForm v) 6 [] yes e) 0) .1
 
-text-long : (f : Field) (v : List ℕ) → numberOf (textGiven f v) ≡ 0 → length v ≤ text.longest f
+text-long : (f : Field) (v : List ℕ) → numberOf (textGiven f v) ≡ 0 → length (collapsed v) ≤ text.longest f
 unfolding textGiven textForm
-text-long f v e = between-true 1 (text.longest f) (length v) (passes _ (first-passes (textForm f v) 6 [] yes e) 0) .1
+text-long f v e = between-true 1 (text.longest f) (length (collapsed v)) (passes _ (first-passes (textForm f (collapsed v)) 6 [] yes e) 0) .1
+
+end-to-end-long : (v : List ℕ) → numberOf (endToEndGiven v) ≡ 0 → length (collapsed v) ≤ 35
+unfolding endToEndGiven endToEndForm
+end-to-end-long v e = between-true 1 35 (length (collapsed v)) (passes _ (first-passes (endToEndForm (collapsed v)) 6 [] yes e) 1) .1
 
 -- ---- dates and times
 written-long : (t : String) (v : List ℕ) → written t v ≡ true → length v ≡ length (bytes t)
@@ -128,9 +135,10 @@ identifier-most : (v : List ℕ) → numberOf (identifierGiven v) ≡ 0 → leng
 unfolding identifierGiven
 identifier-most v e = identifier-long v (first-passes (identifierForm v) 6 (identifierChecked v else 8 ∷ []) yes e) .1
 
-simple-long : (s : Simple) (v : List ℕ) → numberOf (simpleGiven s v) ≡ 0 → length v ≤ longestSimple s
+simple-long : (s : Simple) (v : List ℕ) → numberOf (simpleGiven s v) ≡ 0 → length (simplyMeant s v) ≤ longestSimple s
 unfolding simpleGiven
 simple-long Reference v e = reference-long v e
+simple-long EndToEnd v e = end-to-end-long v e
 simple-long Text70 v e = text-long Nm v e
 simple-long Text140 v e = text-long Ustrd v e
 simple-long Date v e = date-long v e

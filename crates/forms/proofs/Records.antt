@@ -9,13 +9,17 @@ use Rattle.text.proofs.Truths.{both-true}
 use Rattle.money.specs.Amount.{cents}
 use Rattle.profile.specs.declared.Kind.{Kind}
 use Rattle.profile.specs.declared.Kind.the-variants.{Plain, Count, Total, Amount, Code}
+use Rattle.profile.specs.declared.Simple.{Simple}
+use Rattle.profile.specs.declared.Simple.the-variants.{Reference, EndToEnd, Text70, Text140, Date, Time, Bic, Iban, Identifier}
 use Rattle.profile.specs.declared.Field.{Field}
 use Rattle.profile.specs.declared.Field.the-variants.{TxId, EndToEndId, MndtId, DbtrIban, CdtrIban, DbtrBic, ReqdColltnDt, SeqTp, CdtrId, CdtrBic}
 use Rattle.profile.specs.Fields.{sameField}
 use Rattle.profile.specs.Version.{Version, v02}
 use Rattle.profile.specs.Tree.{Occ, once, optional, many, more, Shape, end, leaf, group}
 use Rattle.profile.specs.Profile.{inHeader, inItem, profile}
-use Rattle.kinds.specs.Meant.{asMeant}
+use Rattle.words.specs.Collapsed.{collapsed}
+use Rattle.words.proofs.Collapsed.{collapsed-twice}
+use Rattle.kinds.specs.Meant.{simplyMeant, asMeant}
 use Rattle.reading.specs.Trace.{What, itemBegins, itemEnds, there, absent, value}
 use Rattle.reading.specs.Rules.{ofField, valuesAt, valuesOf, _so_}
 use Rattle.reading.specs.Judged.{judged, lastOf}
@@ -33,51 +37,107 @@ use Rattle.bulks.proofs.Trees.{document-bulk}
 use Rattle.bulks.proofs.Posted.{accepted-records}
 use Rattle.forms.specs.Plain.{bare, plain, plainMessage, PlainForm}
 use Rattle.forms.proofs.Said.{meantIn, meantAll, plain-said}
-use Rattle.forms.proofs.Holds.{each as of, meant-amounts}
+use Rattle.forms.proofs.Holds.{each as of, each-append, meant-amounts}
 use Rattle.forms.proofs.Forms.{plain-lawful, form-accepted}
 
--- ---- a recorded field is of a kind that is as read
+-- ---- the last of some, and what is asked of it
+abbrev lastIn : {A : Type 0} → A → List A → A
+lastIn a [] = a
+lastIn a (x ∷ l) = lastIn x l
+
+last-of : {A : Type 0} (h : List ℕ → A) (v : List ℕ) (l : List (List ℕ)) → lastIn (h v) (of h l) ≡ h (lastOf v l)
+last-of h v [] = refl
+last-of h v (w ∷ l) = last-of h w l
+
+-- ---- what a record holds of a value is the same of the value as it is meant: of a kind that is as read, the value; of any that is no number, the collapsed value
+abbrev isReadSimple : Simple → Bool
+isReadSimple Reference = true
+isReadSimple EndToEnd = false
+isReadSimple Text70 = false
+isReadSimple Text140 = false
+isReadSimple Date = true
+isReadSimple Time = true
+isReadSimple Bic = true
+isReadSimple Iban = true
+isReadSimple Identifier = true
+
 abbrev isRead : Kind → Bool
-isRead (Plain s) = true
+isRead (Plain s) = isReadSimple s
 isRead Count = false
 isRead Total = false
 isRead Amount = false
 isRead (Code e) = true
 
+read-simply : (s : Simple) → isReadSimple s ≡ true → (v : List ℕ) → simplyMeant s v ≡ v
+read-simply Reference e v = refl
+read-simply EndToEnd e v = cc
+read-simply Text70 e v = cc
+read-simply Text140 e v = cc
+read-simply Date e v = refl
+read-simply Time e v = refl
+read-simply Bic e v = refl
+read-simply Iban e v = refl
+read-simply Identifier e v = refl
+
 read-meant : (k : Kind) → isRead k ≡ true → (v : List ℕ) → asMeant k v ≡ v
-read-meant (Plain s) e v = refl
+read-meant (Plain s) e v = read-simply s e v
 read-meant Count e v = cc
 read-meant Total e v = cc
 read-meant Amount e v = cc
 read-meant (Code c) e v = refl
 
-module _ (g : Field) where
-  abbrev asRead : Shape → Bool
-  asRead (end n) = true
-  asRead (leaf o n k f rest) = both (sameField f g so isRead k) (asRead rest)
-  asRead (group o n inner rest) = both (asRead inner) (asRead rest)
+abbrev isWords : Kind → Bool
+isWords (Plain s) = true
+isWords Count = false
+isWords Total = false
+isWords Amount = false
+isWords (Code e) = true
 
-  -- its values as meant are its values
+words-simply : (s : Simple) (v : List ℕ) → collapsed (simplyMeant s v) ≡ collapsed v
+words-simply Reference v = refl
+words-simply EndToEnd v = collapsed-twice v
+words-simply Text70 v = collapsed-twice v
+words-simply Text140 v = collapsed-twice v
+words-simply Date v = refl
+words-simply Time v = refl
+words-simply Bic v = refl
+words-simply Iban v = refl
+words-simply Identifier v = refl
+
+words-meant : (k : Kind) → isWords k ≡ true → (v : List ℕ) → collapsed (asMeant k v) ≡ collapsed v
+words-meant (Plain s) e v = words-simply s v
+words-meant Count e v = cc
+words-meant Total e v = cc
+words-meant Amount e v = cc
+words-meant (Code c) e v = refl
+
+-- h is what the record holds of a field's value, and t tells the kinds of which it is the same as meant
+module _ (h : List ℕ → List ℕ) (t : Kind → Bool) (same : (k : Kind) → t k ≡ true → (v : List ℕ) → h (asMeant k v) ≡ h v) (g : Field) where
+  abbrev held : Shape → Bool
+  held (end n) = true
+  held (leaf o n k f rest) = both (sameField f g so t k) (held rest)
+  held (group o n inner rest) = both (held inner) (held rest)
+
   abbrev Same : What → Type 0
-  Same w = ofField g (meantIn w) ≡ ofField g w
+  Same w = of h (ofField g (meantIn w)) ≡ of h (ofField g w)
 
-  value-same : (k : Kind) (f : Field) (v : List ℕ) → (sameField f g so isRead k) ≡ true → Same (value k f v)
+  value-same : (k : Kind) (f : Field) (v : List ℕ) → (sameField f g so t k) ≡ true → Same (value k f v)
   value-same k f v e = go (sameField f g) e
     where
-      go : (b : Bool) → (b so isRead k) ≡ true → pick b (asMeant k v ∷ []) [] ≡ pick b (v ∷ []) []
-      go true e = ap (λ (x : List ℕ). x ∷ []) (read-meant k e v)
+      go : (b : Bool) → (b so t k) ≡ true → of h (pick b (asMeant k v ∷ []) []) ≡ of h (pick b (v ∷ []) [])
+      go true e = ap (λ (x : List ℕ). x ∷ []) (same k e v)
       go false e = refl
 
-  module _ {A : Type 0} (n : String) (t : A → List What) (same : (a : A) → Each Same (t a)) where
-    one-same : (o : Occ) (e : Led A) → Each Same (one o n t e)
-    one-same once e = same (e .held)
-    one-same optional e = (refl, same (e .held))
-    one-same many e = (refl, each-both Same (t (e .held)) (itemEnds ∷ []) (same (e .held)) (refl, tt))
-    one-same more e = (refl, each-both Same (t (e .held)) (itemEnds ∷ []) (same (e .held)) (refl, tt))
+  module _ {A : Type 0} (n : String) (x : A → List What) (all : (a : A) → Each Same (x a)) where
+    one-same : (o : Occ) (e : Led A) → Each Same (one o n x e)
+    one-same once e = all (e .held)
+    one-same optional e = (refl, all (e .held))
+    one-same many e = (refl, each-both Same (x (e .held)) (itemEnds ∷ []) (all (e .held)) (refl, tt))
+    one-same more e = (refl, each-both Same (x (e .held)) (itemEnds ∷ []) (all (e .held)) (refl, tt))
 
-    each-same : (o : Occ) (l : List (Led A)) → Each Same (each o n t l)
+    each-same : (o : Occ) (l : List (Led A)) → Each Same (each o n x l)
     each-same o [] = tt
-    each-same o (e ∷ l) = each-both Same (one o n t e) (each o n t l) (one-same o e) (each-same o l)
+    each-same o (e ∷ l) = each-both Same (one o n x e) (each o n x l) (one-same o e) (each-same o l)
 
     none-same : (o : Occ) (l : List (Led A)) → Each Same (none o n l)
     none-same once l = tt
@@ -86,54 +146,55 @@ module _ (g : Field) where
     none-same many l = tt
     none-same more l = tt
 
-    row-same : (o : Occ) (l : List (Led A)) (r : List What) → Each Same r → Each Same (none o n l ++ (each o n t l ++ r))
-    row-same o l r h = each-both Same (none o n l) (each o n t l ++ r) (none-same o l) (each-both Same (each o n t l) r (each-same o l) h)
+    row-same : (o : Occ) (l : List (Led A)) (r : List What) → Each Same r → Each Same (none o n l ++ (each o n x l ++ r))
+    row-same o l r k = each-both Same (none o n l) (each o n x l ++ r) (none-same o l) (each-both Same (each o n x l) r (each-same o l) k)
 
-  said-same : (sh : Shape) → asRead sh ≡ true → (d : Doc sh) → Each Same (said sh d)
+  said-same : (sh : Shape) → held sh ≡ true → (d : Doc sh) → Each Same (said sh d)
   said-same (end n) e d = tt
   said-same (leaf o n k f rest) e d =
-      let b = both-true (sameField f g so isRead k) (asRead rest) e in
+      let b = both-true (sameField f g so t k) (held rest) e in
       row-same n (λ v. value k f v ∷ []) (λ v. (value-same k f v (b .0), tt)) o (d .all) (said rest (d .others)) (said-same rest (b .1) (d .others))
   said-same (group o n inner rest) e d =
-      let b = both-true (asRead inner) (asRead rest) e in
+      let b = both-true (held inner) (held rest) e in
       row-same n (said inner) (said-same inner (b .0)) o (d .all) (said rest (d .others)) (said-same rest (b .1) (d .others))
 
-  values-same : (ws : List What) → Each Same ws → valuesAt g (meantAll ws) ≡ valuesAt g ws
-  values-same [] h = refl
-  values-same (w ∷ l) h = rw (h .0, values-same l (h .1))
+  values-same : (ws : List What) → Each Same ws → of h (valuesAt g (meantAll ws)) ≡ of h (valuesAt g ws)
+  values-same [] k = refl
+  values-same (w ∷ l) k =
+      each-append h (ofField g (meantIn w)) (valuesAt g (meantAll l)) ∙ (rw (k .0, values-same l (k .1)) (sym (each-append h (ofField g w) (valuesAt g l))))
 
-  value-is : (v : Version) → asRead (inItem v) ≡ true → (d : Doc (inItem v)) → valueFor (meantAll (said (inItem v) d)) g ≡ valueFor (said (inItem v) d) g
-  value-is v e d = ap (lastOf []) (values-same (said (inItem v) d) (said-same (inItem v) e d))
+  value-is : (v : Version) → held (inItem v) ≡ true → (d : Doc (inItem v)) → h (valueFor (meantAll (said (inItem v) d)) g) ≡ h (valueFor (said (inItem v) d) g)
+  value-is v e d =
+      let ws = said (inItem v) d in
+      sym (last-of h [] (valuesAt g (meantAll ws))) ∙ ap (lastIn (h [])) (values-same ws (said-same (inItem v) e d)) ∙ last-of h [] (valuesAt g ws)
 
 -- ---- an item's cents
-abbrev lastNumber : ℕ → List ℕ → ℕ
-lastNumber n [] = n
-lastNumber n (x ∷ l) = lastNumber x l
-
-last-cents : (v : List ℕ) (l : List (List ℕ)) → lastNumber (cents v) (of cents l) ≡ cents (lastOf v l)
-last-cents v [] = refl
-last-cents v (w ∷ l) = last-cents w l
-
 cents-is : (ws : List What) → centsFor (meantAll ws) ≡ centsFor ws
-cents-is ws =
-    sym (last-cents [] (valuesOf Amount (meantAll ws))) ∙ ap (lastNumber (cents [])) (meant-amounts ws) ∙ last-cents [] (valuesOf Amount ws)
+cents-is ws = sym (last-of cents [] (valuesOf Amount (meantAll ws))) ∙ ap (lastIn (cents [])) (meant-amounts ws) ∙ last-of cents [] (valuesOf Amount ws)
 
 -- ---- an item's record
+read-is : (g : Field) (v : Version) → held (λ v. v) isRead read-meant g (inItem v) ≡ true → (d : Doc (inItem v)) → valueFor (meantAll (said (inItem v) d)) g ≡ valueFor (said (inItem v) d) g
+read-is = value-is (λ v. v) isRead read-meant
+
+words-are : (g : Field) (v : Version) → held collapsed isWords words-meant g (inItem v) ≡ true → (d : Doc (inItem v))
+    → collapsed (valueFor (meantAll (said (inItem v) d)) g) ≡ collapsed (valueFor (said (inItem v) d) g)
+words-are = value-is collapsed isWords words-meant
+
 record-is : (v : Version) (d : Doc (inItem v)) → recordFor (meantAll (said (inItem v) d)) ≡ recordFor (said (inItem v) d)
 unfolding recordFor inItem
 record-is v02 d =
     rw (
       cents-is (said (inItem v02) d),
-      value-is TxId v02 refl d,
-      value-is EndToEndId v02 refl d,
-      value-is MndtId v02 refl d,
-      value-is DbtrIban v02 refl d,
-      value-is CdtrIban v02 refl d,
-      value-is DbtrBic v02 refl d,
-      value-is ReqdColltnDt v02 refl d,
-      value-is SeqTp v02 refl d,
-      value-is CdtrId v02 refl d,
-      value-is CdtrBic v02 refl d,
+      read-is TxId v02 refl d,
+      words-are EndToEndId v02 refl d,
+      read-is MndtId v02 refl d,
+      read-is DbtrIban v02 refl d,
+      read-is CdtrIban v02 refl d,
+      read-is DbtrBic v02 refl d,
+      read-is ReqdColltnDt v02 refl d,
+      read-is SeqTp v02 refl d,
+      read-is CdtrId v02 refl d,
+      read-is CdtrBic v02 refl d,
     )
 
 records-are : (v : Version) (l : List (DocItem v)) → texts (itemRecord v) (bare (plain (inItem v)) l) ≡ texts (itemRecord v) l

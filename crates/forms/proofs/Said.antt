@@ -70,7 +70,7 @@ module _ {A : Type 0} (P : A → Type 0) (f : A → A) (keeps : (a : A) → P a 
 pub plain-proper : (sh : Shape) (d : Doc sh) → Proper sh d → Proper sh (plain sh d)
 plain-proper (end n) w h = refl
 plain-proper (leaf o n k f rest) d h =
-    (rw (bare-length (asMeant k) (d .all)) (h .0), bare-each Tagless (asMeant k) (λ v t. meant-every inValue refl refl k v t) (d .all) (h .1), plain-proper rest (d .others) (h .2))
+    (rw (bare-length (asMeant k) (d .all)) (h .0), bare-each Tagless (asMeant k) (λ v t. meant-every inValue refl refl refl k v t) (d .all) (h .1), plain-proper rest (d .others) (h .2))
 plain-proper (group o n inner rest) d h =
     (rw (bare-length (plain inner) (d .all)) (h .0), bare-each (Proper inner) (plain inner) (plain-proper inner) (d .all) (h .1), plain-proper rest (d .others) (h .2))
 

@@ -4,6 +4,7 @@ use mathlib.Core.List.{List}
 use Rattle.answers.specs.Given.{Given}
 use Rattle.words.specs.declared.Field.the-variants.{Nm, Ustrd}
 use Rattle.words.specs.Reference.{referenceGiven}
+use Rattle.words.specs.EndToEnd.{endToEndGiven}
 use Rattle.words.specs.Text.{textGiven}
 use Rattle.codes.specs.Listed.{codeGiven}
 use Rattle.calendar.specs.Date.{dateGiven}
@@ -17,10 +18,11 @@ use Rattle.accounts.specs.Identifier.{identifierGiven}
 use Rattle.profile.specs.declared.Kind.{Kind}
 use Rattle.profile.specs.declared.Kind.the-variants.{Plain, Count, Total, Amount, Code}
 use Rattle.profile.specs.declared.Simple.{Simple}
-use Rattle.profile.specs.declared.Simple.the-variants.{Reference, Text70, Text140, Date, Time, Bic, Iban, Identifier}
+use Rattle.profile.specs.declared.Simple.the-variants.{Reference, EndToEnd, Text70, Text140, Date, Time, Bic, Iban, Identifier}
 
 unfoldable pub simpleGiven : Simple → List ℕ → Given
 simpleGiven Reference v = referenceGiven v
+simpleGiven EndToEnd v = endToEndGiven v
 simpleGiven Text70 v = textGiven Nm v
 simpleGiven Text140 v = textGiven Ustrd v
 simpleGiven Date v = dateGiven v

@@ -5,58 +5,43 @@ use mathlib.Core.List.{List, [], _∷_}
 use Prim.Native.Nat.{ℕ}
 use borrow.Author.Tests.{eqb-true}
 use lib.Dec.{eqb}
-use lib.ListN.{length, getD}
-use Rattle.text.specs.Truth.{allOf, every, between, first}
-use Rattle.text.specs.Quoted.{byte, among}
+use lib.ListN.{getD}
+use Rattle.text.specs.Truth.{every}
+use Rattle.text.specs.Quoted.{among}
 use Rattle.text.specs.Classes.{referenceSet, textSet}
-use Rattle.text.proofs.Truths.{both-true, passes}
-use Rattle.answers.specs.Given.{yes, inOrder, _else_}
+use Rattle.answers.specs.Given.{yes}
 use Rattle.words.specs.declared.Field.{Field}
 use Rattle.words.specs.declared.Field.the-variants.{Nm, Ustrd}
-use Rattle.words.specs.Text.{longest, textForm, textGiven}
+use Rattle.words.specs.Collapsed.{asSpace}
+use Rattle.words.specs.Text.{textGiven}
+use Rattle.words.proofs.Legal.{text-every}
 use Rattle.tags.specs.Values.{inValue}
 use Rattle.profile.specs.declared.Kind.{Kind}
 use Rattle.profile.specs.declared.Kind.the-variants.{Plain, Count, Total, Amount, Code}
 use Rattle.profile.specs.declared.Simple.{Simple}
-use Rattle.profile.specs.declared.Simple.the-variants.{Reference, Text70, Text140, Date, Time, Bic, Iban, Identifier}
+use Rattle.profile.specs.declared.Simple.the-variants.{Reference, EndToEnd, Text70, Text140, Date, Time, Bic, Iban, Identifier}
 use Rattle.profile.specs.Kinds.{sameKind}
 use Rattle.kinds.specs.Given.{simpleGiven, kindGiven}
 use Rattle.reading.proofs.Flat.{never}
 
--- every byte of a legal text is of the text set, and `<` is not
-legal-set : (f : Field) (v : List ℕ) → textGiven f v ≡ yes → every textSet v ≡ true
-unfolding textGiven textForm
-legal-set f v e =
-    let l = between 1 (longest f) (length v) ∷ every textSet v ∷ not (eqb (first v) (byte " ")) ∷ [] in
-    passes l (go (allOf l) e) 1
-  where
-    go : (b : Bool) → inOrder (b else 7 ∷ []) yes ≡ yes → b ≡ true
-    go true h = refl
-    go false h = never (cc)
-
-no-bracket : textSet 60 ≡ false
-unfolding textSet referenceSet among
+-- a byte that is of the text set, or counts as space, is no `<`
+no-bracket : textSet (asSpace 60) ≡ false
+unfolding textSet referenceSet among asSpace
 no-bracket = refl
 
-in-value : (c : ℕ) → textSet c ≡ true → inValue c ≡ true
+in-value : (c : ℕ) → textSet (asSpace c) ≡ true → inValue c ≡ true
 in-value c h = go (eqb c 60) refl
   where
     go : (b : Bool) → eqb c 60 ≡ b → not b ≡ true
     go true e = let z : c ≡ 60 = eqb-true c 60 e in never (cc (no-bracket))
     go false e = refl
 
-in-values : (v : List ℕ) → every textSet v ≡ true → every inValue v ≡ true
-in-values [] e = refl
-in-values (c ∷ v) e =
-    let h = both-true (textSet c) (every textSet v) e in
-    rw (in-value c (h .0)) (in-values v (h .1))
-
 pub legal-tagless : (f : Field) (v : List ℕ) → textGiven f v ≡ yes → every inValue v ≡ true
-legal-tagless f v e = in-values v (legal-set f v e)
+legal-tagless = text-every inValue in-value
 
 -- ---- the kind of such a text
 abbrev simples : List Simple
-simples = Reference ∷ Text70 ∷ Text140 ∷ Date ∷ Time ∷ Bic ∷ Iban ∷ Identifier ∷ []
+simples = Reference ∷ Text70 ∷ Text140 ∷ Date ∷ Time ∷ Bic ∷ Iban ∷ Identifier ∷ EndToEnd ∷ []
 
 abbrev number : Simple → ℕ
 number Reference = 0
@@ -67,6 +52,7 @@ number Time = 4
 number Bic = 5
 number Iban = 6
 number Identifier = 7
+number EndToEnd = 8
 
 numbered : (s : Simple) → getD simples (number s) Reference ≡ s
 numbered Reference = refl
@@ -77,6 +63,7 @@ numbered Time = refl
 numbered Bic = refl
 numbered Iban = refl
 numbered Identifier = refl
+numbered EndToEnd = refl
 
 abbrev simpleOf : Field → Simple
 simpleOf Nm = Text70

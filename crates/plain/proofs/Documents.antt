@@ -20,15 +20,17 @@ use Rattle.profile.specs.declared.Kind.the-variants.{Plain, Count, Total, Amoun
 use Rattle.profile.specs.Kinds.{isAmount}
 use Rattle.profile.specs.Version.{Version, v02, root}
 use Rattle.profile.specs.Tree.{Occ, once, optional, many, more, Shape, end, leaf, group}
-use Rattle.profile.specs.Profile.{profile}
-use Rattle.kinds.specs.Meant.{asMeant}
+use Rattle.profile.specs.declared.Simple.{Simple}
+use Rattle.profile.specs.declared.Simple.the-variants.{Reference, EndToEnd, Text70, Text140, Date, Time, Bic, Iban, Identifier}
+use Rattle.profile.specs.Profile.{wordsTag, profile}
+use Rattle.kinds.specs.Meant.{simplyMeant, asMeant}
 use Rattle.documents.specs.Document.{Led, Doc, opening, ledText, texts, text, Often, Each, White, Tagless, LedBy, Proper}
 use Rattle.documents.specs.Message.{Message, head, whole, Lawful}
 use Rattle.documents.proofs.Texts.{Starts, opening-starts, plain-starts, end-starts, white-bracket}
 use Rattle.documents.proofs.Messages.{root-starts, no-question, question}
 use Rattle.forms.specs.Plain.{bare, plain, plainMessage}
 use Rattle.plain.specs.declared.Spelling.{Spelling}
-use Rattle.plain.specs.declared.Spelling.the-variants.{Nothing, AsRead, Number, Amount as Decimals}
+use Rattle.plain.specs.declared.Spelling.the-variants.{Nothing, AsRead, Collapsed, Number, Amount as Decimals}
 use Rattle.plain.specs.Engine.{inTag, tagOf, behindTag, upToTag, fromTag, closes, quoted, spelled, spellingBy, pieceOf, pieces, bodyOf}
 use Rattle.plain.proofs.Scans.{spelling-closed, spelling-open}
 use Rattle.plain.proofs.Pieces.{pieces-none, pieces-first}
@@ -148,15 +150,37 @@ unfolding closes
 close-end-tag n = refl
 
 -- ---- how a value is spelled, by its tag
+abbrev spellingSimply : Simple → Spelling
+spellingSimply Reference = AsRead
+spellingSimply EndToEnd = Collapsed
+spellingSimply Text70 = Collapsed
+spellingSimply Text140 = Collapsed
+spellingSimply Date = AsRead
+spellingSimply Time = AsRead
+spellingSimply Bic = AsRead
+spellingSimply Iban = AsRead
+spellingSimply Identifier = AsRead
+
 abbrev spellingFor : Kind → Spelling
-spellingFor (Plain s) = AsRead
+spellingFor (Plain s) = spellingSimply s
 spellingFor Count = Number
 spellingFor Total = Decimals
 spellingFor Amount = Decimals
 spellingFor (Code e) = AsRead
 
+spelled-simply : (s : Simple) (v : List ℕ) → spelled (spellingSimply s) v ≡ simplyMeant s v
+spelled-simply Reference v = refl
+spelled-simply EndToEnd v = refl
+spelled-simply Text70 v = refl
+spelled-simply Text140 v = refl
+spelled-simply Date v = refl
+spelled-simply Time v = refl
+spelled-simply Bic v = refl
+spelled-simply Iban v = refl
+spelled-simply Identifier v = refl
+
 spelled-for : (k : Kind) (v : List ℕ) → spelled (spellingFor k) v ≡ asMeant k v
-spelled-for (Plain s) v = refl
+spelled-for (Plain s) v = spelled-simply s v
 spelled-for Count v = refl
 spelled-for Total v = refl
 spelled-for Amount v = refl
@@ -166,18 +190,21 @@ abbrev spellingNumber : Spelling → ℕ
 spellingNumber Nothing = 0
 spellingNumber AsRead = 1
 spellingNumber Number = 2
-spellingNumber Decimals = 3
+spellingNumber Collapsed = 3
+spellingNumber Decimals = 4
 
 abbrev numbered : ℕ → Spelling
 numbered zero = Nothing
 numbered (suc zero) = AsRead
 numbered (suc (suc zero)) = Number
-numbered (suc (suc (suc n))) = Decimals
+numbered (suc (suc (suc zero))) = Collapsed
+numbered (suc (suc (suc (suc n)))) = Decimals
 
 numbered-is : (k : Spelling) → numbered (spellingNumber k) ≡ k
 numbered-is Nothing = refl
 numbered-is AsRead = refl
 numbered-is Number = refl
+numbered-is Collapsed = refl
 numbered-is Decimals = refl
 
 same-spelling : (j k : Spelling) → eqb (spellingNumber j) (spellingNumber k) ≡ true → j ≡ k
@@ -216,7 +243,7 @@ written (leaf o n k f rest) = both (named n) (both (told k n) (written rest))
 written (group o n inner rest) = both (named n) (both (begins inner) (both (written inner) (written rest)))
 
 profile-written : (v : Version) → both (begins (profile v)) (written (profile v)) ≡ true
-unfolding profile spellingBy closes quoted
+unfolding profile spellingBy closes quoted wordsTag
 profile-written v02 = refl
 
 -- ---- a row of elements

@@ -16,9 +16,9 @@ use Rattle.text.specs.Quoted.{bytes, byte, equal, is, alike}
 use Rattle.text.proofs.Truths.{never}
 use Rattle.text.proofs.Scan.{rest-of, lead-stop, lead-go, lead-end, lead-le, paired-length}
 use Rattle.tags.specs.Values.{inValue}
-use Rattle.profile.specs.Profile.{countTag}
+use Rattle.profile.specs.Profile.{countTag, wordsTag}
 use Rattle.plain.specs.declared.Spelling.{Spelling}
-use Rattle.plain.specs.declared.Spelling.the-variants.{Nothing, AsRead, Number, Amount}
+use Rattle.plain.specs.declared.Spelling.the-variants.{Nothing, AsRead, Collapsed, Number, Amount}
 use Rattle.plain.specs.declared.Piece.{Piece}
 use Rattle.plain.specs.Engine.{inTag, tagOf, behindTag, upToTag, nextOf, closes, quoted, spelled, spellingBy, pieceIn, pieceOf, declaredLength, bodyOf}
 use Rattle.plain.proofs.Parts.{two-parts, behind-long}
@@ -77,9 +77,13 @@ module _ (t r : List ℕ) where
       unfolding spellingBy
       spelling-amount n e = rw (o, c, n, e)
 
-      pub spelling-read : alike countTag t ≡ false → quoted t ≡ false → AsRead ≡ spellingBy t r
+      pub spelling-words : alike countTag t ≡ false → quoted t ≡ false → wordsTag t ≡ true → Collapsed ≡ spellingBy t r
       unfolding spellingBy
-      spelling-read n e = rw (o, c, n, e)
+      spelling-words n e w = rw (o, c, n, e, w)
+
+      pub spelling-read : alike countTag t ≡ false → quoted t ≡ false → wordsTag t ≡ false → AsRead ≡ spellingBy t r
+      unfolding spellingBy
+      spelling-read n e w = rw (o, c, n, e, w)
 
 -- ---- a piece: t bytes of a tag, and u bytes up to the next one
 take-short : (n : ℕ) (s : List ℕ) → take (length (take n s)) s ≡ take n s

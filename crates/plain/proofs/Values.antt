@@ -13,11 +13,12 @@ use Rattle.text.specs.declared.Class.the-variants.{Digit}
 use Rattle.text.specs.Classes.{digit, inClass}
 use Rattle.text.proofs.Truths.{never}
 use Rattle.text.proofs.Scan.{lead-le, rest-of}
+use Rattle.words.proofs.Collapsed.{collapsed-le}
 use Rattle.money.specs.Amount.{euros, behindEuros, asTwoDigits}
 use Rattle.money.specs.Plain.{withoutZeros, plainAmount}
 use Rattle.money.proofs.Plain.{zeros-short, two-long, plain-short}
 use Rattle.plain.specs.declared.Spelling.{Spelling}
-use Rattle.plain.specs.declared.Spelling.the-variants.{Nothing, AsRead, Number, Amount}
+use Rattle.plain.specs.declared.Spelling.the-variants.{Nothing, AsRead, Collapsed, Number, Amount}
 use Rattle.plain.specs.Engine.{spelled}
 use Rattle.plain.proofs.Parts.{two-parts}
 
@@ -104,7 +105,7 @@ module _ (v : List ℕ) (n : ℕ) (is-n : n ≡ lead (inClass Digit) v) where
           → putMid (n - z) (length (x ++ drop (n - z) to) - (n - z)) (x ++ drop (n - z) to) y ≡ plainAmount v
       amount-laid x y e g = two-parts x to (n - z) (ap length e ∙ copied-long) y ∙ rw (e, g, digits-copied, rest-of n v) (sym amount-is)
 
--- ---- a value of one of the four spellings
+-- ---- a value of one of the five spellings
 pub none-left : (to : List ℕ) (k : Spelling) (v : List ℕ) → k ≡ Nothing → length to ≡ length (spelled k v) → to ≡ spelled k v
 none-left to k v e h = rw e (go to (h ∙ ap (λ (k : Spelling). length (spelled k v)) e))
   where
@@ -115,5 +116,6 @@ none-left to k v e h = rw e (go to (h ∙ ap (λ (k : Spelling). length (spelled
 pub spelled-long : (k : Spelling) (v : List ℕ) → length (spelled k v) ≤ length v + 3
 spelled-long Nothing v = omega arith
 spelled-long AsRead v = omega arith
+spelled-long Collapsed v = omega (arith, collapsed-le v)
 spelled-long Number v = omega (arith, zeros-short v)
 spelled-long Amount v = plain-short v

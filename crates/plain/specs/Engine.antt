@@ -8,10 +8,11 @@ use Rattle.text.specs.Truth.{pick, lead}
 use Rattle.text.specs.Quoted.{byte, is, alike}
 use Rattle.tags.specs.Tags.{startsQuestion, declaration}
 use Rattle.tags.specs.Values.{inValue}
-use Rattle.profile.specs.Profile.{countTag}
+use Rattle.words.specs.Collapsed.{collapsed}
+use Rattle.profile.specs.Profile.{countTag, wordsTag}
 use Rattle.money.specs.Plain.{withoutZeros, plainAmount}
 use Rattle.plain.specs.declared.Spelling.{Spelling}
-use Rattle.plain.specs.declared.Spelling.the-variants.{Nothing, AsRead, Number, Amount}
+use Rattle.plain.specs.declared.Spelling.the-variants.{Nothing, AsRead, Collapsed, Number, Amount}
 use Rattle.plain.specs.declared.Piece.{Piece}
 
 -- ---- a tag, and what stands behind it
@@ -45,11 +46,14 @@ quoted t = is "\">" (drop (length t - 2) t)
 
 -- by the tag before it and the one behind it: a value stands between a start tag and an end tag
 unfoldable pub spellingBy : List ℕ → List ℕ → Spelling
-spellingBy t r = pick (closes t) Nothing (pick (closes r) (pick (alike countTag t) Number (pick (quoted t) Amount AsRead)) Nothing)
+spellingBy t r =
+    pick (closes t) Nothing
+    (pick (closes r) (pick (alike countTag t) Number (pick (quoted t) Amount (pick (wordsTag t) Collapsed AsRead))) Nothing)
 
 abbrev pub spelled : Spelling → List ℕ → List ℕ
 spelled Nothing v = []
 spelled AsRead v = v
+spelled Collapsed v = collapsed v
 spelled Number v = withoutZeros v
 spelled Amount v = plainAmount v
 

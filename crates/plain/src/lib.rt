@@ -22,10 +22,11 @@ pub enum Written {
     Refused(u8, usize),
 }
 
-// How what stands behind a tag is written: not at all, as it was read, without needless zeros, with two decimals.
+// How what stands behind a tag is written: not at all, as it was read, collapsed, without needless zeros, with two decimals.
 pub enum Spelling {
     Nothing,
     AsRead,
+    Collapsed,
     Number,
     Amount,
 }
@@ -88,6 +89,9 @@ fn spelling_by(tag: &[u8], next: &[u8]) -> Spelling
     if is_quoted(tag) {
         return Spelling::Amount;
     }
+    if profile::is_words(tag) {
+        return Spelling::Collapsed;
+    }
     Spelling::AsRead
 }
 
@@ -119,6 +123,7 @@ fn spelled_length(k: Spelling, v: &[u8]) -> usize
     match k {
         Spelling::Nothing => 0,
         Spelling::AsRead => v.len(),
+        Spelling::Collapsed => words::collapsed_length(v),
         Spelling::Number => v.len() - money::needless(v),
         Spelling::Amount => amount_length(v),
     }
@@ -187,6 +192,7 @@ fn spell(k: Spelling, v: &[u8], to: &mut [u8])
     match k {
         Spelling::Nothing => {}
         Spelling::AsRead => copy(v, to),
+        Spelling::Collapsed => words::collapse(v, to),
         Spelling::Number => {
             let zeros = money::needless(v);
             copy(&v[zeros..], to)

@@ -8,7 +8,9 @@ use borrow.Author.Tests.{le-ltb}
 use Rattle.text.specs.Truth.{allOf}
 use Rattle.text.specs.Quoted.{bytes, byte, among, decimal}
 use Rattle.text.specs.Classes.{digit, capital, small, capitalOrDigit, letterOrDigit, referenceSet, textSet}
-use Rattle.words.specs.Reference.{referenceForm, referenceGiven}
+use Rattle.words.specs.Collapsed.{asSpace, collapsed}
+use Rattle.words.specs.Reference.{slashRule, referenceForm, referenceGiven}
+use Rattle.words.specs.EndToEnd.{endToEndForm, endToEndGiven}
 use Rattle.words.specs.Text.{textForm, textGiven}
 use Rattle.codes.specs.Listed.{codeGiven}
 use Rattle.calendar.specs.Date.{leap, daysIn, realDay, dateForm, dateGiven}
@@ -84,7 +86,7 @@ exampleRecord =
 -- it is accepted, and its one item has this record: computed
 computed : (judged example ≡ accepted 1 1234) × (recordsFor (theItems example) ≡ exampleRecord)
 unfolding
-    allOf among decimal digit capital small capitalOrDigit letterOrDigit referenceSet textSet referenceForm referenceGiven textForm textGiven codeGiven leap daysIn realDay dateForm
+    allOf among decimal digit capital small capitalOrDigit letterOrDigit referenceSet textSet asSpace collapsed slashRule referenceForm referenceGiven endToEndForm endToEndGiven textForm textGiven codeGiven leap daysIn realDay dateForm
     dateGiven letter stands written clockForm offsetForm zoneForm endForm timeForm timeGiven spell leavesOne inRange ibanChecked identifierChecked countForm countGiven pointForm amountForm
     cents amountGiven head bicForm bicGiven lengths lengthOf ibanForm ibanLength ibanGiven identifierForm identifierGiven white currencyPlace inEuro startsQuestion profile simpleGiven closed valued opened behindAll
     message compared judged padded digits recordFor

@@ -3,6 +3,7 @@ use Prim.Native.Nat.{ℕ, zero, suc, _+_, _/_, _%_}
 use mathlib.Core.List.{List, [], _∷_, _++_}
 use lib.ListN.{take, replicate}
 use Rattle.text.specs.Quoted.{byte}
+use Rattle.words.specs.Collapsed.{collapsed}
 use Rattle.money.specs.Amount.{cents}
 use Rattle.profile.specs.declared.Kind.the-variants.{Amount}
 use Rattle.profile.specs.declared.Field.{Field}
@@ -25,11 +26,11 @@ digits zero c = []
 digits (suc n) c = digits n (c / 10) ++ ((byte "0" + c % 10) ∷ [])
 
 -- "TxId 35, EndToEndId 35, MndtId 35, debtor IBAN 34, creditor IBAN 34, debtor agent BIC 11, item cents as 11 digits, ReqdColltnDt 10, SeqTp 4,
--- creditor identifier 35, creditor agent BIC 11, then LF (byte 255)": of an item with these values and so many cents
+-- creditor identifier 35, creditor agent BIC 11, then LF (byte 255)": of an item with these values and so many cents. "The record [..] hold[s] the collapsed value"
 abbrev pub recordWith : (Field → List ℕ) → ℕ → List ℕ
 recordWith value cents =
     padded 35 (value TxId)
-    ++ padded 35 (value EndToEndId)
+    ++ padded 35 (collapsed (value EndToEndId))
     ++ padded 35 (value MndtId)
     ++ padded 34 (value DbtrIban)
     ++ padded 34 (value CdtrIban)

@@ -2,11 +2,14 @@
 use Prim.Native.Nat.{ℕ}
 use Prim.Native.String.{String}
 use mathlib.Core.List.{List, [], _∷_}
+use mathlib.Core.Bool.{Bool}
+use Rattle.text.specs.Truth.{either}
+use Rattle.text.specs.Quoted.{alike}
 use Rattle.codes.specs.declared.Element.the-variants as code
 use Rattle.tags.specs.Tags.{plainTag}
 use Rattle.profile.specs.declared.Kind.{Kind}
 use Rattle.profile.specs.declared.Kind.the-variants.{Plain, Count, Total, Amount, Code}
-use Rattle.profile.specs.declared.Simple.the-variants.{Reference, Text70, Text140, Date, Time, Bic, Iban, Identifier}
+use Rattle.profile.specs.declared.Simple.the-variants.{Reference, EndToEnd, Text70, Text140, Date, Time, Bic, Iban, Identifier}
 use Rattle.profile.specs.declared.Field.the-variants.{
   MsgId,
   CreDtTm,
@@ -63,7 +66,7 @@ abbrev pub item : Version → List Child
 item v =
     "PmtId" holds
     ("InstrId" mayBe InstrId of Plain Reference
-    ∷ "EndToEndId" is EndToEndId of Plain Reference
+    ∷ "EndToEndId" is EndToEndId of Plain EndToEnd
     ∷ "TxId" is TxId of Plain Reference
     ∷ [])
     ∷ "PmtTpInf" holds
@@ -118,6 +121,9 @@ profile v =
     ∷ itemName repeats item v
     ∷ [])) (end "Document")
 
--- the count's start tag
+-- the count's start tag; and a start tag of a value that is collapsed
 abbrev pub countTag : List ℕ
 countTag = plainTag "NbOfTxs"
+
+unfoldable pub wordsTag : List ℕ → Bool
+wordsTag t = either (alike (plainTag "EndToEndId") t) (either (alike (plainTag "Nm") t) (alike (plainTag "Ustrd") t))

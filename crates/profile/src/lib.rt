@@ -7,7 +7,7 @@ ghost use Rattle.tags.specs.Tags.{look, exactly};
 ghost use Rattle.profile.specs.Version.{v02, root};
 ghost use Rattle.profile.specs.Fields.{fieldNumber};
 ghost use Rattle.profile.specs.Kinds.{isAmount};
-ghost use Rattle.profile.specs.Profile.{countTag};
+ghost use Rattle.profile.specs.Profile.{countTag, wordsTag};
 
 // Limits 1 and 12.
 pub const MOST_BYTES: usize = 16_777_216;
@@ -17,6 +17,7 @@ pub const MOST_ITEMS: u64 = 10_000;
 // The kinds whose checker answers yes or a refusal.
 pub enum Simple {
     Reference,
+    EndToEnd,
     Text70,
     Text140,
     Date,
@@ -134,4 +135,17 @@ pub fn is_count(tag: &[u8]) -> bool
     ensures { λ r. ⌜ r ≡ alike countTag (now (tag .entry)) ⌝ }
 {
     text::same(b"<NbOfTxs>", tag)
+}
+
+// Whether a tag is the start tag of a value that is collapsed.
+pub fn is_words(tag: &[u8]) -> bool
+    ensures { λ r. ⌜ r ≡ wordsTag (now (tag .entry)) ⌝ }
+{
+    if text::same(b"<EndToEndId>", tag) {
+        return true;
+    }
+    if text::same(b"<Nm>", tag) {
+        return true;
+    }
+    text::same(b"<Ustrd>", tag)
 }

@@ -12,6 +12,8 @@ use Rattle.text.proofs.Scan.{rest-of, lead-le}
 use Rattle.text.proofs.Truths.{never}
 use Rattle.tags.specs.Values.{inValue, valueAt}
 use Rattle.profile.specs.declared.Field.the-variants.{TxId, EndToEndId, MndtId, DbtrIban, CdtrIban, DbtrBic, ReqdColltnDt, SeqTp, CdtrId, CdtrBic}
+use Rattle.words.specs.Collapsed.{collapsed}
+use Rattle.words.specs.Walk.{overwritten}
 use Rattle.postings.specs.Record.{recordLength, padded, digits}
 use Rattle.notes.specs.declared.Notes.{Notes}
 use Rattle.records.specs.Engine.{fieldAt, recordOf, laid}
@@ -56,6 +58,9 @@ module _ (m : List ℕ) (start width : ℕ) where
     pub field-long : width ≤ n → take width (take (length m - start) (drop start m)) ≡ take width (valueAt m start)
     field-long h = rw (rest-of start m) (rw (← n-is) (sym (take-take width n (drop start m) h)))
 
+    pub field-whole : take n (take (length m - start) (drop start m)) ≡ valueAt m start
+    field-whole = rw (rest-of start m) (rw n-is)
+
 -- ---- the record as far as it is written: its fields, and spaces behind them
 pub record So (at : ℕ) (d r : List ℕ) : Type 0 where
   pub is : r ≡ d ++ replicate (recordLength - at) 32
@@ -89,6 +94,32 @@ take-padded (suc w) n (c ∷ v) h =
 padded-is : (w : ℕ) (v : List ℕ) → padded w v ≡ take w v ++ replicate (w - length (take w v)) 32
 unfolding padded
 padded-is w v = take-padded w w v (omega arith)
+
+-- a collapsed value written into a field of spaces
+pub field-written : (w : ℕ) (v : List ℕ) → overwritten v (replicate w 32) ≡ padded w v
+unfolding overwritten
+field-written w v =
+    let z : w - length v ≡ w - length (take w v) = omega (arith, length-take w v) in
+    rw (length-replicate {A = ℕ} w 32, drop-replicate (length v) w 32, z) (sym (padded-is w v))
+
+pub none-written : (w : ℕ) (v : List ℕ) → v ≡ [] → replicate w 32 ≡ padded w v
+unfolding padded
+none-written w v e = rw e (sym (take-all w (replicate w 32) (omega (arith, length-replicate {A = ℕ} w 32))))
+
+-- EndToEndId, where nothing stands at its place, and where something does
+module _ (m : List ℕ) (start : ℕ) where
+  abbrev collapsedAt : List ℕ
+  collapsedAt = collapsed (valueAt m start)
+
+  pub end-none : length m < start → replicate 35 32 ≡ padded 35 collapsedAt
+  unfolding collapsed
+  end-none h =
+      let g : length m ≤ start = omega arith in
+      none-written 35 collapsedAt (rw (drop-of-length-le m g))
+
+  pub end-written : (n : ℕ) → n ≡ lead inValue (take (length m - start) (drop start m)) → (x : List ℕ) → x ≡ overwritten (collapsed (take n (take (length m - start) (drop start m)))) (replicate 35 32)
+      → x ≡ padded 35 collapsedAt
+  end-written n e x g = g ∙ ap (λ (v : List ℕ). overwritten (collapsed v) (replicate 35 32)) (field-whole m start 35 n e) ∙ field-written 35 collapsedAt
 
 module _ {at : ℕ} {d r : List ℕ} (s : So at d r) where
   -- whatever is laid next
@@ -133,7 +164,7 @@ blank = record { is = refl; long = refl }
 module _ (m : List ℕ) (n : Notes) where
   pub whole : {r0 r1 r2 r3 r4 r5 r6 r7 r8 r9 r10 : List ℕ}
       → r0 ≡ laid 0 (take 35 (fieldAt m n TxId)) (replicate recordLength 32)
-      → r1 ≡ laid 35 (take 35 (fieldAt m n EndToEndId)) r0
+      → r1 ≡ laid 35 (padded 35 (collapsed (fieldAt m n EndToEndId))) r0
       → r2 ≡ laid 70 (take 35 (fieldAt m n MndtId)) r1
       → r3 ≡ laid 105 (take 34 (fieldAt m n DbtrIban)) r2
       → r4 ≡ laid 139 (take 34 (fieldAt m n CdtrIban)) r3
@@ -147,7 +178,7 @@ module _ (m : List ℕ) (n : Notes) where
   unfolding recordOf
   whole e0 e1 e2 e3 e4 e5 e6 e7 e8 e9 e10 =
       let s0 = next-padded blank 35 (fieldAt m n TxId) (omega arith) e0 in
-      let s1 = next-padded s0 35 (fieldAt m n EndToEndId) (omega arith) e1 in
+      let s1 = next-whole s0 35 (padded 35 (collapsed (fieldAt m n EndToEndId))) (length-padded 35 (collapsed (fieldAt m n EndToEndId))) e1 in
       let s2 = next-padded s1 35 (fieldAt m n MndtId) (omega arith) e2 in
       let s3 = next-padded s2 34 (fieldAt m n DbtrIban) (omega arith) e3 in
       let s4 = next-padded s3 34 (fieldAt m n CdtrIban) (omega arith) e4 in

@@ -10,7 +10,8 @@ ghost use lib.ListN.{length, take, drop, getD};
 ghost use Rattle.tags.specs.Values.{valueAt};
 ghost use Rattle.profile.specs.Fields.{fieldNumber};
 ghost use Rattle.reading.specs.Items.{theItems};
-ghost use Rattle.postings.specs.Record.{recordLength, digits};
+ghost use Rattle.words.specs.Collapsed.{collapsed};
+ghost use Rattle.postings.specs.Record.{recordLength, padded, digits};
 ghost use Rattle.postings.specs.Area.{recordsFor, recorded};
 ghost use Rattle.judge.specs.Verdict.{meant};
 ghost use Rattle.records.specs.Engine.{recordOf, laid, Room};
@@ -64,6 +65,20 @@ fn put(
     lay(rec, at, &s[..width])
 }
 
+// EndToEndId, from where its start was noted up to the next `<`, collapsed, laid at its offset.
+fn put_end_to_end(rec: [u8; LENGTH], m: &[u8], start: usize) -> [u8; LENGTH]
+    ensures { λ r. ⌜ r ≡ laid 35 (padded 35 (collapsed (valueAt (now (m .entry)) start))) rec ⌝ }
+{
+    let mut field = [32; 35];
+    if m.len() < start {
+        return lay(rec, 35, &field);
+    }
+    let s = &m[start..];
+    let n = tags::upto(s);
+    words::collapse(&s[..n], &mut field);
+    lay(rec, 35, &field)
+}
+
 // The cents as 11 digits, laid at their offset.
 fn put_cents(rec: [u8; LENGTH], cents: u64) -> [u8; LENGTH]
     ensures { λ r. ⌜ r ≡ laid 184 (digits 11 cents) rec ⌝ }
@@ -86,7 +101,7 @@ fn make_record(m: &[u8], n: Notes) -> [u8; LENGTH]
     let s = n.starts;
     let mut rec = [32; LENGTH];
     rec = put(rec, 0, 35, m, s, Field::TxId);
-    rec = put(rec, 35, 35, m, s, Field::EndToEndId);
+    rec = put_end_to_end(rec, m, start_of(s, Field::EndToEndId));
     rec = put(rec, 70, 35, m, s, Field::MndtId);
     rec = put(rec, 105, 34, m, s, Field::DbtrIban);
     rec = put(rec, 139, 34, m, s, Field::CdtrIban);

@@ -29,7 +29,7 @@ use Rattle.tags.specs.Values.{inValue}
 use Rattle.profile.specs.declared.Kind.{Kind}
 use Rattle.profile.specs.declared.Kind.the-variants.{Plain, Count, Total, Amount, Code}
 use Rattle.profile.specs.declared.Simple.{Simple}
-use Rattle.profile.specs.declared.Simple.the-variants.{Reference, Text70, Text140, Date, Time, Bic, Iban, Identifier}
+use Rattle.profile.specs.declared.Simple.the-variants.{Reference, EndToEnd, Text70, Text140, Date, Time, Bic, Iban, Identifier}
 use Rattle.kinds.specs.Given.{simpleGiven, kindGiven}
 use Rattle.documents.specs.Holds.{Passes}
 use Rattle.replaced.proofs.Beside.{Solid}
@@ -135,6 +135,7 @@ unwatched f (exchanged p q a b (inr at) da db ne x y) = f (suc (length p)) at
 pub plain-slip : (s : Simple) (v w : List ℕ) → Slip (Plain s) v w → Passes (simpleGiven s v) → simpleGiven s w ≡ refused 8
 unfolding simpleGiven
 plain-slip Reference v w s g = absurd (unwatched (λ x h. h) s)
+plain-slip EndToEnd v w s g = absurd (unwatched (λ x h. h) s)
 plain-slip Text70 v w s g = absurd (unwatched (λ x h. h) s)
 plain-slip Text140 v w s g = absurd (unwatched (λ x h. h) s)
 plain-slip Date v w s g = absurd (unwatched (λ x h. h) s)
@@ -217,6 +218,7 @@ value-solid Total {v} s g = amount-first v (amount-form theTotal v g)
 value-solid Amount {v} s g = amount-first v (amount-form anItem v g)
 value-solid (Code e) s g = absurd (unwatched (λ x h. h) s)
 value-solid (Plain Reference) s g = absurd (unwatched (λ x h. h) s)
+value-solid (Plain EndToEnd) s g = absurd (unwatched (λ x h. h) s)
 value-solid (Plain Text70) s g = absurd (unwatched (λ x h. h) s)
 value-solid (Plain Text140) s g = absurd (unwatched (λ x h. h) s)
 value-solid (Plain Date) s g = absurd (unwatched (λ x h. h) s)

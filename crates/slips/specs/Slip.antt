@@ -10,7 +10,7 @@ use Rattle.text.specs.Classes.{digit}
 use Rattle.profile.specs.declared.Kind.{Kind}
 use Rattle.profile.specs.declared.Kind.the-variants.{Plain, Count, Total, Amount, Code}
 use Rattle.profile.specs.declared.Simple.{Simple}
-use Rattle.profile.specs.declared.Simple.the-variants.{Reference, Text70, Text140, Date, Time, Bic, Iban, Identifier}
+use Rattle.profile.specs.declared.Simple.the-variants.{Reference, EndToEnd, Text70, Text140, Date, Time, Bic, Iban, Identifier}
 use Rattle.profile.specs.declared.Field.{Field}
 use Rattle.reading.specs.Trace.{value, Entry, _at_, message}
 use Rattle.reading.specs.Noted.{noted}
@@ -21,6 +21,7 @@ use Rattle.reading.specs.Items.{notesOf}
 -- the places of a value, counted from 0, at which a slip is always found: all of a count, a total, an amount and an IBAN; of an identifier those outside positions 5 to 7
 abbrev pub WatchedIn : Simple → ℕ → Type 0
 WatchedIn Reference i = ⊥
+WatchedIn EndToEnd i = ⊥
 WatchedIn Text70 i = ⊥
 WatchedIn Text140 i = ⊥
 WatchedIn Date i = ⊥

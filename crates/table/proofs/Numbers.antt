@@ -7,7 +7,7 @@ use lib.ListN.{length, getD, List·getD-eq-default}
 use Rattle.codes.specs.declared.Element.the-variants as code
 use Rattle.profile.specs.declared.Kind.{Kind}
 use Rattle.profile.specs.declared.Kind.the-variants.{Plain, Count, Total, Amount, Code}
-use Rattle.profile.specs.declared.Simple.the-variants.{Reference, Text70, Text140, Date, Time, Bic, Iban, Identifier}
+use Rattle.profile.specs.declared.Simple.the-variants.{Reference, EndToEnd, Text70, Text140, Date, Time, Bic, Iban, Identifier}
 use Rattle.profile.specs.declared.Field.{Field}
 use Rattle.profile.specs.declared.Field.the-variants as field
 use Rattle.profile.specs.Fields.{fields, fieldNumber}
@@ -28,9 +28,9 @@ outside : {A : Type 0} (l : List A) (d : A) → getD l 0 d ≡ d → (n : ℕ) �
 outside l d e zero h = sym e
 outside l d e (suc n) h = sym (List·getD-eq-default l d (h (omega arith)))
 
-pub other-kind : (n : ℕ) → None 2 n 16 → Plain Reference ≡ kindOf n
+pub other-kind : (n : ℕ) → None 2 n 17 → Plain Reference ≡ kindOf n
 unfolding kindOf
-other-kind n h = outside kinds (Plain Reference) refl (n - 2) (λ g. omega (arith, beyond 2 n 16 h (omega arith)))
+other-kind n h = outside kinds (Plain Reference) refl (n - 2) (λ g. omega (arith, beyond 2 n 17 h (omega arith)))
 
 pub other-field : (n : ℕ) → None 0 n 26 → field.MsgId ≡ fieldOf n
 unfolding fieldOf
@@ -51,6 +51,7 @@ pub record Numbers (k : Kind) (n : ℕ) : Type 0 where
 pub kind-numbers : (k : Kind) → Numbers k (kindInTable k)
 unfolding kindOf
 kind-numbers (Plain Reference) = record { kind = omega arith; judged = refl; amount = refl }
+kind-numbers (Plain EndToEnd) = record { kind = omega arith; judged = refl; amount = refl }
 kind-numbers Total = record { kind = omega arith; judged = refl; amount = refl }
 kind-numbers Amount = record { kind = omega arith; judged = refl; amount = refl }
 kind-numbers Count = record { kind = omega arith; judged = refl; amount = refl }

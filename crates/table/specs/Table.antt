@@ -11,7 +11,7 @@ use Rattle.tags.specs.Tags.{exactly, endTag, plainTag, amountTag, currency}
 use Rattle.profile.specs.declared.Kind.{Kind}
 use Rattle.profile.specs.declared.Kind.the-variants.{Plain, Count, Total, Amount, Code}
 use Rattle.profile.specs.declared.Simple.{Simple}
-use Rattle.profile.specs.declared.Simple.the-variants.{Reference, Text70, Text140, Date, Time, Bic, Iban, Identifier}
+use Rattle.profile.specs.declared.Simple.the-variants.{Reference, EndToEnd, Text70, Text140, Date, Time, Bic, Iban, Identifier}
 use Rattle.profile.specs.declared.Field.{Field}
 use Rattle.profile.specs.declared.Field.the-variants.{MsgId}
 use Rattle.profile.specs.Version.{Version}
@@ -42,6 +42,7 @@ kinds =
     ∷ Code code.the-variants.SeqTp
     ∷ Code code.the-variants.ChrgBr
     ∷ Code code.the-variants.Prtry
+    ∷ Plain EndToEnd
     ∷ []
 
 unfoldable pub kindOf : ℕ → Kind
@@ -49,6 +50,7 @@ kindOf n = getD kinds (n - 2) (Plain Reference)
 
 abbrev simpleInTable : Simple → ℕ
 simpleInTable Reference = 2
+simpleInTable EndToEnd = 19
 simpleInTable Text70 = 6
 simpleInTable Text140 = 7
 simpleInTable Date = 8

@@ -100,7 +100,7 @@ const TABLE: [[u16; COLUMNS]; ROWS] = [
     [264, 14, 0, 1, 2, 82, 0], // 16 DrctDbtTxInf
     [278, 7, 0, 1, 0, 22, 0], // 17 PmtId
     [285, 9, 10, 2, 1, 19, 7], // 18 InstrId
-    [304, 12, 13, 2, 0, 20, 8], // 19 EndToEndId
+    [304, 12, 13, 19, 0, 20, 8], // 19 EndToEndId
     [329, 6, 7, 2, 0, 21, 9], // 20 TxId
     [342, 0, 8, 0, 0, 0, 0], // 21 /PmtId
     [350, 10, 0, 1, 0, 31, 0], // 22 PmtTpInf
@@ -236,6 +236,7 @@ pub fn kind_of(n: u16) -> Kind
         16 => Kind::Code(Element::SeqTp),
         17 => Kind::Code(Element::ChrgBr),
         18 => Kind::Code(Element::Prtry),
+        19 => Kind::Plain(Simple::EndToEnd),
         _ => Kind::Plain(Simple::Reference),
     }
 }

@@ -11,6 +11,7 @@ enum Kind {
     Date,
     Time,
     Reference,
+    EndToEnd,
     Text70,
     Text140,
     Count,
@@ -68,6 +69,9 @@ fn kind_of(name: &[u8]) -> Kind {
     if is_same(name, b"reference") {
         return Kind::Reference;
     }
+    if is_same(name, b"end_to_end") {
+        return Kind::EndToEnd;
+    }
     if is_same(name, b"text70") {
         return Kind::Text70;
     }
@@ -95,6 +99,7 @@ fn ask(kind: Kind, value: &[u8], answer: &mut [u64; 3]) {
         Kind::Date => bulk::bulk_date(value, answer),
         Kind::Time => bulk::bulk_time(value, answer),
         Kind::Reference => bulk::bulk_reference(value, answer),
+        Kind::EndToEnd => bulk::bulk_end_to_end(value, answer),
         Kind::Text70 => bulk::bulk_text70(value, answer),
         Kind::Text140 => bulk::bulk_text140(value, answer),
         Kind::Count => bulk::bulk_count(value, answer),

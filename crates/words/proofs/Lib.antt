@@ -1,2 +1,8 @@
-pub mod Forms
+pub mod White
+pub mod Runs
+pub mod Ends
+pub mod Collapsed
 pub mod Slashes
+pub mod Walk
+pub mod Forms
+pub mod Legal

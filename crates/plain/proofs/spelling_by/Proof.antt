@@ -1,7 +1,7 @@
 -- `plain::spelling_by` meets its contract.
 use borrow.Author.Needs.{needs}
 use Rattle.text.proofs.Truths.{yes-of, no-of, yes-not, no-not}
-use Rattle.plain.proofs.Scans.{spelling-closed, spelling-open, spelling-count, spelling-amount, spelling-read}
+use Rattle.plain.proofs.Scans.{spelling-closed, spelling-open, spelling-count, spelling-amount, spelling-words, spelling-read}
 use Rattle.plain.proofs.spelling_by.Statement.{statement}
 use Rattle.plain.proofs.spelling_by.Tie as tie
 
@@ -33,10 +33,18 @@ returns-4 c =
     spelling-amount (c .before .before .before .before .before .before .before .before .before .before .args .tag .now) (c .before .before .before .before .before .before .before .before .before .before .args .next .now) (no-of (c .before .before .before .before .before .before .before .is-end .ensures) (c .before .before .before .before .before .before .if1 .left)) (yes-not (c .before .before .before .before .before .is-end2 .ensures) (c .before .before .before .before .if2 .left))
     (no-of (c .before .before .before .is-count .ensures) (c .before .before .if3 .left)) (yes-of (c .before .is-quoted .ensures) (c .if4 .taken))
 
+is-words-requires : tie.Need-is-words-requires
+is-words-requires c κs = search needs
+
 returns-5 : tie.Need-returns-5
 returns-5 c =
-    spelling-read (c .before .before .before .before .before .before .before .before .before .before .args .tag .now) (c .before .before .before .before .before .before .before .before .before .before .args .next .now) (no-of (c .before .before .before .before .before .before .before .is-end .ensures) (c .before .before .before .before .before .before .if1 .left)) (yes-not (c .before .before .before .before .before .is-end2 .ensures) (c .before .before .before .before .if2 .left))
-    (no-of (c .before .before .before .is-count .ensures) (c .before .before .if3 .left)) (no-of (c .before .is-quoted .ensures) (c .if4 .left))
+    spelling-words (c .before .before .before .before .before .before .before .before .before .before .before .before .args .tag .now) (c .before .before .before .before .before .before .before .before .before .before .before .before .args .next .now) (no-of (c .before .before .before .before .before .before .before .before .before .is-end .ensures) (c .before .before .before .before .before .before .before .before .if1 .left)) (yes-not (c .before .before .before .before .before .before .before .is-end2 .ensures) (c .before .before .before .before .before .before .if2 .left))
+    (no-of (c .before .before .before .before .before .is-count .ensures) (c .before .before .before .before .if3 .left)) (no-of (c .before .before .before .is-quoted .ensures) (c .before .before .if4 .left)) (yes-of (c .before .is-words .ensures) (c .if5 .taken))
+
+returns-6 : tie.Need-returns-6
+returns-6 c =
+    spelling-read (c .before .before .before .before .before .before .before .before .before .before .before .before .args .tag .now) (c .before .before .before .before .before .before .before .before .before .before .before .before .args .next .now) (no-of (c .before .before .before .before .before .before .before .before .before .is-end .ensures) (c .before .before .before .before .before .before .before .before .if1 .left)) (yes-not (c .before .before .before .before .before .before .before .is-end2 .ensures) (c .before .before .before .before .before .before .if2 .left))
+    (no-of (c .before .before .before .before .before .is-count .ensures) (c .before .before .before .before .if3 .left)) (no-of (c .before .before .before .is-quoted .ensures) (c .before .before .if4 .left)) (no-of (c .before .is-words .ensures) (c .if5 .left))
 
 pub spelling-by-spec : {M : Type 1} → statement M
 spelling-by-spec =
@@ -50,4 +58,6 @@ spelling-by-spec =
     returns-3
     is-quoted-requires
     returns-4
-    returns-5)
+    is-words-requires
+    returns-5
+    returns-6)

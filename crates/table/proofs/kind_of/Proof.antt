@@ -69,7 +69,11 @@ unfolding kindOf
 returns-16 c = rw (c .match .keys16)
 
 returns-17 : tie.Need-returns-17
-returns-17 c = other-kind (c .before .args .n) (c .match .rest)
+unfolding kindOf
+returns-17 c = rw (c .match .keys17)
+
+returns-18 : tie.Need-returns-18
+returns-18 c = other-kind (c .before .args .n) (c .match .rest)
 
 pub kind-of-spec : {M : Type 1} → statement M
 kind-of-spec =
@@ -91,4 +95,5 @@ kind-of-spec =
     returns-14
     returns-15
     returns-16
-    returns-17)
+    returns-17
+    returns-18)

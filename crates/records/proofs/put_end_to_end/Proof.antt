@@ -1,0 +1,74 @@
+-- `records::put_end_to_end` meets its contract: the value collapsed, and none.
+use borrow.Author.Needs.{needs}
+use mathlib.Core.Path.{_∙_, ap, sym}
+use mathlib.Core.List.{List}
+use Prim.Native.Nat.{ℕ}
+use lib.Seq.{length-take-le}
+use Rattle.records.specs.Engine.{laid}
+use Rattle.records.proofs.Fields.{held, end-none, end-written}
+use Rattle.records.proofs.put_end_to_end.Statement.{statement}
+use Rattle.records.proofs.put_end_to_end.Tie as tie
+
+slice-aggregate-lay : tie.Need-slice-aggregate-lay
+slice-aggregate-lay c = search needs
+
+lay-requires : tie.Need-lay-requires
+lay-requires c κs = search needs
+
+returns : tie.Need-returns
+returns c =
+    let a = c .before .before .before .before .args in
+    c .lay .ensures ∙ ap (λ (l : List ℕ). laid 35 l (a .rec)) (end-none (a .m .now) (a .start) (c .before .before .if1 .taken))
+
+sub-s : tie.Need-sub-s
+sub-s c = search needs
+
+part-s-start : tie.Need-part-s-start
+part-s-start c = search needs
+
+part-s-end : tie.Need-part-s-end
+part-s-end c = search needs
+
+upto-requires : tie.Need-upto-requires
+upto-requires c κs = search needs
+
+slice-aggregate-collapse : tie.Need-slice-aggregate-collapse
+slice-aggregate-collapse c =
+    let a = c .before .before .before .before .before .args in
+    sym (length-take-le _ _ (held (a .m .now) (a .start) 35 (c .before .upto .result) (c .before .upto .ensures)))
+
+slice-aggregate-collapse-2 : tie.Need-slice-aggregate-collapse-2
+slice-aggregate-collapse-2 c = search needs
+
+collapse-requires : tie.Need-collapse-requires
+collapse-requires c κs = search needs
+
+slice-aggregate-lay-2 : tie.Need-slice-aggregate-lay-2
+slice-aggregate-lay-2 c = search needs
+
+lay-requires-2 : tie.Need-lay-requires-2
+lay-requires-2 c κs = search needs
+
+returns-2 : tie.Need-returns-2
+returns-2 c =
+    let a = c .before .before .before .before .before .before .before .before .before .before .args in
+    let the-upto = c .before .before .before .before .before .before .upto in
+    c .lay2 .ensures ∙ ap (λ (l : List ℕ). laid 35 l (a .rec)) (end-written (a .m .now) (a .start) (the-upto .result) (the-upto .ensures) _ (c .before .before .before .collapse .ensures))
+
+pub put-end-to-end-spec : {M : Type 1} → statement M
+put-end-to-end-spec =
+    tie.close
+    (tie.spec
+    slice-aggregate-lay
+    lay-requires
+    returns
+    sub-s
+    part-s-start
+    part-s-end
+    upto-requires
+    slice-aggregate-collapse
+    slice-aggregate-collapse-2
+    collapse-requires
+    slice-aggregate-lay-2
+    lay-requires-2
+    returns-2)
