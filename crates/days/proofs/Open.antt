@@ -45,11 +45,11 @@ open-added e b h = rw (add-one (b .number), take-suc-set (b .entries) (b .number
 -- ---- one entry less: the others in their order
 without-long : (k : Key) (l : List Entry) → isOpen k l ≡ true → suc (length (without k l)) ≡ length l
 without-long k [] e = never (cc)
-without-long k (x ∷ l) e = go (hasKey k x) e
+without-long k (x ∷ l) e = go (hasKey k x) (without-long k l) e
   where
-    go : (t : Bool) → either t (isOpen k l) ≡ true → suc (length (pick t l (x ∷ without k l))) ≡ suc (length l)
-    go true h = refl
-    go false h = ap suc (without-long k l h)
+    go : (t : Bool) → (isOpen k l ≡ true → suc (length (without k l)) ≡ length l) → either t (isOpen k l) ≡ true → suc (length (pick t l (x ∷ without k l))) ≡ suc (length l)
+    go true r h = refl
+    go false r h = ap suc (r h)
 
 pub open-lessened : (k : Key) (b : Book) → b .number ≤ length (b .entries) → isOpen k (openIn b) ≡ true → openIn (lessened k b) ≡ without k (openIn b)
 open-lessened k b h e =
@@ -68,8 +68,9 @@ sum-more (x ∷ l) e = omega (arith, sum-more l e)
 
 pub sum-less : (k : Key) (l : List Entry) → isOpen k l ≡ true → sumOf (without k l) + centsOf k l ≡ sumOf l
 sum-less k [] e = never (cc)
-sum-less k (x ∷ l) e = go (hasKey k x) e
+sum-less k (x ∷ l) e = go (hasKey k x) (sum-less k l) e
   where
-    go : (t : Bool) → either t (isOpen k l) ≡ true → sumOf (pick t l (x ∷ without k l)) + pick t (x .cents) (centsOf k l) ≡ x .cents + sumOf l
-    go true h = omega arith
-    go false h = omega (arith, sum-less k l h)
+    go : (t : Bool) → (isOpen k l ≡ true → sumOf (without k l) + centsOf k l ≡ sumOf l) → either t (isOpen k l) ≡ true
+        → sumOf (pick t l (x ∷ without k l)) + pick t (x .cents) (centsOf k l) ≡ x .cents + sumOf l
+    go true r h = omega arith
+    go false r h = omega (arith, r h)
