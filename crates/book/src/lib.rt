@@ -12,7 +12,8 @@ ghost use Rattle.book.specs.Code.{callAs, answerFor, answerOf, outcomeOf
 // How many bulks are open at most, and how many places a book has at least.
 pub const MOST: usize = 64;
 
-// An open bulk: its key and its cents.
+// An open bulk: its key and its cents. It has the layout of C, since the face lends it.
+#[repr(C)]
 pub struct Entry {
     pub key: [u8; keys::LENGTH],
     pub cents: u64,
@@ -311,6 +312,13 @@ pub fn entering(message: &[u8]) -> Call
             entry: Entry { key, cents },
         },
     }
+}
+
+// A key where it lies.
+pub fn key_at(key: &[u8; keys::LENGTH]) -> [u8; keys::LENGTH]
+    ensures { λ r. ⌜ r ≡ now (key .entry) ⌝ }
+{
+    *key
 }
 
 // The call that withdraws a key.

@@ -4,10 +4,22 @@
 --   a message is accepted        0, its count, its cents
 --   an item lies                 0, the place of its `<`, the place behind its `>`
 --   refused                      the refusal's number, its place, 0
+-- and for each call of the day book:
+--   a bulk is entered or withdrawn   0, the number open afterwards, the bulk's cents
+--   the open total                   0, the number open, the cents
+--   the lent book is one             0, 0, 0
+--   an entry has the key             0, 1, its place
+--   none has it                      0, 0, 0
+--   refused                          the refusal's number, its place, 0
 use Prim.Native.Nat.{ℕ}
+use mathlib.Core.Bool.{Bool, true, false}
 use mathlib.Core.List.{List, [], _∷_}
+use lib.Dec.{eqb}
+use Rattle.text.specs.Truth.{pick}
 use Rattle.answers.specs.Given.{Given, yes, worth, refused}
 use Rattle.reading.specs.Verdict.{Judged, accepted, refused as denied, Located, lies, notThere}
+use Rattle.book.specs.declared.Answer.{Answer}
+use Rattle.book.specs.declared.Found.{Found}
 
 abbrev pub told : Given → List ℕ
 told yes = 0 ∷ 0 ∷ 0 ∷ []
@@ -21,3 +33,12 @@ toldVerdict (denied number place) = number ∷ place ∷ 0 ∷ []
 abbrev pub toldExtent : Located → List ℕ
 toldExtent (lies from to) = 0 ∷ from ∷ to ∷ []
 toldExtent (notThere number place) = number ∷ place ∷ 0 ∷ []
+
+abbrev pub toldCall : Answer → List ℕ
+toldCall a = pick (eqb (a .number) 0) (0 ∷ a .opened ∷ a .cents ∷ []) (a .number ∷ a .place ∷ 0 ∷ [])
+
+abbrev pub toldIs : Answer → List ℕ
+toldIs a = a .number ∷ a .place ∷ 0 ∷ []
+
+abbrev pub toldFound : Found → List ℕ
+toldFound r = pick (r .found) (0 ∷ 1 ∷ r .at ∷ []) (r .number ∷ r .place ∷ 0 ∷ [])
