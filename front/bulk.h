@@ -52,6 +52,39 @@ void bulk_count(const uint8_t *value, size_t length, uint64_t answer[BULK_ANSWER
 void bulk_item_amount(const uint8_t *value, size_t length, uint64_t answer[BULK_ANSWER]);
 void bulk_header_amount(const uint8_t *value, size_t length, uint64_t answer[BULK_ANSWER]);
 
+/* ---- The day book.
+ *
+ * The open bulks are a lent list of entries and the number open, the open ones first in order of entry. The caller keeps both; an empty
+ * book is 64 places, whatever they hold, and 0 open. Each call first looks whether what is lent is a book: at least 64 places, at most 64
+ * open, no two open keys equal, the open sums together at most 99999999999999999; if not it is 29, 0, 0 and everything as lent.
+ *
+ * An entry has 72 bytes: its key at 0, its cents at 64 in the machine's order; the four bytes between them are not read. A key has 60
+ * bytes: service (LclInstrm) 4, MsgId 35, instructing BIC 11, settlement date 10, each with spaces behind it. */
+#define BULK_KEY 60
+#define BULK_BOOK 64
+
+typedef struct bulk_entry {
+    uint8_t key[BULK_KEY];
+    uint64_t cents;
+} bulk_entry;
+
+/* A message is entered: 0, the number open afterwards, the bulk's cents, and its entry stands behind the open ones; or number, place, 0
+ * and the book is as lent: 29; the judge's own with his place; 20 its key is open already; 21 64 are open. */
+void bulk_book_enter(bulk_entry *entries, size_t places, size_t opened, const uint8_t *message, size_t length, uint64_t answer[BULK_ANSWER]);
+
+/* A key is withdrawn: 0, the number open afterwards, the bulk's cents, and the later ones stand one place further down; places past the
+ * open ones keep what they held. Or number, 0, 0 and the book is as lent: 29; 22 the key is not open. */
+void bulk_book_withdraw(bulk_entry *entries, size_t places, size_t opened, const uint8_t key[BULK_KEY], uint64_t answer[BULK_ANSWER]);
+
+/* The first open entry with the key: 0, 1, its place from 0; 0, 0, 0 where there is none; or 29, 0, 0. */
+void bulk_book_find(const bulk_entry *entries, size_t places, size_t opened, const uint8_t key[BULK_KEY], uint64_t answer[BULK_ANSWER]);
+
+/* The open total: 0, the number open, the cents; or 29, 0, 0. */
+void bulk_book_total(const bulk_entry *entries, size_t places, size_t opened, uint64_t answer[BULK_ANSWER]);
+
+/* Whether what is lent is a book: 0, 0, 0; or 29, 0, 0. */
+void bulk_book_check(const bulk_entry *entries, size_t places, size_t opened, uint64_t answer[BULK_ANSWER]);
+
 #ifdef __cplusplus
 }
 #endif

@@ -108,6 +108,100 @@ static void check_records(const uint8_t *message, size_t length, const uint8_t r
     }
 }
 
+/* Whether two lists of places hold the same, byte for byte of what is an entry. */
+static int same_places(const bulk_entry *a, const bulk_entry *b, size_t places)
+{
+    for (size_t i = 0; i < places; i++)
+        if (memcmp(a[i].key, b[i].key, BULK_KEY) != 0 || a[i].cents != b[i].cents)
+            return 0;
+    return 1;
+}
+
+/* Holds a book to what it must be. */
+static void hold_book(const char *what, const bulk_entry *book, const bulk_entry *must, size_t places)
+{
+    if (!same_places(book, must, places)) {
+        printf("%s: the book is not as it must be\n", what);
+        wrong++;
+    }
+}
+
+/* The example with two other characters at the beginning of its MsgId, and its entry. */
+static void name_anew(uint8_t *message, bulk_entry *entry, size_t i)
+{
+    static const char key[] = "COREMSG/1                              BANKDEFF   2010-12-03";
+    uint8_t *id = message + behind(message, "<MsgId>");
+    memcpy(entry->key, key, BULK_KEY);
+    entry->cents = 1234;
+    id[0] = entry->key[4] = (uint8_t)('A' + i / 10);
+    id[1] = entry->key[5] = (uint8_t)('0' + i % 10);
+}
+
+/* A day: 64 bulks are entered, a 65th is not; one is withdrawn and entered again. Two places lie past the 64. */
+static void check_book(uint8_t *message, size_t length)
+{
+    static bulk_entry book[BULK_BOOK + 2], must[BULK_BOOK + 2], entry;
+    uint64_t answer[BULK_ANSWER];
+    if (sizeof(bulk_entry) != 72 || (const uint8_t *)&entry.cents - (const uint8_t *)&entry != 64) {
+        printf("an entry has another layout\n");
+        wrong++;
+    }
+    memset(book, 7, sizeof book);
+    memset(must, 7, sizeof must);
+    bulk_book_total(book, BULK_BOOK + 2, 0, answer);
+    hold("total, an empty book", answer, 0, 0, 0);
+    for (size_t i = 0; i < BULK_BOOK; i++) {
+        name_anew(message, &must[i], i);
+        bulk_book_enter(book, BULK_BOOK + 2, i, message, length, answer);
+        hold("enter", answer, 0, i + 1, 1234);
+        hold_book("enter", book, must, BULK_BOOK + 2);
+        bulk_book_enter(book, BULK_BOOK + 2, i + 1, message, length, answer);
+        hold("enter, open already", answer, 20, 0, 0);
+    }
+    name_anew(message, &entry, 64);
+    bulk_book_enter(book, BULK_BOOK + 2, 64, message, length, answer);
+    hold("enter, 64 open", answer, 21, 0, 0);
+    bulk_book_enter(book, BULK_BOOK + 2, 64, message, length - 1, answer);
+    hold("enter, refused by the judge", answer, 3, length - 1, 0);
+    bulk_book_find(book, BULK_BOOK + 2, 64, entry.key, answer);
+    hold("find, none", answer, 0, 0, 0);
+    bulk_book_withdraw(book, BULK_BOOK + 2, 64, entry.key, answer);
+    hold("withdraw, not open", answer, 22, 0, 0);
+    hold_book("refusals", book, must, BULK_BOOK + 2);
+    bulk_book_total(book, BULK_BOOK + 2, 64, answer);
+    hold("total", answer, 0, 64, 64 * 1234);
+    entry = must[10];
+    bulk_book_find(book, BULK_BOOK + 2, 64, entry.key, answer);
+    hold("find", answer, 0, 1, 10);
+    bulk_book_withdraw(book, BULK_BOOK + 2, 64, entry.key, answer);
+    hold("withdraw", answer, 0, 63, 1234);
+    memmove(must + 10, must + 11, 53 * sizeof(bulk_entry));
+    hold_book("withdraw", book, must, BULK_BOOK + 2);
+    name_anew(message, &entry, 10);
+    bulk_book_enter(book, BULK_BOOK + 2, 63, message, length, answer);
+    hold("enter again", answer, 0, 64, 1234);
+    must[63] = entry;
+    hold_book("enter again", book, must, BULK_BOOK + 2);
+    bulk_book_check(book, BULK_BOOK + 2, 64, answer);
+    hold("check", answer, 0, 0, 0);
+    bulk_book_check(book, BULK_BOOK - 1, 3, answer);
+    hold("check, 63 places", answer, 29, 0, 0);
+    bulk_book_check(book, BULK_BOOK + 2, 65, answer);
+    hold("check, 65 open", answer, 29, 0, 0);
+    book[5].cents = 99999999999999999 - 3 * 1234;
+    book[3] = book[5];
+    bulk_book_check(book, BULK_BOOK + 2, 6, answer);
+    hold("check, two keys equal", answer, 29, 0, 0);
+    book[3] = must[3];
+    bulk_book_total(book + 2, BULK_BOOK, 4, answer);
+    hold("total, the highest", answer, 0, 4, 99999999999999999);
+    bulk_book_total(book + 1, BULK_BOOK, 5, answer);
+    hold("total, above", answer, 29, 0, 0);
+    book[4].cents = UINT64_MAX;
+    bulk_book_withdraw(book, BULK_BOOK + 2, 6, must[0].key, answer);
+    hold("withdraw, sums that would wrap", answer, 29, 0, 0);
+}
+
 int main(int words, char **word)
 {
     static uint8_t message[65536], record[BULK_RECORD + 1];
@@ -119,5 +213,6 @@ int main(int words, char **word)
     check_values();
     check_message(message, length);
     check_records(message, length, record);
+    check_book(message, length);
     return wrong ? 1 : 0;
 }

@@ -68,9 +68,11 @@ reference-held v h =
 pub bic-held : (v : List ℕ) → Passes (bicGiven v) → Held 11 v
 unfolding bicGiven bicForm capital capitalOrDigit among
 bic-held v h =
-    let p = passes _ (passed (bicForm v) 7 yes h) in
-    (long (either-true (eqb (length v) 8) (eqb (length v) 11) (p 0)), every-parts noSpace 6 v (every-no capital refl (take 6 v) (p 1))
-    (rest (drop 6 v) (ap (among "A-Z 2-9") (getD-drop 6 v 0 0) ∙ p 2) (ap (among "A-N P-Z 0-9") (getD-drop 6 v 1 0) ∙ p 3) (ap (every capitalOrDigit) (drop-drop 2 6 v) ∙ p 4)))
+    let p = passes _ (passed (bicForm v) 7 yes h) in (
+      long (either-true (eqb (length v) 8) (eqb (length v) 11) (p 0)),
+      every-parts noSpace 6 v (every-no capital refl (take 6 v) (p 1))
+          (rest (drop 6 v) (ap (among "A-Z 2-9") (getD-drop 6 v 0 0) ∙ p 2) (ap (among "A-N P-Z 0-9") (getD-drop 6 v 1 0) ∙ p 3) (ap (every capitalOrDigit) (drop-drop 2 6 v) ∙ p 4)),
+    )
   where
     long : (eqb (length v) 8 ≡ true) ⊎ (eqb (length v) 11 ≡ true) → length v ≤ 11
     long (inl e) = omega (arith, eqb-true (length v) 8 e)

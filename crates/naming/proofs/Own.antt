@@ -154,8 +154,14 @@ module _ (m : List ℕ) (n c : ℕ) (e : judged m ≡ accepted n c) where
       let one : 1 ≤ length (valuesAt field.LclInstrm (whats (flat t))) =
       surely m field.LclInstrm (profile (read .version)) (service-sure (read .version)) (read .place) (read .ended .at) (goes-whole t [] (read .ended) (read .reads)) in
       let k = service-kind (doc .version) in
-      omega (arith, ap (λ (l : List What). length (valuesAt field.LclInstrm l)) z, one, weight-field field.LclInstrm ws, weight-kind (Code LclInstrm) ws,
-      fewer ws (as-often (aStranger field.LclInstrm aService) 0 (profile (doc .version)) (k .0) (doc .document .inside) proper ∙ k .1))
+      omega (
+        arith,
+        ap (λ (l : List What). length (valuesAt field.LclInstrm l)) z,
+        one,
+        weight-field field.LclInstrm ws,
+        weight-kind (Code LclInstrm) ws,
+        fewer ws (as-often (aStranger field.LclInstrm aService) 0 (profile (doc .version)) (k .0) (doc .document .inside) proper ∙ k .1),
+      )
 
   pub four : Four
   four = record { service = firstOf [] (valuesOf (Code LclInstrm) ws); id = lastOf [] (valuesAt MsgId ws); bic = lastOf [] (valuesAt InstgBic ws); date = lastOf [] (valuesAt IntrBkSttlmDt ws) }

@@ -113,7 +113,7 @@ module _ {M : Type 1} (𝓤 : URA M) (H : Heap 𝓤) (A : Atoms 𝓤) (W : Given
       qed W ((‵ (flft κ q) ⊛ ‵ ftrue) ∷ ‵ (owns (ShrSlice (named 0) κ R ∷ usize ∷ MutRef (named 0) κ AW ∷ []) x at) ∷ []) ∵ enter ! (𝓣 .C) (𝓣 .Λ) code.function (sliceVal (b₁, o₁) (length ys) ∷ vint w64 n ∷ vptr b₄ o₄ ∷ []) _ $
       allocs-all ! slots _ (λ p. params1 ! $ pass1 ! (init ! 10 refl (tt, (tt, (record { fits = gn .0 }, tt)))) $ pass1 ! (init ! 8 refl (tt, record { fits = n-fits })) $ pass1 ! (init ! 6 refl (tt, tt)) $ pass0 ! $
       -- what each parameter owns; a shared one is had twice
-      move ! (15 ∷ []) $ fsplit ! $ use1 W (‵ (ShrSlice (named 0) κ R .own y1 (sliceVal (b₁, o₁) (length ys) ∷ [])) ⊛ ‵ (ShrSlice (named 0) κ R .own y1 (sliceVal (b₁, o₁) (length ys) ∷ []))) (shr-slice-copy 𝓤 H A W (named 0) κ R .twice y1 (sliceVal (b₁, o₁) (length ys) ∷ [])) $ split ! $ move ! (2 ∷ []) $ fsplit ! $ move ! (1 ∷ []) $ fsplit ! $ 
+      move ! (15 ∷ []) $ fsplit ! $ use1 W (‵ (ShrSlice (named 0) κ R .own y1 (sliceVal (b₁, o₁) (length ys) ∷ [])) ⊛ ‵ (ShrSlice (named 0) κ R .own y1 (sliceVal (b₁, o₁) (length ys) ∷ []))) (shr-slice-copy 𝓤 H A W (named 0) κ R .twice y1 (sliceVal (b₁, o₁) (length ys) ∷ [])) $ split ! $ move ! (2 ∷ []) $ fsplit ! $ move ! (1 ∷ []) $ fsplit ! $
       move ! (19 ∷ 3 ∷ []) $ use2 W (raw (Ask 𝓤 H A mem run .pre ak-at)) ak-asks $
       calls-at ! (fmOf 𝓤 H (W .laws) 𝓣) (Ask 𝓤 H A mem run) (known .to-ak) ak-at (and-then ! (load ! (from ! (stop !)) (look ! 15 refl)) (and-then ! (load ! (from ! (stop !)) (look ! 13 refl)) (no-more !))) (λ v₄.
       use1 W (later (some (λ (r : Answer). ((‵ (flft κ q) ⊛ ‵ ftrue) ⊛ ‵ (N.the-row .own r (v₄ ∷ []))) ⊛ raw (ensured 𝓤 H A ak.ended (ak.clauses 𝓤 H A mem run) (κ, tt) (y1, (n, tt)) tt r)))) (id⊢ 𝓤 _) $ await ! tt $ pick ! (λ r₄.
@@ -128,8 +128,8 @@ module _ {M : Type 1} (𝓤 : URA M) (H : Heap 𝓤) (A : Atoms 𝓤) (W : Given
       split ! $ move ! (1 ∷ []) $ heard ! (zs .0 ≡ Words r₄) (λ e-te. fsplit ! $ move ! (2 ∷ []) $ split ! $ move ! (1 ∷ []) $ peeks ! unit (Is unit) (shows 𝓤 H A unit) r′ (w ∷ []) (λ gw. let-go ! $
       land ! (from ! (stop !)) (init ! 8 refl (nothing-lawful 𝓤 H A W .typed r′ (w ∷ []) gw .0)) $
       assigns ! (of-opd ! (unit-lit !)) (from ! (stop !)) (init ! 18 refl (tt, tt)) $
-      returns ! (look ! 18 refl) $ forget ! 18 refl $ forget ! 16 refl $ forget ! 14 refl $ forget ! 12 refl $ forget ! 10 refl $ forget ! 8 refl $ forget ! 6 refl $ 
-      move ! (18 ∷ 19 ∷ 16 ∷ 17 ∷ 14 ∷ 15 ∷ 12 ∷ 13 ∷ 10 ∷ 11 ∷ 8 ∷ 9 ∷ 6 ∷ 7 ∷ []) $ frees-all ! slots p $ keep ! (0 ∷ 5 ∷ 1 ∷ []) $ 
+      returns ! (look ! 18 refl) $ forget ! 18 refl $ forget ! 16 refl $ forget ! 14 refl $ forget ! 12 refl $ forget ! 10 refl $ forget ! 8 refl $ forget ! 6 refl $
+      move ! (18 ∷ 19 ∷ 16 ∷ 17 ∷ 14 ∷ 15 ∷ 12 ∷ 13 ∷ 10 ∷ 11 ∷ 8 ∷ 9 ∷ 6 ∷ 7 ∷ []) $ frees-all ! slots p $ keep ! (0 ∷ 5 ∷ 1 ∷ []) $
       by ! (exits (zs .0) (e-te ∙ ap Words e₁))))))))))))
 
 module _ {M : Type 1} (𝓤 : URA M) (H : Heap 𝓤) (A : Atoms 𝓤) (W : Given 𝓤 H A) (mem : Memory → SProp 𝓤) (run : Routine → Fun 𝓤) (𝓣 : Tables 𝓤 H) (known : Known 𝓤 H A mem run 𝓣) where

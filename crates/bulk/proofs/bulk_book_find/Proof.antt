@@ -130,7 +130,7 @@ module _ {M : Type 1} (𝓤 : URA M) (H : Heap 𝓤) (A : Atoms 𝓤) (W : Given
       qed W ((‵ (flft κ q) ⊛ ‵ ftrue) ∷ ‵ (owns (ShrSlice (named 0) κ R ∷ usize ∷ ShrRef (named 0) κ KR ∷ MutRef (named 0) κ AW ∷ []) x at) ∷ []) ∵ enter ! (𝓣 .C) (𝓣 .Λ) code.function (sliceVal (b₁, o₁) (length ys) ∷ vint w64 n ∷ vptr b₃ o₃ ∷ vptr b₄ o₄ ∷ []) _ $
       allocs-all ! slots _ (λ p. params1 ! $ pass1 ! (init ! 14 refl (tt, (tt, (record { fits = gn .0 }, tt)))) $ pass1 ! (init ! 12 refl (tt, record { fits = n-fits })) $ pass1 ! (init ! 10 refl (tt, tt)) $ pass1 ! (init ! 8 refl (tt, tt)) $ pass0 ! $
       -- what each parameter owns; a shared one is had twice
-      move ! (19 ∷ []) $ fsplit ! $ use1 W (‵ (ShrSlice (named 0) κ R .own y1 (sliceVal (b₁, o₁) (length ys) ∷ [])) ⊛ ‵ (ShrSlice (named 0) κ R .own y1 (sliceVal (b₁, o₁) (length ys) ∷ []))) (shr-slice-copy 𝓤 H A W (named 0) κ R .twice y1 (sliceVal (b₁, o₁) (length ys) ∷ [])) $ split ! $ move ! (2 ∷ []) $ fsplit ! $ move ! (1 ∷ []) $ fsplit ! $ use1 W (‵ (ShrRef (named 0) κ KR .own y3 (vptr b₃ o₃ ∷ [])) ⊛ ‵ (ShrRef (named 0) κ KR .own y3 (vptr b₃ o₃ ∷ []))) (shr-copy 𝓤 H A W (named 0) κ KR .twice y3 (vptr b₃ o₃ ∷ [])) $ split ! $ move ! (2 ∷ []) $ fsplit ! $ 
+      move ! (19 ∷ []) $ fsplit ! $ use1 W (‵ (ShrSlice (named 0) κ R .own y1 (sliceVal (b₁, o₁) (length ys) ∷ [])) ⊛ ‵ (ShrSlice (named 0) κ R .own y1 (sliceVal (b₁, o₁) (length ys) ∷ []))) (shr-slice-copy 𝓤 H A W (named 0) κ R .twice y1 (sliceVal (b₁, o₁) (length ys) ∷ [])) $ split ! $ move ! (2 ∷ []) $ fsplit ! $ move ! (1 ∷ []) $ fsplit ! $ use1 W (‵ (ShrRef (named 0) κ KR .own y3 (vptr b₃ o₃ ∷ [])) ⊛ ‵ (ShrRef (named 0) κ KR .own y3 (vptr b₃ o₃ ∷ []))) (shr-copy 𝓤 H A W (named 0) κ KR .twice y3 (vptr b₃ o₃ ∷ [])) $ split ! $ move ! (2 ∷ []) $ fsplit ! $
       move ! (25 ∷ 2 ∷ []) $ use2 W (raw (KeyAt 𝓤 H A mem run .pre ka-at)) ka-asks $
       calls-at ! (fmOf 𝓤 H (W .laws) 𝓣) (KeyAt 𝓤 H A mem run) (known .to-ka) ka-at (and-then ! (load ! (from ! (stop !)) (look ! 17 refl)) (no-more !)) (λ v₅.
       use1 W (later (some (λ (r : List ℕ). ((‵ (flft κ q) ⊛ ‵ ftrue) ⊛ ‵ (KR .own r (v₅ ∷ []))) ⊛ raw (ensured 𝓤 H A ka.ended (ka.clauses 𝓤 H A mem run) (κ, tt) (y3, tt) tt r)))) (id⊢ 𝓤 _) $ await ! tt $ pick ! (λ k.
@@ -151,8 +151,8 @@ module _ {M : Type 1} (𝓤 : URA M) (H : Heap 𝓤) (A : Atoms 𝓤) (W : Given
       split ! $ move ! (1 ∷ []) $ heard ! (zs .0 ≡ Words r₆) (λ e-te. fsplit ! $ move ! (2 ∷ []) $ split ! $ move ! (1 ∷ []) $ peeks ! unit (Is unit) (shows 𝓤 H A unit) r′ (w ∷ []) (λ gw. let-go ! $
       land ! (from ! (stop !)) (init ! 9 refl (nothing-lawful 𝓤 H A W .typed r′ (w ∷ []) gw .0)) $
       assigns ! (of-opd ! (unit-lit !)) (from ! (stop !)) (init ! 23 refl (tt, tt)) $
-      returns ! (look ! 23 refl) $ forget ! 23 refl $ forget ! 21 refl $ forget ! 19 refl $ forget ! 17 refl $ forget ! 15 refl $ forget ! 13 refl $ forget ! 11 refl $ forget ! 9 refl $ forget ! 7 refl $ 
-      move ! (23 ∷ 24 ∷ 21 ∷ 22 ∷ 19 ∷ 20 ∷ 17 ∷ 18 ∷ 15 ∷ 16 ∷ 13 ∷ 14 ∷ 11 ∷ 12 ∷ 9 ∷ 10 ∷ 7 ∷ 8 ∷ []) $ frees-all ! slots p $ keep ! (0 ∷ 6 ∷ 4 ∷ 1 ∷ []) $ 
+      returns ! (look ! 23 refl) $ forget ! 23 refl $ forget ! 21 refl $ forget ! 19 refl $ forget ! 17 refl $ forget ! 15 refl $ forget ! 13 refl $ forget ! 11 refl $ forget ! 9 refl $ forget ! 7 refl $
+      move ! (23 ∷ 24 ∷ 21 ∷ 22 ∷ 19 ∷ 20 ∷ 17 ∷ 18 ∷ 15 ∷ 16 ∷ 13 ∷ 14 ∷ 11 ∷ 12 ∷ 9 ∷ 10 ∷ 7 ∷ 8 ∷ []) $ frees-all ! slots p $ keep ! (0 ∷ 6 ∷ 4 ∷ 1 ∷ []) $
       by ! (exits (zs .0) (said k r₆ (zs .0) e₁ e₂ e-te))))))))))))))))
 
 module _ {M : Type 1} (𝓤 : URA M) (H : Heap 𝓤) (A : Atoms 𝓤) (W : Given 𝓤 H A) (mem : Memory → SProp 𝓤) (run : Routine → Fun 𝓤) (𝓣 : Tables 𝓤 H) (known : Known 𝓤 H A mem run 𝓣) where

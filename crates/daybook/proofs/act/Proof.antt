@@ -212,8 +212,8 @@ module _ {M : Type 1} (𝓤 : URA M) (H : Heap 𝓤) (A : Atoms 𝓤) (W : Given
         N.the-row (λ u. ensured 𝓤 H A an.ended (an.clauses 𝓤 H A mem run) tt (out, tt) tt u) (λ _. id⊢ 𝓤 _) (λ u. u ≡ out .answer) (λ u. exE 𝓤 _ (λ ws. snd∗ 𝓤 (sem 𝓤 H A (lasts an.ended tt (out, tt) ws)) (fact 𝓤 (u ≡ out .answer))))
         (and-then ! (load ! (from ! (stop !)) (look ! 20 refl)) (no-more !)) (λ a v₀ ga e₅.
         land ! (from ! (stop !)) (init ! 31 refl (LL.lawful N.the-type N′.the-laws 𝓤 H A W .typed a (v₀ ∷ []) ga .0)) $
-        returns ! (look ! 31 refl) $ forget ! 7 refl $ forget ! 9 refl $ forget ! 11 refl $ forget ! 13 refl $ forget ! 15 refl $ forget ! 17 refl $ forget ! 19 refl $ forget ! 21 refl $ forget ! 23 refl $ forget ! 25 refl $ forget ! 27 refl $ forget ! 29 refl $ forget ! 31 refl $ 
-        move ! (31 ∷ 32 ∷ 29 ∷ 30 ∷ 27 ∷ 28 ∷ 25 ∷ 26 ∷ 23 ∷ 24 ∷ 21 ∷ 22 ∷ 19 ∷ 20 ∷ 17 ∷ 18 ∷ 15 ∷ 16 ∷ 13 ∷ 14 ∷ 11 ∷ 12 ∷ 9 ∷ 10 ∷ 7 ∷ 8 ∷ []) $ frees-all ! slots p $ keep ! (0 ∷ 1 ∷ []) $ 
+        returns ! (look ! 31 refl) $ forget ! 7 refl $ forget ! 9 refl $ forget ! 11 refl $ forget ! 13 refl $ forget ! 15 refl $ forget ! 17 refl $ forget ! 19 refl $ forget ! 21 refl $ forget ! 23 refl $ forget ! 25 refl $ forget ! 27 refl $ forget ! 29 refl $ forget ! 31 refl $
+        move ! (31 ∷ 32 ∷ 29 ∷ 30 ∷ 27 ∷ 28 ∷ 25 ∷ 26 ∷ 23 ∷ 24 ∷ 21 ∷ 22 ∷ 19 ∷ 20 ∷ 17 ∷ 18 ∷ 15 ∷ 16 ∷ 13 ∷ 14 ∷ 11 ∷ 12 ∷ 9 ∷ 10 ∷ 7 ∷ 8 ∷ []) $ frees-all ! slots p $ keep ! (0 ∷ 1 ∷ []) $
         by ! (exits a v₀ (zs .0) ga l (told r out bs a (zs .0) e₁ e₂ e₃ e₄ e₅ (gb .1 .0 .1)))))))))))))))))))
 
 module _ {M : Type 1} (𝓤 : URA M) (H : Heap 𝓤) (A : Atoms 𝓤) (W : Given 𝓤 H A) (mem : Memory → SProp 𝓤) (run : Routine → Fun 𝓤) (𝓣 : Tables 𝓤 H) (known : Known 𝓤 H A mem run 𝓣) where

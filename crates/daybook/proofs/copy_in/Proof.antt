@@ -106,47 +106,47 @@ module _ {M : Type 1} (𝓤 : URA M) (H : Heap 𝓤) (A : Atoms 𝓤) (W : Given
       -- the slice's row, the array's, what a turn changes; then what no turn touches
       abbrev At : ℕ → List (Item 𝓤)
       At i = ‵ (row R q′ ys b o) ∷ ‵ (row R fullShare (mix i ys xs₀) (p .1 .1 .1 .0) 0) ∷ ‵ (fat fullShare word (p .1 .1 .1 .1 .0) 0 (vint w64 i)) ∷ ‵ (froom tyBool (p .1 .1 .1 .1 .1 .1 .1 .0) 0) ∷ ‵ (froom word (p .1 .1 .1 .1 .1 .1 .1 .1 .0) 0) ∷ ‵ (froom tyPtr (p .1 .1 .1 .1 .1 .1 .1 .1 .1 .0) 0) ∷ ‵ (froom E′.mir (p .1 .1 .1 .1 .1 .1 .1 .1 .1 .1 .0) 0) ∷ ‵ (froom word (p .1 .1 .1 .1 .1 .1 .1 .1 .1 .1 .1 .0) 0) ∷ ‵ (froom tyPtr (p .1 .1 .1 .1 .1 .1 .1 .1 .1 .1 .1 .1 .0) 0) ∷ ‵ (froom tyPtr (p .1 .1 .1 .1 .1 .1 .1 .1 .1 .1 .1 .1 .1 .0) 0)
-        ∷ ‵ (fat fullShare slice (p .1 .0) 0 (sliceVal (b, o) (length ys))) ∷ ‵ (fat fullShare word (p .1 .1 .0) 0 (vint w64 n)) ∷ ‵ (froom word (p .1 .1 .1 .1 .1 .0) 0) ∷ ‵ (froom E′.mir (p .1 .1 .1 .1 .1 .1 .0) 0) ∷ ‵ (froom aty (p .0) 0)
-        ∷ ‵ (fobor κ q (arr-parts (shares R) (length ys) .part q′ ys b o)) ∷ ‵ (fshr-bor κ (λ s. arr-parts (shares R) (length ys) .part s ys b o)) ∷ ‵ (fres γ (codedHoleys R .code (heres R ys)))
-        ∷ ‵ (fdies aty (p .0)) ∷ ‵ (fdies slice (p .1 .0)) ∷ ‵ (fdies word (p .1 .1 .0)) ∷ ‵ (fdies aty (p .1 .1 .1 .0)) ∷ ‵ (fdies word (p .1 .1 .1 .1 .0)) ∷ ‵ (fdies word (p .1 .1 .1 .1 .1 .0)) ∷ ‵ (fdies E′.mir (p .1 .1 .1 .1 .1 .1 .0)) ∷ ‵ (fdies tyBool (p .1 .1 .1 .1 .1 .1 .1 .0)) ∷ ‵ (fdies word (p .1 .1 .1 .1 .1 .1 .1 .1 .0)) ∷ ‵ (fdies tyPtr (p .1 .1 .1 .1 .1 .1 .1 .1 .1 .0)) ∷ ‵ (fdies E′.mir (p .1 .1 .1 .1 .1 .1 .1 .1 .1 .1 .0)) ∷ ‵ (fdies word (p .1 .1 .1 .1 .1 .1 .1 .1 .1 .1 .1 .0)) ∷ ‵ (fdies tyPtr (p .1 .1 .1 .1 .1 .1 .1 .1 .1 .1 .1 .1 .0)) ∷ ‵ (fdies tyPtr (p .1 .1 .1 .1 .1 .1 .1 .1 .1 .1 .1 .1 .1 .0)) ∷ []
+          ∷ ‵ (fat fullShare slice (p .1 .0) 0 (sliceVal (b, o) (length ys))) ∷ ‵ (fat fullShare word (p .1 .1 .0) 0 (vint w64 n)) ∷ ‵ (froom word (p .1 .1 .1 .1 .1 .0) 0) ∷ ‵ (froom E′.mir (p .1 .1 .1 .1 .1 .1 .0) 0) ∷ ‵ (froom aty (p .0) 0)
+          ∷ ‵ (fobor κ q (arr-parts (shares R) (length ys) .part q′ ys b o)) ∷ ‵ (fshr-bor κ (λ s. arr-parts (shares R) (length ys) .part s ys b o)) ∷ ‵ (fres γ (codedHoleys R .code (heres R ys)))
+          ∷ ‵ (fdies aty (p .0)) ∷ ‵ (fdies slice (p .1 .0)) ∷ ‵ (fdies word (p .1 .1 .0)) ∷ ‵ (fdies aty (p .1 .1 .1 .0)) ∷ ‵ (fdies word (p .1 .1 .1 .1 .0)) ∷ ‵ (fdies word (p .1 .1 .1 .1 .1 .0)) ∷ ‵ (fdies E′.mir (p .1 .1 .1 .1 .1 .1 .0)) ∷ ‵ (fdies tyBool (p .1 .1 .1 .1 .1 .1 .1 .0)) ∷ ‵ (fdies word (p .1 .1 .1 .1 .1 .1 .1 .1 .0)) ∷ ‵ (fdies tyPtr (p .1 .1 .1 .1 .1 .1 .1 .1 .1 .0)) ∷ ‵ (fdies E′.mir (p .1 .1 .1 .1 .1 .1 .1 .1 .1 .1 .0)) ∷ ‵ (fdies word (p .1 .1 .1 .1 .1 .1 .1 .1 .1 .1 .1 .0)) ∷ ‵ (fdies tyPtr (p .1 .1 .1 .1 .1 .1 .1 .1 .1 .1 .1 .1 .0)) ∷ ‵ (fdies tyPtr (p .1 .1 .1 .1 .1 .1 .1 .1 .1 .1 .1 .1 .1 .0)) ∷ []
 
       abbrev Left : Out → SProp 𝓤
       Left = afterBlock 𝓤 H (afterSeq 𝓤 H (Wp 𝓤 H C Λ En m.t-7 (atReturn 𝓤 H En Post)) (atReturn 𝓤 H En Post))
 
       finish : (i : ℕ) → i ≡ n → ent 𝓤 (⋆ 𝓤 H A (At i)) (Wp 𝓤 H C Λ En m.t-7 (atReturn 𝓤 H En Post))
       finish i e =
-        qed W (At i) ∵ exec ! C Λ En m.t-7 (atRet En Post) $
-        move ! (1 ∷ []) $ array-back ! (mix i ys xs₀) (filled i) (p .1 .1 .1 .0) (λ ga.
-        assigns ! (of-opd ! (load ! (from ! (stop !)) (look ! 0 refl))) (from ! (stop !)) (init ! 14 refl (atyped 𝓤 H A W (mix i ys xs₀) ga)) $
-        move ! (1 ∷ 15 ∷ []) $ shuts-slice ! tt R q′ ys b o $
-        returns ! (look ! 14 refl) $ forget ! 1 refl $ forget ! 2 refl $ forget ! 10 refl $ forget ! 11 refl $ forget ! 14 refl $ 
-        move ! (14 ∷ 17 ∷ 10 ∷ 18 ∷ 11 ∷ 19 ∷ 1 ∷ 20 ∷ 2 ∷ 21 ∷ 12 ∷ 22 ∷ 13 ∷ 23 ∷ 3 ∷ 24 ∷ 4 ∷ 25 ∷ 5 ∷ 26 ∷ 6 ∷ 27 ∷ 7 ∷ 28 ∷ 8 ∷ 29 ∷ 9 ∷ 30 ∷ []) $ frees-all ! slots p $ by ! (exits (mix i ys xs₀) ga (all i e)))
+          qed W (At i) ∵ exec ! C Λ En m.t-7 (atRet En Post) $
+          move ! (1 ∷ []) $ array-back ! (mix i ys xs₀) (filled i) (p .1 .1 .1 .0) (λ ga.
+          assigns ! (of-opd ! (load ! (from ! (stop !)) (look ! 0 refl))) (from ! (stop !)) (init ! 14 refl (atyped 𝓤 H A W (mix i ys xs₀) ga)) $
+          move ! (1 ∷ 15 ∷ []) $ shuts-slice ! tt R q′ ys b o $
+          returns ! (look ! 14 refl) $ forget ! 1 refl $ forget ! 2 refl $ forget ! 10 refl $ forget ! 11 refl $ forget ! 14 refl $
+          move ! (14 ∷ 17 ∷ 10 ∷ 18 ∷ 11 ∷ 19 ∷ 1 ∷ 20 ∷ 2 ∷ 21 ∷ 12 ∷ 22 ∷ 13 ∷ 23 ∷ 3 ∷ 24 ∷ 4 ∷ 25 ∷ 5 ∷ 26 ∷ 6 ∷ 27 ∷ 7 ∷ 28 ∷ 8 ∷ 29 ∷ 9 ∷ 30 ∷ []) $ frees-all ! slots p $ by ! (exits (mix i ys xs₀) ga (all i e)))
 
       -- a turn that copies one entry
       more : (i : ℕ) (X : SProp 𝓤) → i < n → ent 𝓤 (⋆ 𝓤 H A (At (i + 1))) X → ent 𝓤 (⋆ 𝓤 H A (At i)) (Wp 𝓤 H C Λ En m.turn-1 (afterTurn 𝓤 H X Left))
       unfolding afterTurn
       more i X l next =
-        qed W (At i) ∵ exec ! C Λ En m.turn-1 (anyQ (afterTurn 𝓤 H X Left)) $
-        assigns ! (bin ! (load ! (from ! (stop !)) (look ! 2 refl)) (load ! (from ! (stop !)) (look ! 11 refl)) tt) (from ! (stop !)) (init ! 3 refl (tt, tt)) $
-        rewrite ! 3 (λ (t : Bool). ‵ (fat fullShare tyBool (p .1 .1 .1 .1 .1 .1 .1 .0) 0 (vbool t))) (lt-ltb i n l) refl $ stays ! (load ! (from ! (stop !)) (look ! 3 refl)) $
-        -- the slice's entry is read
-        assigns ! (bin ! (load ! (from ! (stop !)) (look ! 2 refl)) (lit ! tt) (record { fits = offset-fits })) (from ! (stop !)) (init ! 4 refl (tt, record { fits = offset-fits })) $
-        assigns ! (bin ! (load ! (from ! (fld ! refl (stop !))) (look-in ! 10 (sub ! 0 refl (whole !)))) (load ! (from ! (stop !)) (look ! 4 refl)) tt) (from ! (stop !)) (init ! 5 refl (tt, tt)) $
-        rewrite ! 5 (λ (z : ℕ). ‵ (fat fullShare tyPtr (p .1 .1 .1 .1 .1 .1 .1 .1 .1 .0) 0 (vptr b z))) (sym (place-is 72 o i)) refl $
-        elem-out ! R (Is R) (shows 𝓤 H A R) vals tells q′ ys i noEntry b o in-slice (λ g.
-        assigns ! (of-opd ! (load ! (from ! (hop ! (look ! 7 refl) (stop !))) (look-raw ! 0 refl))) (from ! (stop !)) (init ! 8 refl (LL.lawful E.the-type E′.the-laws 𝓤 H A W .typed elem (vals elem) g .0)) $
-        elem-back ! R q′ ys i noEntry (vals elem) b o in-slice $
-        -- and stored in the array
-        assigns ! (bin ! (load ! (from ! (stop !)) (look ! 2 refl)) (lit ! tt) (record { fits = offset-fits })) (from ! (stop !)) (init ! 7 refl (tt, record { fits = offset-fits })) $
-        assigns ! (addr ! (from ! (stop !))) (from ! (stop !)) (init ! 8 refl (tt, tt)) $
-        assigns ! (bin ! (load ! (from ! (stop !)) (look ! 8 refl)) (load ! (from ! (stop !)) (look ! 7 refl)) tt) (from ! (stop !)) (init ! 9 refl (tt, tt)) $
-        rewrite ! 9 (λ (z : ℕ). ‵ (fat fullShare tyPtr (p .1 .1 .1 .1 .1 .1 .1 .1 .1 .1 .1 .1 .1 .0) 0 (vptr (p .1 .1 .1 .0) z))) (sym (place-is 72 0 i)) refl $
-        move ! (1 ∷ []) $ elem-out ! R (Is R) (shows 𝓤 H A R) vals tells fullShare (mix i ys xs₀) i noEntry (p .1 .1 .1 .0) 0 in-array (λ _.
-        assigns ! (of-opd ! (load ! (from ! (stop !)) (look ! 8 refl))) (from ! (hop ! (look ! 11 refl) (stop !))) (store-raw ! 0 refl (LL.lawful E.the-type E′.the-laws 𝓤 H A W .typed elem (vals elem) g .0)) $
-        move ! (1 ∷ []) $ let-go ! $ owned ! R (Is R) (LL.makes E.the-type E′.the-plain 𝓤 H A) elem (vals elem) g $ move ! (1 ∷ 0 ∷ []) $ elem-put ! R fullShare (mix i ys xs₀) i elem (vals elem) (p .1 .1 .1 .0) 0 in-array $
-        rewrite ! 0 (λ (zs : List Entry). ‵ (row R fullShare zs (p .1 .1 .1 .0) 0)) (mix-set noEntry i ys xs₀ in-slice (omega (arith, length-replicate 64 z, fewer-right (length ys) 64))) refl $ move ! (1 ∷ []) $ 
-        assigns-last ! (bin ! (load ! (from ! (stop !)) (look ! 2 refl)) (lit ! tt) (record { fits = next-fits })) (from ! (stop !)) (store ! 2 refl (tt, record { fits = next-fits })) $
-        forget ! 3 refl $ forget ! 4 refl $ forget ! 5 refl $ forget ! 6 refl $ forget ! 7 refl $ forget ! 8 refl $ forget ! 9 refl $ by ! next))
+          qed W (At i) ∵ exec ! C Λ En m.turn-1 (anyQ (afterTurn 𝓤 H X Left)) $
+          assigns ! (bin ! (load ! (from ! (stop !)) (look ! 2 refl)) (load ! (from ! (stop !)) (look ! 11 refl)) tt) (from ! (stop !)) (init ! 3 refl (tt, tt)) $
+          rewrite ! 3 (λ (t : Bool). ‵ (fat fullShare tyBool (p .1 .1 .1 .1 .1 .1 .1 .0) 0 (vbool t))) (lt-ltb i n l) refl $ stays ! (load ! (from ! (stop !)) (look ! 3 refl)) $
+          -- the slice's entry is read
+          assigns ! (bin ! (load ! (from ! (stop !)) (look ! 2 refl)) (lit ! tt) (record { fits = offset-fits })) (from ! (stop !)) (init ! 4 refl (tt, record { fits = offset-fits })) $
+          assigns ! (bin ! (load ! (from ! (fld ! refl (stop !))) (look-in ! 10 (sub ! 0 refl (whole !)))) (load ! (from ! (stop !)) (look ! 4 refl)) tt) (from ! (stop !)) (init ! 5 refl (tt, tt)) $
+          rewrite ! 5 (λ (z : ℕ). ‵ (fat fullShare tyPtr (p .1 .1 .1 .1 .1 .1 .1 .1 .1 .0) 0 (vptr b z))) (sym (place-is 72 o i)) refl $
+          elem-out ! R (Is R) (shows 𝓤 H A R) vals tells q′ ys i noEntry b o in-slice (λ g.
+          assigns ! (of-opd ! (load ! (from ! (hop ! (look ! 7 refl) (stop !))) (look-raw ! 0 refl))) (from ! (stop !)) (init ! 8 refl (LL.lawful E.the-type E′.the-laws 𝓤 H A W .typed elem (vals elem) g .0)) $
+          elem-back ! R q′ ys i noEntry (vals elem) b o in-slice $
+          -- and stored in the array
+          assigns ! (bin ! (load ! (from ! (stop !)) (look ! 2 refl)) (lit ! tt) (record { fits = offset-fits })) (from ! (stop !)) (init ! 7 refl (tt, record { fits = offset-fits })) $
+          assigns ! (addr ! (from ! (stop !))) (from ! (stop !)) (init ! 8 refl (tt, tt)) $
+          assigns ! (bin ! (load ! (from ! (stop !)) (look ! 8 refl)) (load ! (from ! (stop !)) (look ! 7 refl)) tt) (from ! (stop !)) (init ! 9 refl (tt, tt)) $
+          rewrite ! 9 (λ (z : ℕ). ‵ (fat fullShare tyPtr (p .1 .1 .1 .1 .1 .1 .1 .1 .1 .1 .1 .1 .1 .0) 0 (vptr (p .1 .1 .1 .0) z))) (sym (place-is 72 0 i)) refl $
+          move ! (1 ∷ []) $ elem-out ! R (Is R) (shows 𝓤 H A R) vals tells fullShare (mix i ys xs₀) i noEntry (p .1 .1 .1 .0) 0 in-array (λ _.
+          assigns ! (of-opd ! (load ! (from ! (stop !)) (look ! 8 refl))) (from ! (hop ! (look ! 11 refl) (stop !))) (store-raw ! 0 refl (LL.lawful E.the-type E′.the-laws 𝓤 H A W .typed elem (vals elem) g .0)) $
+          move ! (1 ∷ []) $ let-go ! $ owned ! R (Is R) (LL.makes E.the-type E′.the-plain 𝓤 H A) elem (vals elem) g $ move ! (1 ∷ 0 ∷ []) $ elem-put ! R fullShare (mix i ys xs₀) i elem (vals elem) (p .1 .1 .1 .0) 0 in-array $
+          rewrite ! 0 (λ (zs : List Entry). ‵ (row R fullShare zs (p .1 .1 .1 .0) 0)) (mix-set noEntry i ys xs₀ in-slice (omega (arith, length-replicate 64 z, fewer-right (length ys) 64))) refl $ move ! (1 ∷ []) $
+          assigns-last ! (bin ! (load ! (from ! (stop !)) (look ! 2 refl)) (lit ! tt) (record { fits = next-fits })) (from ! (stop !)) (store ! 2 refl (tt, record { fits = next-fits })) $
+          forget ! 3 refl $ forget ! 4 refl $ forget ! 5 refl $ forget ! 6 refl $ forget ! 7 refl $ forget ! 8 refl $ forget ! 9 refl $ by ! next))
         where
           elem : Entry
           elem = getD ys i noEntry
@@ -166,10 +166,10 @@ module _ {M : Type 1} (𝓤 : URA M) (H : Heap 𝓤) (A : Atoms 𝓤) (W : Given
       ends : (i : ℕ) (X : SProp 𝓤) → i ≡ n → ent 𝓤 (⋆ 𝓤 H A (At i)) (Wp 𝓤 H C Λ En m.turn-1 (afterTurn 𝓤 H X Left))
       unfolding afterTurn
       ends i X e =
-        qed W (At i) ∵ exec ! C Λ En m.turn-1 (anyQ (afterTurn 𝓤 H X Left)) $
-        assigns ! (bin ! (load ! (from ! (stop !)) (look ! 2 refl)) (load ! (from ! (stop !)) (look ! 11 refl)) tt) (from ! (stop !)) (init ! 3 refl (tt, tt)) $
-        rewrite ! 3 (λ (t : Bool). ‵ (fat fullShare tyBool (p .1 .1 .1 .1 .1 .1 .1 .0) 0 (vbool t))) (le-ltb i n (omega arith)) refl $
-        leaves-loop ! (load ! (from ! (stop !)) (look ! 3 refl)) $ forget ! 3 refl $ by ! (finish i e)
+          qed W (At i) ∵ exec ! C Λ En m.turn-1 (anyQ (afterTurn 𝓤 H X Left)) $
+          assigns ! (bin ! (load ! (from ! (stop !)) (look ! 2 refl)) (load ! (from ! (stop !)) (look ! 11 refl)) tt) (from ! (stop !)) (init ! 3 refl (tt, tt)) $
+          rewrite ! 3 (λ (t : Bool). ‵ (fat fullShare tyBool (p .1 .1 .1 .1 .1 .1 .1 .0) 0 (vbool t))) (le-ltb i n (omega arith)) refl $
+          leaves-loop ! (load ! (from ! (stop !)) (look ! 3 refl)) $ forget ! 3 refl $ by ! (finish i e)
 
       turn : (i : ℕ) → i ≤ n → (X : SProp 𝓤) → ((j : ℕ) → j ≤ n → n - j < n - i → ent 𝓤 (⋆ 𝓤 H A (At j)) X) → ent 𝓤 (⋆ 𝓤 H A (At i)) (Wp 𝓤 H C Λ En m.turn-1 (afterTurn 𝓤 H X Left))
       turn i f X k = elim (lt-or-ge i n) [ inl l ↦ more i X l (k (i + 1) (omega arith) (omega arith)) | inr g ↦ ends i X (omega arith) ]
@@ -192,10 +192,10 @@ module _ {M : Type 1} (𝓤 : URA M) (H : Heap 𝓤) (A : Atoms 𝓤) (W : Given
       assigns ! (rep ! 64 (load ! (from ! (stop !)) (look ! 14 refl))) (from ! (stop !)) (init ! 20 refl (repeated-typed 𝓤 H A W z (one z v₆ gz₀))) $
       rewrite ! 20 (λ (v : Val). ‵ (fat fullShare aty (p .1 .1 .1 .0) 0 v)) (repeated-val z (one z v₆ gz₀)) refl $
       assigns ! (of-opd ! (lit ! tt)) (from ! (stop !)) (init ! 18 refl (tt, record { fits = lit< tt })) $
-      move ! (29 ∷ []) $ fsplit ! $ fsplit ! $ move ! (1 ∷ []) $ fsplit ! $ move ! (32 ∷ []) $ split ! $ move ! (3 ∷ 0 ∷ []) $ 
+      move ! (29 ∷ []) $ fsplit ! $ fsplit ! $ move ! (1 ∷ []) $ fsplit ! $ move ! (32 ∷ []) $ split ! $ move ! (3 ∷ 0 ∷ []) $
       looks-slice ! tt R (Is R) (shows 𝓤 H A R) vals tells (LL.copy E.the-type E′.the-copy 𝓤 H A W) ys b o (λ q′.
-      move ! (27 ∷ []) $ use1 W (‵ (row R fullShare (replicate 64 z) (p .1 .1 .1 .0) 0)) (array-out 𝓤 H A W (replicate 64 z) (repeated z (one z v₆ gz₀)) (p .1 .1 .1 .0)) $ forget ! 24 refl $ forget ! 22 refl $ 
-      keep ! (1 ∷ 0 ∷ 26 ∷ 20 ∷ 18 ∷ 16 ∷ 14 ∷ 12 ∷ 10 ∷ 8 ∷ 31 ∷ 29 ∷ 24 ∷ 22 ∷ 33 ∷ 2 ∷ 3 ∷ 5 ∷ 34 ∷ 32 ∷ 30 ∷ 28 ∷ 27 ∷ 25 ∷ 23 ∷ 21 ∷ 19 ∷ 17 ∷ 15 ∷ 13 ∷ 11 ∷ 9 ∷ []) $ 
+      move ! (27 ∷ []) $ use1 W (‵ (row R fullShare (replicate 64 z) (p .1 .1 .1 .0) 0)) (array-out 𝓤 H A W (replicate 64 z) (repeated z (one z v₆ gz₀)) (p .1 .1 .1 .0)) $ forget ! 24 refl $ forget ! 22 refl $
+      keep ! (1 ∷ 0 ∷ 26 ∷ 20 ∷ 18 ∷ 16 ∷ 14 ∷ 12 ∷ 10 ∷ 8 ∷ 31 ∷ 29 ∷ 24 ∷ 22 ∷ 33 ∷ 2 ∷ 3 ∷ 5 ∷ 34 ∷ 32 ∷ 30 ∷ 28 ∷ 27 ∷ 25 ∷ 23 ∷ 21 ∷ 19 ∷ 17 ∷ 15 ∷ 13 ∷ 11 ∷ 9 ∷ []) $
       rewrite ! 1 (λ (zs : List Entry). ‵ (row R fullShare zs (p .1 .1 .1 .0) 0)) (sym (mix-none ys (replicate 64 z))) refl $
       by ! (loops-by 𝓤 H A W 𝓣 (En 𝓣 n z ez e₂ (gn₂ .1) q′ p) m.turn-1 (Left 𝓣 n z ez e₂ (gn₂ .1) q′ p) (At 𝓣 n z ez e₂ (gn₂ .1) q′ p) (λ i. i ≤ n) (λ i. n - i) (turn 𝓣 n z ez e₂ (gn₂ .1) q′ p) 0 (omega arith))))))
 

@@ -89,47 +89,47 @@ module _ {M : Type 1} (𝓤 : URA M) (H : Heap 𝓤) (A : Atoms 𝓤) (W : Given
       -- the slice's row, the array's, what a turn changes; then what no turn touches
       abbrev At : ℕ → List (Item 𝓤)
       At i = ‵ (row R fullShare (mix i bs ys) b o) ∷ ‵ (row R fullShare bs (p .1 .1 .1 .0) 0) ∷ ‵ (fat fullShare word (p .1 .1 .1 .1 .1 .0) 0 (vint w64 i)) ∷ ‵ (froom tyBool (p .1 .1 .1 .1 .1 .1 .1 .0) 0) ∷ ‵ (froom word (p .1 .1 .1 .1 .1 .1 .1 .1 .0) 0) ∷ ‵ (froom tyPtr (p .1 .1 .1 .1 .1 .1 .1 .1 .1 .0) 0) ∷ ‵ (froom tyPtr (p .1 .1 .1 .1 .1 .1 .1 .1 .1 .1 .0) 0) ∷ ‵ (froom E′.mir (p .1 .1 .1 .1 .1 .1 .1 .1 .1 .1 .1 .0) 0) ∷ ‵ (froom word (p .1 .1 .1 .1 .1 .1 .1 .1 .1 .1 .1 .1 .0) 0) ∷ ‵ (froom tyPtr (p .1 .1 .1 .1 .1 .1 .1 .1 .1 .1 .1 .1 .1 .0) 0)
-        ∷ ‵ (fat fullShare slice (p .1 .0) 0 (sliceVal (b, o) (length ys))) ∷ ‵ (fat fullShare aty (p .1 .1 .0) 0 (aval bs)) ∷ ‵ (fat fullShare word (p .1 .1 .1 .1 .0) 0 (vint w64 n)) ∷ ‵ (froom word (p .1 .1 .1 .1 .1 .1 .0) 0) ∷ ‵ (froom tyUnit (p .0) 0)
-        ∷ ‵ (fobor κ q (Held R (length ys) b o γ)) ∷ ‵ (fobs γ (codedHoleys R .code (heres R ys))) ∷ ‵ (fauth γ (codedHoleys R .code (heres R ys)))
-        ∷ ‵ (fdies tyUnit (p .0)) ∷ ‵ (fdies slice (p .1 .0)) ∷ ‵ (fdies aty (p .1 .1 .0)) ∷ ‵ (fdies aty (p .1 .1 .1 .0)) ∷ ‵ (fdies word (p .1 .1 .1 .1 .0)) ∷ ‵ (fdies word (p .1 .1 .1 .1 .1 .0)) ∷ ‵ (fdies word (p .1 .1 .1 .1 .1 .1 .0)) ∷ ‵ (fdies tyBool (p .1 .1 .1 .1 .1 .1 .1 .0)) ∷ ‵ (fdies word (p .1 .1 .1 .1 .1 .1 .1 .1 .0)) ∷ ‵ (fdies tyPtr (p .1 .1 .1 .1 .1 .1 .1 .1 .1 .0)) ∷ ‵ (fdies tyPtr (p .1 .1 .1 .1 .1 .1 .1 .1 .1 .1 .0)) ∷ ‵ (fdies E′.mir (p .1 .1 .1 .1 .1 .1 .1 .1 .1 .1 .1 .0)) ∷ ‵ (fdies word (p .1 .1 .1 .1 .1 .1 .1 .1 .1 .1 .1 .1 .0)) ∷ ‵ (fdies tyPtr (p .1 .1 .1 .1 .1 .1 .1 .1 .1 .1 .1 .1 .1 .0)) ∷ []
+          ∷ ‵ (fat fullShare slice (p .1 .0) 0 (sliceVal (b, o) (length ys))) ∷ ‵ (fat fullShare aty (p .1 .1 .0) 0 (aval bs)) ∷ ‵ (fat fullShare word (p .1 .1 .1 .1 .0) 0 (vint w64 n)) ∷ ‵ (froom word (p .1 .1 .1 .1 .1 .1 .0) 0) ∷ ‵ (froom tyUnit (p .0) 0)
+          ∷ ‵ (fobor κ q (Held R (length ys) b o γ)) ∷ ‵ (fobs γ (codedHoleys R .code (heres R ys))) ∷ ‵ (fauth γ (codedHoleys R .code (heres R ys)))
+          ∷ ‵ (fdies tyUnit (p .0)) ∷ ‵ (fdies slice (p .1 .0)) ∷ ‵ (fdies aty (p .1 .1 .0)) ∷ ‵ (fdies aty (p .1 .1 .1 .0)) ∷ ‵ (fdies word (p .1 .1 .1 .1 .0)) ∷ ‵ (fdies word (p .1 .1 .1 .1 .1 .0)) ∷ ‵ (fdies word (p .1 .1 .1 .1 .1 .1 .0)) ∷ ‵ (fdies tyBool (p .1 .1 .1 .1 .1 .1 .1 .0)) ∷ ‵ (fdies word (p .1 .1 .1 .1 .1 .1 .1 .1 .0)) ∷ ‵ (fdies tyPtr (p .1 .1 .1 .1 .1 .1 .1 .1 .1 .0)) ∷ ‵ (fdies tyPtr (p .1 .1 .1 .1 .1 .1 .1 .1 .1 .1 .0)) ∷ ‵ (fdies E′.mir (p .1 .1 .1 .1 .1 .1 .1 .1 .1 .1 .1 .0)) ∷ ‵ (fdies word (p .1 .1 .1 .1 .1 .1 .1 .1 .1 .1 .1 .1 .0)) ∷ ‵ (fdies tyPtr (p .1 .1 .1 .1 .1 .1 .1 .1 .1 .1 .1 .1 .1 .0)) ∷ []
 
       abbrev Left : Out → SProp 𝓤
       Left = afterBlock 𝓤 H (afterSeq 𝓤 H (Wp 𝓤 H C Λ En m.t-6 (atReturn 𝓤 H En Post)) (atReturn 𝓤 H En Post))
 
       finish : (i : ℕ) → i ≡ n → ent 𝓤 (⋆ 𝓤 H A (At i)) (Wp 𝓤 H C Λ En m.t-6 (atReturn 𝓤 H En Post))
       finish i e =
-        qed W (At i) ∵ exec ! C Λ En m.t-6 (atRet En Post) $
-        assigns ! (of-opd ! (unit-lit !)) (from ! (stop !)) (init ! 14 refl (tt, tt)) $
-        move ! (0 ∷ 15 ∷ 16 ∷ 17 ∷ []) $ closes-slice ! tt R ys (mix i bs ys) (mix-length i bs ys) b o $
-        move ! (3 ∷ []) $ array-back ! bs bs-length (p .1 .1 .1 .0) (λ _.
-        returns ! (look ! 16 refl) $ forget ! 0 refl $ forget ! 4 refl $ forget ! 12 refl $ forget ! 13 refl $ forget ! 14 refl $ forget ! 16 refl $ 
-        move ! (16 ∷ 17 ∷ 12 ∷ 18 ∷ 13 ∷ 19 ∷ 0 ∷ 20 ∷ 14 ∷ 21 ∷ 4 ∷ 22 ∷ 15 ∷ 23 ∷ 5 ∷ 24 ∷ 6 ∷ 25 ∷ 7 ∷ 26 ∷ 8 ∷ 27 ∷ 9 ∷ 28 ∷ 10 ∷ 29 ∷ 11 ∷ 30 ∷ []) $ frees-all ! slots p $ by ! (exits (mix i bs ys) (mix-length i bs ys) (all i e)))
+          qed W (At i) ∵ exec ! C Λ En m.t-6 (atRet En Post) $
+          assigns ! (of-opd ! (unit-lit !)) (from ! (stop !)) (init ! 14 refl (tt, tt)) $
+          move ! (0 ∷ 15 ∷ 16 ∷ 17 ∷ []) $ closes-slice ! tt R ys (mix i bs ys) (mix-length i bs ys) b o $
+          move ! (3 ∷ []) $ array-back ! bs bs-length (p .1 .1 .1 .0) (λ _.
+          returns ! (look ! 16 refl) $ forget ! 0 refl $ forget ! 4 refl $ forget ! 12 refl $ forget ! 13 refl $ forget ! 14 refl $ forget ! 16 refl $
+          move ! (16 ∷ 17 ∷ 12 ∷ 18 ∷ 13 ∷ 19 ∷ 0 ∷ 20 ∷ 14 ∷ 21 ∷ 4 ∷ 22 ∷ 15 ∷ 23 ∷ 5 ∷ 24 ∷ 6 ∷ 25 ∷ 7 ∷ 26 ∷ 8 ∷ 27 ∷ 9 ∷ 28 ∷ 10 ∷ 29 ∷ 11 ∷ 30 ∷ []) $ frees-all ! slots p $ by ! (exits (mix i bs ys) (mix-length i bs ys) (all i e)))
 
       -- a turn that copies one entry
       more : (i : ℕ) (X : SProp 𝓤) → i < n → ent 𝓤 (⋆ 𝓤 H A (At (i + 1))) X → ent 𝓤 (⋆ 𝓤 H A (At i)) (Wp 𝓤 H C Λ En m.turn-1 (afterTurn 𝓤 H X Left))
       unfolding afterTurn
       more i X l next =
-        qed W (At i) ∵ exec ! C Λ En m.turn-1 (anyQ (afterTurn 𝓤 H X Left)) $
-        assigns ! (bin ! (load ! (from ! (stop !)) (look ! 2 refl)) (load ! (from ! (stop !)) (look ! 12 refl)) tt) (from ! (stop !)) (init ! 3 refl (tt, tt)) $
-        rewrite ! 3 (λ (t : Bool). ‵ (fat fullShare tyBool (p .1 .1 .1 .1 .1 .1 .1 .0) 0 (vbool t))) (lt-ltb i n l) refl $ stays ! (load ! (from ! (stop !)) (look ! 3 refl)) $
-        -- the array's entry is read
-        assigns ! (bin ! (load ! (from ! (stop !)) (look ! 2 refl)) (lit ! tt) (record { fits = offset-fits })) (from ! (stop !)) (init ! 4 refl (tt, record { fits = offset-fits })) $
-        assigns ! (addr ! (from ! (stop !))) (from ! (stop !)) (init ! 5 refl (tt, tt)) $
-        assigns ! (bin ! (load ! (from ! (stop !)) (look ! 5 refl)) (load ! (from ! (stop !)) (look ! 4 refl)) tt) (from ! (stop !)) (init ! 6 refl (tt, tt)) $
-        rewrite ! 6 (λ (z : ℕ). ‵ (fat fullShare tyPtr (p .1 .1 .1 .1 .1 .1 .1 .1 .1 .1 .0) 0 (vptr (p .1 .1 .1 .0) z))) (sym (place-is 72 0 i)) refl $
-        move ! (1 ∷ []) $ elem-out ! R (Is R) (shows 𝓤 H A R) vals tells fullShare bs i noEntry (p .1 .1 .1 .0) 0 in-array (λ g.
-        assigns ! (of-opd ! (load ! (from ! (hop ! (look ! 8 refl) (stop !))) (look-raw ! 0 refl))) (from ! (stop !)) (init ! 9 refl (LL.lawful E.the-type E′.the-laws 𝓤 H A W .typed elem (vals elem) g .0)) $
-        elem-back ! R fullShare bs i noEntry (vals elem) (p .1 .1 .1 .0) 0 in-array $
-        -- and stored in the slice
-        assigns ! (bin ! (load ! (from ! (stop !)) (look ! 2 refl)) (lit ! tt) (record { fits = offset-fits })) (from ! (stop !)) (init ! 8 refl (tt, record { fits = offset-fits })) $
-        assigns ! (bin ! (load ! (from ! (fld ! refl (stop !))) (look-in ! 10 (sub ! 0 refl (whole !)))) (load ! (from ! (stop !)) (look ! 8 refl)) tt) (from ! (stop !)) (init ! 9 refl (tt, tt)) $
-        rewrite ! 9 (λ (z : ℕ). ‵ (fat fullShare tyPtr (p .1 .1 .1 .1 .1 .1 .1 .1 .1 .1 .1 .1 .1 .0) 0 (vptr b z))) (sym (place-is 72 o i)) refl $
-        move ! (1 ∷ []) $ elem-out ! R (Is R) (shows 𝓤 H A R) vals tells fullShare (mix i bs ys) i noEntry b o in-slice (λ _.
-        assigns ! (of-opd ! (load ! (from ! (stop !)) (look ! 9 refl))) (from ! (hop ! (look ! 11 refl) (stop !))) (store-raw ! 0 refl (LL.lawful E.the-type E′.the-laws 𝓤 H A W .typed elem (vals elem) g .0)) $
-        move ! (1 ∷ []) $ let-go ! $ owned ! R (Is R) (LL.makes E.the-type E′.the-plain 𝓤 H A) elem (vals elem) g $ move ! (1 ∷ 0 ∷ []) $ elem-put ! R fullShare (mix i bs ys) i elem (vals elem) b o in-slice $
-        rewrite ! 0 (λ (zs : List Entry). ‵ (row R fullShare zs b o)) (mix-set noEntry i bs ys in-array (omega (arith, fewer-left (length ys) 64))) refl $
-        assigns-last ! (bin ! (load ! (from ! (stop !)) (look ! 2 refl)) (lit ! tt) (record { fits = next-fits })) (from ! (stop !)) (store ! 2 refl (tt, record { fits = next-fits })) $
-        forget ! 3 refl $ forget ! 4 refl $ forget ! 5 refl $ forget ! 6 refl $ forget ! 7 refl $ forget ! 8 refl $ forget ! 9 refl $ by ! next))
+          qed W (At i) ∵ exec ! C Λ En m.turn-1 (anyQ (afterTurn 𝓤 H X Left)) $
+          assigns ! (bin ! (load ! (from ! (stop !)) (look ! 2 refl)) (load ! (from ! (stop !)) (look ! 12 refl)) tt) (from ! (stop !)) (init ! 3 refl (tt, tt)) $
+          rewrite ! 3 (λ (t : Bool). ‵ (fat fullShare tyBool (p .1 .1 .1 .1 .1 .1 .1 .0) 0 (vbool t))) (lt-ltb i n l) refl $ stays ! (load ! (from ! (stop !)) (look ! 3 refl)) $
+          -- the array's entry is read
+          assigns ! (bin ! (load ! (from ! (stop !)) (look ! 2 refl)) (lit ! tt) (record { fits = offset-fits })) (from ! (stop !)) (init ! 4 refl (tt, record { fits = offset-fits })) $
+          assigns ! (addr ! (from ! (stop !))) (from ! (stop !)) (init ! 5 refl (tt, tt)) $
+          assigns ! (bin ! (load ! (from ! (stop !)) (look ! 5 refl)) (load ! (from ! (stop !)) (look ! 4 refl)) tt) (from ! (stop !)) (init ! 6 refl (tt, tt)) $
+          rewrite ! 6 (λ (z : ℕ). ‵ (fat fullShare tyPtr (p .1 .1 .1 .1 .1 .1 .1 .1 .1 .1 .0) 0 (vptr (p .1 .1 .1 .0) z))) (sym (place-is 72 0 i)) refl $
+          move ! (1 ∷ []) $ elem-out ! R (Is R) (shows 𝓤 H A R) vals tells fullShare bs i noEntry (p .1 .1 .1 .0) 0 in-array (λ g.
+          assigns ! (of-opd ! (load ! (from ! (hop ! (look ! 8 refl) (stop !))) (look-raw ! 0 refl))) (from ! (stop !)) (init ! 9 refl (LL.lawful E.the-type E′.the-laws 𝓤 H A W .typed elem (vals elem) g .0)) $
+          elem-back ! R fullShare bs i noEntry (vals elem) (p .1 .1 .1 .0) 0 in-array $
+          -- and stored in the slice
+          assigns ! (bin ! (load ! (from ! (stop !)) (look ! 2 refl)) (lit ! tt) (record { fits = offset-fits })) (from ! (stop !)) (init ! 8 refl (tt, record { fits = offset-fits })) $
+          assigns ! (bin ! (load ! (from ! (fld ! refl (stop !))) (look-in ! 10 (sub ! 0 refl (whole !)))) (load ! (from ! (stop !)) (look ! 8 refl)) tt) (from ! (stop !)) (init ! 9 refl (tt, tt)) $
+          rewrite ! 9 (λ (z : ℕ). ‵ (fat fullShare tyPtr (p .1 .1 .1 .1 .1 .1 .1 .1 .1 .1 .1 .1 .1 .0) 0 (vptr b z))) (sym (place-is 72 o i)) refl $
+          move ! (1 ∷ []) $ elem-out ! R (Is R) (shows 𝓤 H A R) vals tells fullShare (mix i bs ys) i noEntry b o in-slice (λ _.
+          assigns ! (of-opd ! (load ! (from ! (stop !)) (look ! 9 refl))) (from ! (hop ! (look ! 11 refl) (stop !))) (store-raw ! 0 refl (LL.lawful E.the-type E′.the-laws 𝓤 H A W .typed elem (vals elem) g .0)) $
+          move ! (1 ∷ []) $ let-go ! $ owned ! R (Is R) (LL.makes E.the-type E′.the-plain 𝓤 H A) elem (vals elem) g $ move ! (1 ∷ 0 ∷ []) $ elem-put ! R fullShare (mix i bs ys) i elem (vals elem) b o in-slice $
+          rewrite ! 0 (λ (zs : List Entry). ‵ (row R fullShare zs b o)) (mix-set noEntry i bs ys in-array (omega (arith, fewer-left (length ys) 64))) refl $
+          assigns-last ! (bin ! (load ! (from ! (stop !)) (look ! 2 refl)) (lit ! tt) (record { fits = next-fits })) (from ! (stop !)) (store ! 2 refl (tt, record { fits = next-fits })) $
+          forget ! 3 refl $ forget ! 4 refl $ forget ! 5 refl $ forget ! 6 refl $ forget ! 7 refl $ forget ! 8 refl $ forget ! 9 refl $ by ! next))
         where
           elem : Entry
           elem = getD bs i noEntry
@@ -149,10 +149,10 @@ module _ {M : Type 1} (𝓤 : URA M) (H : Heap 𝓤) (A : Atoms 𝓤) (W : Given
       ends : (i : ℕ) (X : SProp 𝓤) → i ≡ n → ent 𝓤 (⋆ 𝓤 H A (At i)) (Wp 𝓤 H C Λ En m.turn-1 (afterTurn 𝓤 H X Left))
       unfolding afterTurn
       ends i X e =
-        qed W (At i) ∵ exec ! C Λ En m.turn-1 (anyQ (afterTurn 𝓤 H X Left)) $
-        assigns ! (bin ! (load ! (from ! (stop !)) (look ! 2 refl)) (load ! (from ! (stop !)) (look ! 12 refl)) tt) (from ! (stop !)) (init ! 3 refl (tt, tt)) $
-        rewrite ! 3 (λ (t : Bool). ‵ (fat fullShare tyBool (p .1 .1 .1 .1 .1 .1 .1 .0) 0 (vbool t))) (le-ltb i n (omega arith)) refl $
-        leaves-loop ! (load ! (from ! (stop !)) (look ! 3 refl)) $ forget ! 3 refl $ by ! (finish i e)
+          qed W (At i) ∵ exec ! C Λ En m.turn-1 (anyQ (afterTurn 𝓤 H X Left)) $
+          assigns ! (bin ! (load ! (from ! (stop !)) (look ! 2 refl)) (load ! (from ! (stop !)) (look ! 12 refl)) tt) (from ! (stop !)) (init ! 3 refl (tt, tt)) $
+          rewrite ! 3 (λ (t : Bool). ‵ (fat fullShare tyBool (p .1 .1 .1 .1 .1 .1 .1 .0) 0 (vbool t))) (le-ltb i n (omega arith)) refl $
+          leaves-loop ! (load ! (from ! (stop !)) (look ! 3 refl)) $ forget ! 3 refl $ by ! (finish i e)
 
       turn : (i : ℕ) → i ≤ n → (X : SProp 𝓤) → ((j : ℕ) → j ≤ n → n - j < n - i → ent 𝓤 (⋆ 𝓤 H A (At j)) X) → ent 𝓤 (⋆ 𝓤 H A (At i)) (Wp 𝓤 H C Λ En m.turn-1 (afterTurn 𝓤 H X Left))
       turn i f X k = elim (lt-or-ge i n) [ inl l ↦ more i X l (k (i + 1) (omega arith) (omega arith)) | inr g ↦ ends i X (omega arith) ]
@@ -170,8 +170,8 @@ module _ {M : Type 1} (𝓤 : URA M) (H : Heap 𝓤) (A : Atoms 𝓤) (W : Given
       land ! (from ! (stop !)) (init ! 18 refl (uint-lawful 𝓤 H A W w64 .typed n (v₄ ∷ []) gn₄ .0)) $ rewrite ! 18 (λ (u : Val). ‵ (fat fullShare word (p .1 .1 .1 .1 .0) 0 u)) (ap only (uint-tells w64 n (v₄ ∷ []) gn₄)) refl $
       assigns ! (of-opd ! (lit ! tt)) (from ! (stop !)) (init ! 16 refl (tt, record { fits = lit< tt })) $
       move ! (29 ∷ []) $ fsplit ! $ fsplit ! $ move ! (1 ∷ []) $ fsplit ! $ move ! (32 ∷ []) $ split ! $ move ! (2 ∷ 3 ∷ 0 ∷ []) $ opens-slice ! tt R ys b o $
-      move ! (27 ∷ []) $ use1 W (‵ (row R fullShare bs (p .1 .1 .1 .0) 0)) (array-out 𝓤 H A W bs gb (p .1 .1 .1 .0)) $ forget ! 22 refl $ 
-      keep ! (1 ∷ 0 ∷ 24 ∷ 20 ∷ 18 ∷ 16 ∷ 14 ∷ 12 ∷ 10 ∷ 8 ∷ 31 ∷ 29 ∷ 26 ∷ 22 ∷ 33 ∷ 2 ∷ 3 ∷ 4 ∷ 34 ∷ 32 ∷ 30 ∷ 28 ∷ 27 ∷ 25 ∷ 23 ∷ 21 ∷ 19 ∷ 17 ∷ 15 ∷ 13 ∷ 11 ∷ 9 ∷ []) $ 
+      move ! (27 ∷ []) $ use1 W (‵ (row R fullShare bs (p .1 .1 .1 .0) 0)) (array-out 𝓤 H A W bs gb (p .1 .1 .1 .0)) $ forget ! 22 refl $
+      keep ! (1 ∷ 0 ∷ 24 ∷ 20 ∷ 18 ∷ 16 ∷ 14 ∷ 12 ∷ 10 ∷ 8 ∷ 31 ∷ 29 ∷ 26 ∷ 22 ∷ 33 ∷ 2 ∷ 3 ∷ 4 ∷ 34 ∷ 32 ∷ 30 ∷ 28 ∷ 27 ∷ 25 ∷ 23 ∷ 21 ∷ 19 ∷ 17 ∷ 15 ∷ 13 ∷ 11 ∷ 9 ∷ []) $
       rewrite ! 0 (λ (zs : List Entry). ‵ (row R fullShare zs b o)) (sym (mix-none bs ys)) refl $
       by ! (loops-by 𝓤 H A W 𝓣 (En 𝓣 n e₄ p) m.turn-1 (Left 𝓣 n e₄ p) (At 𝓣 n e₄ p) (λ i. i ≤ n) (λ i. n - i) (turn 𝓣 n e₄ p) 0 (omega arith))))
 

@@ -112,7 +112,7 @@ module _ {M : Type 1} (𝓤 : URA M) (H : Heap 𝓤) (A : Atoms 𝓤) (W : Given
   walk 𝓣 known-ak known-se known-fa =
       qed W ((‵ (flft κ q) ⊛ ‵ ftrue) ∷ ‵ (owns (ShrSlice (named 0) κ R ∷ usize ∷ KR ∷ []) x at) ∷ []) ∵ enter ! (𝓣 .C) (𝓣 .Λ) code.function (s ∷ vint w64 n ∷ kval k ∷ []) _ $
       allocs-all ! slots _ (λ p. params1 ! $ pass1 ! (init ! 8 refl (tt, (tt, (record { fits = gn .0 }, tt)))) $ pass1 ! (init ! 6 refl (tt, record { fits = n-fits })) $ pass1 ! (init ! 4 refl (ktyped 𝓤 H A W k gk)) $ pass0 ! $
-      move ! (13 ∷ []) $ fsplit ! $ use1 W (‵ (ShrSlice (named 0) κ R .own y (s ∷ [])) ⊛ ‵ (ShrSlice (named 0) κ R .own y (s ∷ []))) (shr-slice-copy 𝓤 H A W (named 0) κ R .twice y (s ∷ [])) $ split ! $ use1 W (‵ (ShrSlice (named 0) κ R .own y (s ∷ [])) ⊛ ‵ (ShrSlice (named 0) κ R .own y (s ∷ []))) (shr-slice-copy 𝓤 H A W (named 0) κ R .twice y (s ∷ [])) $ split ! $ 
+      move ! (13 ∷ []) $ fsplit ! $ use1 W (‵ (ShrSlice (named 0) κ R .own y (s ∷ [])) ⊛ ‵ (ShrSlice (named 0) κ R .own y (s ∷ []))) (shr-slice-copy 𝓤 H A W (named 0) κ R .twice y (s ∷ [])) $ split ! $ use1 W (‵ (ShrSlice (named 0) κ R .own y (s ∷ [])) ⊛ ‵ (ShrSlice (named 0) κ R .own y (s ∷ []))) (shr-slice-copy 𝓤 H A W (named 0) κ R .twice y (s ∷ [])) $ split ! $
       move ! (16 ∷ 0 ∷ []) $ use2 W (raw (Ask 𝓤 H A mem run .pre ak-at)) ak-asks $
       calls-at ! (fmOf 𝓤 H (W .laws) 𝓣) (Ask 𝓤 H A mem run) known-ak ak-at (and-then ! (load ! (from ! (stop !)) (look ! 12 refl)) (and-then ! (load ! (from ! (stop !)) (look ! 10 refl)) (no-more !))) (λ v₄.
       use1 W (later (some (λ (r : Answer). ((‵ (flft κ q) ⊛ ‵ ftrue) ⊛ ‵ (N.the-row .own r (v₄ ∷ []))) ⊛ raw (ensured 𝓤 H A ak.ended (ak.clauses 𝓤 H A mem run) (κ, tt) (y, (n, tt)) tt r)))) (id⊢ 𝓤 _) $ await ! tt $ pick ! (λ a.

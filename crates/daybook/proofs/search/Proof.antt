@@ -93,55 +93,55 @@ module _ {M : Type 1} (𝓤 : URA M) (H : Heap 𝓤) (A : Atoms 𝓤) (W : Given
   le-asks = qed W [] ∵ nothing ! $ owned ! usize (Is usize) (uint-makes 𝓤 H A W w64) (length ys) _ (refl, gn .0) $ fjoin ! $ owned ! usize (Is usize) (uint-makes 𝓤 H A W w64) opened _ (refl, opened-fits) $ fjoin ! $ nothing ! $ join ! $ frame ! $ done !
 
   module _ (𝓣 : Tables 𝓤 H) (known : Triple 𝓤 (𝓣 .C #hk) (HasKey 𝓤 H A mem run)) (n : ℕ) (few : n ≡ fewer opened (length ys)) (q′ : Share) (p : Places slots) where
-      within : n ≤ length ys
-      within = omega (arith, fewer-right opened (length ys))
+    within : n ≤ length ys
+    within = omega (arith, fewer-right opened (length ys))
 
-      fits : length ys < 2 ^ 64
-      fits = gn .0
+    fits : length ys < 2 ^ 64
+    fits = gn .0
 
-      -- what is searched is the open ones
-      same : firstAt k (take n ys) ≡ Found
-      same = rw (few, take-fewer opened ys)
+    -- what is searched is the open ones
+    same : firstAt k (take n ys) ≡ Found
+    same = rw (few, take-fewer opened ys)
 
-      abbrev C : Calls 𝓤 H
-      C = 𝓣 .C
+    abbrev C : Calls 𝓤 H
+    C = 𝓣 .C
 
-      abbrev Λ : Loops 𝓤 H
-      Λ = 𝓣 .Λ
+    abbrev Λ : Loops 𝓤 H
+    Λ = 𝓣 .Λ
 
-      abbrev En : Env 𝓤 H
-      En = env slots p
+    abbrev En : Env 𝓤 H
+    En = env slots p
 
-      -- the row, what a turn changes; then what no turn touches
-      abbrev At : ℕ → List (Item 𝓤)
-      At i = ‵ (row R q′ ys b o) ∷ ‵ (fat fullShare word (p .1 .1 .1 .1 .1 .0) 0 (vint w64 i)) ∷ ‵ (froom tyBool (p .1 .1 .1 .1 .1 .1 .1 .0) 0) ∷ ‵ (froom tyBool (p .1 .1 .1 .1 .1 .1 .1 .1 .0) 0) ∷ ‵ (froom word (p .1 .1 .1 .1 .1 .1 .1 .1 .1 .0) 0) ∷ ‵ (froom tyPtr (p .1 .1 .1 .1 .1 .1 .1 .1 .1 .1 .0) 0) ∷ ‵ (froom E′.mir (p .1 .1 .1 .1 .1 .1 .1 .1 .1 .1 .1 .0) 0)
+    -- the row, what a turn changes; then what no turn touches
+    abbrev At : ℕ → List (Item 𝓤)
+    At i = ‵ (row R q′ ys b o) ∷ ‵ (fat fullShare word (p .1 .1 .1 .1 .1 .0) 0 (vint w64 i)) ∷ ‵ (froom tyBool (p .1 .1 .1 .1 .1 .1 .1 .0) 0) ∷ ‵ (froom tyBool (p .1 .1 .1 .1 .1 .1 .1 .1 .0) 0) ∷ ‵ (froom word (p .1 .1 .1 .1 .1 .1 .1 .1 .1 .0) 0) ∷ ‵ (froom tyPtr (p .1 .1 .1 .1 .1 .1 .1 .1 .1 .1 .0) 0) ∷ ‵ (froom E′.mir (p .1 .1 .1 .1 .1 .1 .1 .1 .1 .1 .1 .0) 0)
         ∷ ‵ (fat fullShare slice (p .1 .0) 0 (sliceVal (b, o) (length ys))) ∷ ‵ (fat fullShare word (p .1 .1 .0) 0 (vint w64 opened)) ∷ ‵ (fat fullShare kty (p .1 .1 .1 .0) 0 (kval k)) ∷ ‵ (fat fullShare word (p .1 .1 .1 .1 .0) 0 (vint w64 n)) ∷ ‵ (froom word (p .1 .1 .1 .1 .1 .1 .0) 0) ∷ ‵ (froom word (p .0) 0)
         ∷ ‵ (fobor κ q (arr-parts (shares R) (length ys) .part q′ ys b o)) ∷ ‵ (fshr-bor κ (λ s. arr-parts (shares R) (length ys) .part s ys b o)) ∷ ‵ (fres γ (codedHoleys R .code (heres R ys)))
         ∷ ‵ (fdies word (p .0)) ∷ ‵ (fdies slice (p .1 .0)) ∷ ‵ (fdies word (p .1 .1 .0)) ∷ ‵ (fdies kty (p .1 .1 .1 .0)) ∷ ‵ (fdies word (p .1 .1 .1 .1 .0)) ∷ ‵ (fdies word (p .1 .1 .1 .1 .1 .0)) ∷ ‵ (fdies word (p .1 .1 .1 .1 .1 .1 .0)) ∷ ‵ (fdies tyBool (p .1 .1 .1 .1 .1 .1 .1 .0)) ∷ ‵ (fdies tyBool (p .1 .1 .1 .1 .1 .1 .1 .1 .0)) ∷ ‵ (fdies word (p .1 .1 .1 .1 .1 .1 .1 .1 .1 .0)) ∷ ‵ (fdies tyPtr (p .1 .1 .1 .1 .1 .1 .1 .1 .1 .1 .0)) ∷ ‵ (fdies E′.mir (p .1 .1 .1 .1 .1 .1 .1 .1 .1 .1 .1 .0)) ∷ []
 
-      abbrev Fact : ℕ → Type 0
-      Fact i = (i ≤ n) × (i + firstAt k (drop i (take n ys)) ≡ Found)
+    abbrev Fact : ℕ → Type 0
+    Fact i = (i ≤ n) × (i + firstAt k (drop i (take n ys)) ≡ Found)
 
-      start : 0 + firstAt k (take n ys) ≡ Found
-      start = omega (arith, same)
+    start : 0 + firstAt k (take n ys) ≡ Found
+    start = omega (arith, same)
 
-      -- when the loop is left, the rest of the body runs
-      abbrev Left : Out → SProp 𝓤
-      Left = afterBlock 𝓤 H (afterSeq 𝓤 H (Wp 𝓤 H C Λ En m.t-5 (atReturn 𝓤 H En Post)) (atReturn 𝓤 H En Post))
+    -- when the loop is left, the rest of the body runs
+    abbrev Left : Out → SProp 𝓤
+    Left = afterBlock 𝓤 H (afterSeq 𝓤 H (Wp 𝓤 H C Λ En m.t-5 (atReturn 𝓤 H En Post)) (atReturn 𝓤 H En Post))
 
-      finish : (i : ℕ) → i < 2 ^ 64 → i ≡ Found → ent 𝓤 (⋆ 𝓤 H A (At i)) (Wp 𝓤 H C Λ En m.t-5 (atReturn 𝓤 H En Post))
-      finish i gi e =
+    finish : (i : ℕ) → i < 2 ^ 64 → i ≡ Found → ent 𝓤 (⋆ 𝓤 H A (At i)) (Wp 𝓤 H C Λ En m.t-5 (atReturn 𝓤 H En Post))
+    finish i gi e =
         qed W (At i) ∵ exec ! C Λ En m.t-5 (atRet En Post) $
         assigns ! (of-opd ! (load ! (from ! (stop !)) (look ! 1 refl))) (from ! (stop !)) (init ! 12 refl (tt, record { fits = gi })) $
         move ! (0 ∷ 13 ∷ []) $ shuts-slice ! tt R q′ ys b o $
-        returns ! (look ! 12 refl) $ forget ! 1 refl $ forget ! 7 refl $ forget ! 8 refl $ forget ! 9 refl $ forget ! 10 refl $ forget ! 12 refl $ 
+        returns ! (look ! 12 refl) $ forget ! 1 refl $ forget ! 7 refl $ forget ! 8 refl $ forget ! 9 refl $ forget ! 10 refl $ forget ! 12 refl $
         move ! (12 ∷ 15 ∷ 7 ∷ 16 ∷ 8 ∷ 17 ∷ 9 ∷ 18 ∷ 10 ∷ 19 ∷ 1 ∷ 20 ∷ 11 ∷ 21 ∷ 2 ∷ 22 ∷ 3 ∷ 23 ∷ 4 ∷ 24 ∷ 5 ∷ 25 ∷ 6 ∷ 26 ∷ []) $ frees-all ! slots p $ by ! (exits i gi e)
 
-      -- a turn that compares one key
-      more : (i : ℕ) (X : SProp 𝓤) → i < n → (hasKey k (getD ys i noEntry) ≡ true → i ≡ Found) → (hasKey k (getD ys i noEntry) ≡ false → ent 𝓤 (⋆ 𝓤 H A (At (i + 1))) X)
-          → ent 𝓤 (⋆ 𝓤 H A (At i)) (Wp 𝓤 H C Λ En m.turn-1 (afterTurn 𝓤 H X Left))
-      unfolding afterTurn
-      more i X l found next =
+    -- a turn that compares one key
+    more : (i : ℕ) (X : SProp 𝓤) → i < n → (hasKey k (getD ys i noEntry) ≡ true → i ≡ Found) → (hasKey k (getD ys i noEntry) ≡ false → ent 𝓤 (⋆ 𝓤 H A (At (i + 1))) X)
+        → ent 𝓤 (⋆ 𝓤 H A (At i)) (Wp 𝓤 H C Λ En m.turn-1 (afterTurn 𝓤 H X Left))
+    unfolding afterTurn
+    more i X l found next =
         qed W (At i) ∵ exec ! C Λ En m.turn-1 (anyQ (afterTurn 𝓤 H X Left)) $
         assigns ! (bin ! (load ! (from ! (stop !)) (look ! 1 refl)) (load ! (from ! (stop !)) (look ! 10 refl)) tt) (from ! (stop !)) (init ! 2 refl (tt, tt)) $
         rewrite ! 2 (λ (t : Bool). ‵ (fat fullShare tyBool (p .1 .1 .1 .1 .1 .1 .1 .0) 0 (vbool t))) (lt-ltb i n l) refl $ stays ! (load ! (from ! (stop !)) (look ! 2 refl)) $
@@ -161,37 +161,37 @@ module _ {M : Type 1} (𝓤 : URA M) (H : Heap 𝓤) (A : Atoms 𝓤) (W : Given
         (λ h. skips ! $ exec ! C Λ En step (anyQ (afterTurn 𝓤 H X Left)) $
         assigns-last ! (bin ! (load ! (from ! (stop !)) (look ! 1 refl)) (lit ! tt) (record { fits = next-fits })) (from ! (stop !)) (store ! 1 refl (tt, record { fits = next-fits })) $
         forget ! 2 refl $ forget ! 3 refl $ forget ! 4 refl $ forget ! 5 refl $ forget ! 6 refl $ by ! (next (sym e ∙ is-not r h)))))
-        where
-          elem : Entry
-          elem = getD ys i noEntry
+      where
+        elem : Entry
+        elem = getD ys i noEntry
 
-          inside : i < length ys
-          inside = omega (arith, within)
+        inside : i < length ys
+        inside = omega (arith, within)
 
-          small : i < 2 ^ 64
-          small = omega (arith, within, fits)
+        small : i < 2 ^ 64
+        small = omega (arith, within, fits)
 
-          next-fits : i + 1 < 2 ^ 64
-          next-fits = omega (arith, within, fits)
+        next-fits : i + 1 < 2 ^ 64
+        next-fits = omega (arith, within, fits)
 
-          is-not : (r : Bool) → T (not r) → r ≡ false
-          is-not true h = absurd h
-          is-not false h = refl
+        is-not : (r : Bool) → T (not r) → r ≡ false
+        is-not true h = absurd h
+        is-not false h = refl
 
-      -- the turn that finds none left
-      ends : (i : ℕ) (X : SProp 𝓤) → n ≤ i → i < 2 ^ 64 → i ≡ Found → ent 𝓤 (⋆ 𝓤 H A (At i)) (Wp 𝓤 H C Λ En m.turn-1 (afterTurn 𝓤 H X Left))
-      unfolding afterTurn
-      ends i X l gi e =
+    -- the turn that finds none left
+    ends : (i : ℕ) (X : SProp 𝓤) → n ≤ i → i < 2 ^ 64 → i ≡ Found → ent 𝓤 (⋆ 𝓤 H A (At i)) (Wp 𝓤 H C Λ En m.turn-1 (afterTurn 𝓤 H X Left))
+    unfolding afterTurn
+    ends i X l gi e =
         qed W (At i) ∵ exec ! C Λ En m.turn-1 (anyQ (afterTurn 𝓤 H X Left)) $
         assigns ! (bin ! (load ! (from ! (stop !)) (look ! 1 refl)) (load ! (from ! (stop !)) (look ! 10 refl)) tt) (from ! (stop !)) (init ! 2 refl (tt, tt)) $
         rewrite ! 2 (λ (t : Bool). ‵ (fat fullShare tyBool (p .1 .1 .1 .1 .1 .1 .1 .0) 0 (vbool t))) (le-ltb i n l) refl $
         leaves-loop ! (load ! (from ! (stop !)) (look ! 2 refl)) $ forget ! 2 refl $ by ! (finish i gi e)
 
-      turn : (i : ℕ) → Fact i → (X : SProp 𝓤) → ((j : ℕ) → Fact j → n - j < n - i → ent 𝓤 (⋆ 𝓤 H A (At j)) X) → ent 𝓤 (⋆ 𝓤 H A (At i)) (Wp 𝓤 H C Λ En m.turn-1 (afterTurn 𝓤 H X Left))
-      turn i f X go = elim (lt-or-ge i n) [
-        | inl l ↦ more i X l (λ e. omega (arith, first-stop n ys within i k l e)) (λ e. go (i + 1) (omega arith, omega (arith, first-go n ys within i k l e)) (omega arith))
-        | inr g ↦ ends i X g (omega (arith, within, fits)) (omega (arith, first-end n ys within i k g))
-      ]
+    turn : (i : ℕ) → Fact i → (X : SProp 𝓤) → ((j : ℕ) → Fact j → n - j < n - i → ent 𝓤 (⋆ 𝓤 H A (At j)) X) → ent 𝓤 (⋆ 𝓤 H A (At i)) (Wp 𝓤 H C Λ En m.turn-1 (afterTurn 𝓤 H X Left))
+    turn i f X go = elim (lt-or-ge i n) [
+      | inl l ↦ more i X l (λ e. omega (arith, first-stop n ys within i k l e)) (λ e. go (i + 1) (omega arith, omega (arith, first-go n ys within i k l e)) (omega arith))
+      | inr g ↦ ends i X g (omega (arith, within, fits)) (omega (arith, first-end n ys within i k g))
+    ]
 
   -- the MIR, up to the loop
   walk : (𝓣 : Tables 𝓤 H) → Triple 𝓤 (𝓣 .C #hk) (HasKey 𝓤 H A mem run) → Triple 𝓤 (𝓣 .C #le) (Least 𝓤 H A mem run)
@@ -205,9 +205,9 @@ module _ {M : Type 1} (𝓤 : URA M) (H : Heap 𝓤) (A : Atoms 𝓤) (W : Given
       (and-then ! (load ! (from ! (stop !)) (look ! 19 refl)) (and-then ! (load ! (from ! (stop !)) (look ! 11 refl)) (no-more !))) (λ n v₄ gn₄ e₄.
       land ! (from ! (stop !)) (init ! 14 refl (uint-lawful 𝓤 H A W w64 .typed n (v₄ ∷ []) gn₄ .0)) $ rewrite ! 14 (λ (u : Val). ‵ (fat fullShare word (p .1 .1 .1 .1 .0) 0 u)) (ap only (uint-tells w64 n (v₄ ∷ []) gn₄)) refl $
       assigns ! (of-opd ! (lit ! tt)) (from ! (stop !)) (init ! 12 refl (tt, record { fits = lit< tt })) $
-      move ! (25 ∷ []) $ fsplit ! $ fsplit ! $ move ! (1 ∷ []) $ fsplit ! $ move ! (28 ∷ []) $ split ! $ move ! (3 ∷ 0 ∷ []) $ 
-      looks-slice ! tt R (Is R) (shows 𝓤 H A R) vals tells (LL.copy E.the-type E′.the-copy 𝓤 H A W) ys b o (λ q′. forget ! 17 refl $ 
-      keep ! (0 ∷ 19 ∷ 15 ∷ 13 ∷ 11 ∷ 9 ∷ 7 ∷ 27 ∷ 25 ∷ 23 ∷ 21 ∷ 17 ∷ 29 ∷ 1 ∷ 2 ∷ 4 ∷ 30 ∷ 28 ∷ 26 ∷ 24 ∷ 22 ∷ 20 ∷ 18 ∷ 16 ∷ 14 ∷ 12 ∷ 10 ∷ 8 ∷ []) $ 
+      move ! (25 ∷ []) $ fsplit ! $ fsplit ! $ move ! (1 ∷ []) $ fsplit ! $ move ! (28 ∷ []) $ split ! $ move ! (3 ∷ 0 ∷ []) $
+      looks-slice ! tt R (Is R) (shows 𝓤 H A R) vals tells (LL.copy E.the-type E′.the-copy 𝓤 H A W) ys b o (λ q′. forget ! 17 refl $
+      keep ! (0 ∷ 19 ∷ 15 ∷ 13 ∷ 11 ∷ 9 ∷ 7 ∷ 27 ∷ 25 ∷ 23 ∷ 21 ∷ 17 ∷ 29 ∷ 1 ∷ 2 ∷ 4 ∷ 30 ∷ 28 ∷ 26 ∷ 24 ∷ 22 ∷ 20 ∷ 18 ∷ 16 ∷ 14 ∷ 12 ∷ 10 ∷ 8 ∷ []) $
       by ! (loops-by 𝓤 H A W 𝓣 (En 𝓣 known n e₄ q′ p) m.turn-1 (Left 𝓣 known n e₄ q′ p) (At 𝓣 known n e₄ q′ p) (Fact 𝓣 known n e₄ q′ p) (λ i. n - i) (turn 𝓣 known n e₄ q′ p) 0 (omega arith, start 𝓣 known n e₄ q′ p)))))
 
 module _ {M : Type 1} (𝓤 : URA M) (H : Heap 𝓤) (A : Atoms 𝓤) (W : Given 𝓤 H A) (mem : Memory → SProp 𝓤) (run : Routine → Fun 𝓤) (𝓣 : Tables 𝓤 H) (known : Triple 𝓤 (𝓣 .C #hk) (HasKey 𝓤 H A mem run)) (known-le : Triple 𝓤 (𝓣 .C #le) (Least 𝓤 H A mem run)) where
