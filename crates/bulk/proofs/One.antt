@@ -1,11 +1,15 @@
--- Two answers of the C face that one contract allows are equal, word for word; and so is the area.
+-- Two answers of the C face that one contract allows are equal, word for word; and so are the area and the entries of a book.
 use mathlib.Core.Path.{_≡_, sym, _∙_}
 use mathlib.Core.List.{List}
 use Prim.Native.Nat.{ℕ}
 use Rattle.answers.specs.Given.{Given}
 use Rattle.reading.specs.Verdict.{Judged, Located}
 use Rattle.postings.specs.Area.{recorded}
-use Rattle.bulk.specs.Told.{told, toldVerdict, toldExtent}
+use Rattle.book.specs.declared.Entry.{Entry}
+use Rattle.book.specs.Calls.{Call, called, Searched}
+use Rattle.book.specs.Book.{Book}
+use Rattle.book.specs.Code.{answerOf, foundOf}
+use Rattle.bulk.specs.Told.{told, toldVerdict, toldExtent, toldCall, toldFound}
 
 module _ (x y : List ℕ) where
   pub one-told : (g : Given) → x ≡ told g → y ≡ told g → x ≡ y
@@ -20,3 +24,11 @@ module _ (x y : List ℕ) where
   pub one-told-records : (m a b c : List ℕ) → x ≡ toldVerdict (recorded m a .verdict) → b ≡ recorded m a .area → y ≡ toldVerdict (recorded m a .verdict) → c ≡ recorded m a .area
       → (x ≡ y) × (b ≡ c)
   one-told-records m a b c e f g h = (e ∙ sym g, f ∙ sym h)
+
+  -- a book: a change, with its entries afterwards; and a search
+  pub one-told-call : (c : Call) (b : Book) (l k : List Entry) → x ≡ toldCall (answerOf (called c b)) → l ≡ called c b .book .entries → y ≡ toldCall (answerOf (called c b))
+      → k ≡ called c b .book .entries → (x ≡ y) × (l ≡ k)
+  one-told-call c b l k d e f g = (d ∙ sym f, e ∙ sym g)
+
+  pub one-told-found : (s : Searched) → x ≡ toldFound (foundOf s) → y ≡ toldFound (foundOf s) → x ≡ y
+  one-told-found s e f = e ∙ sym f

@@ -20,11 +20,13 @@ use denote.Steps.{peeks, heard}
 use denote.Triple.Statement.{Contract, Triple}
 use denote.Triple.Call.{calls-at, calls-at-last}
 
-module _ {M : Type 1} {𝓤 : URA M} {H : Heap 𝓤} {A : Atoms 𝓤} {K : Type 0} {W : Given 𝓤 H A} {Γ : List (Item 𝓤)} {E : Env 𝓤 H} {C : Calls 𝓤 H} {Λ : Loops 𝓤 H} {q : Post 𝓤 H} {f : Name} {xs : List Operand} {d : Place} where
+module _ {M : Type 1} {𝓤 : URA M} {H : Heap 𝓤} {A : Atoms 𝓤} {K : Type 0} {W : Given 𝓤 H A} {Γ : List (Item 𝓤)} {E : Env 𝓤 H} {C : Calls 𝓤 H} {Λ : Loops 𝓤 H} {q : Post 𝓤 H} {f : Name} {xs :
+    List Operand} {d : Place} where
   pub calls-plain : K → {rest : Body} → FmC 𝓤 H (W .laws) C → (c : Contract 𝓤) → Triple 𝓤 (C f) c → (x : c .Ghost) → ent 𝓤 (emp 𝓤) (c .pre x)
       → (Q : RattleType) (En : Q .Denot → SProp 𝓤) → ((v : Val) → ent 𝓤 (c .post x v) (mean 𝓤 H A (later (some (λ (r : Q .Denot). (‵ ftrue ⊛ ‵ (Q .own r (v ∷ []))) ⊛ raw (En r))))))
       → (φ : Q .Denot → Type 0) → ((r : Q .Denot) → ent 𝓤 (En r) (fact 𝓤 (φ r)))
-      → Opds K W (raw (c .pre x) ∷ Γ) E xs (c .args x) → ((r : Q .Denot) (v : Val) → Is Q r (v ∷ []) → φ r → Seq K W Γ (lands C Λ E d v rest q)) → Seq K W Γ (runs C Λ E (seq (call f xs d) rest) q)
+      → Opds K W (raw (c .pre x) ∷ Γ) E xs (c .args x) → ((r : Q .Denot) (v : Val) → Is Q r (v ∷ []) → φ r → Seq K W Γ (lands C Λ E d v rest q))
+      → Seq K W Γ (runs C Λ E (seq (call f xs d) rest) q)
   calls-plain t {rest} fm c met x asks Q En opened φ said os k =
       use0 W (raw (c .pre x)) asks $ calls-at t fm c met x os (λ v.
       use1 W (later (some (λ (r : Q .Denot). (‵ ftrue ⊛ ‵ (Q .own r (v ∷ []))) ⊛ raw (En r)))) (opened v) $ await t tt $ pick t (λ r.

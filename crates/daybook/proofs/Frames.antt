@@ -56,7 +56,8 @@ module _ {M : Type 1} {𝓤 : URA M} where
     pub frees-all : K → (ss : Slots) (p : Places ss) {Γ : List (Item 𝓤)} {g : Goal 𝓤 H} → Step K W Γ g (freed ss p Γ) (frees (env ss p) g)
     frees-all t ss p = step (freeing t ss p)
 
-module _ {M : Type 1} (𝓤 : URA M) (H : Heap 𝓤) (A : Atoms 𝓤) (W : Given 𝓤 H A) (𝓣 : Tables 𝓤 H) (E : Env 𝓤 H) (b : Body) (Q : Out → SProp 𝓤) {S : Type 0} (At : S → List (Item 𝓤)) (Fact : S → Type 0) (μ : S → ℕ)
+module _ {M : Type 1} (𝓤 : URA M) (H : Heap 𝓤) (A : Atoms 𝓤) (W : Given 𝓤 H A) (𝓣 : Tables 𝓤 H) (E : Env 𝓤 H) (b : Body) (Q : Out → SProp 𝓤) {S : Type 0} (At : S
+    → List (Item 𝓤)) (Fact : S → Type 0) (μ : S → ℕ)
     (turn : (s : S) → Fact s → (X : SProp 𝓤) → ((s′ : S) → Fact s′ → μ s′ < μ s → ent 𝓤 (⋆ 𝓤 H A (At s′)) X) → ent 𝓤 (⋆ 𝓤 H A (At s)) (Wp 𝓤 H (𝓣 .C) (𝓣 .Λ) E b (afterTurn 𝓤 H X Q))) where
   abbrev Held : ℕ → S → SProp 𝓤
   Held t s = guard 𝓤 (Fact s × (μ s ≡ t)) (⋆ 𝓤 H A (At s))

@@ -18,7 +18,8 @@ use Rattle.book.specs.declared.Answer.{Answer}
 use Rattle.book.specs.declared.Found.{Found}
 use Rattle.book.specs.declared.Outcome as acting
 use Rattle.book.specs.Book.{Key, Book, mostOpen, openIn, isOpen, twoEqual, sumOf, openTotal, isBook, firstAt, without, centsOf}
-use Rattle.book.specs.Calls.{Told, done, refusal, Outcome, unchanged, inBook, Bulk, bulk, unfit, enters, entered, withdraws, withdrawn, Call, enter, withdraw, called, asked, Searched, at, nowhere, none, searched}
+use Rattle.book.specs.Calls.{Told, done, refusal, Outcome, unchanged, inBook, Bulk, bulk, unfit, enters, entered, withdraws, withdrawn, Call, enter, withdraw, called, asked, Searched, at}
+use Rattle.book.specs.Calls.{nowhere, none, searched}
 use Rattle.book.specs.Code.{answerFor, answerOf, outcomeOf, foundOf, blankEntry, firstOf, calledOn, askedOn, foundFor}
 use Rattle.book.proofs.Lists.{open-first}
 use Rattle.daybook.specs.Lent.{firstPlaces, replaced}
@@ -37,7 +38,8 @@ module _ (ys : List Entry) (n : ℕ) where
   few-same h =
       let z : length ys ≤ mostOpen = omega arith in
       rw (drop-of-length-le ys {i = mostOpen} z)
-      (ap (λ (l : List Entry). l ++ []) (take-take (length ys) mostOpen (ys ++ replicate mostOpen blankEntry) z ∙ (take-append-le (length ys) ys (replicate mostOpen blankEntry) (omega arith) ∙ take-all (length ys) ys (omega arith))) ∙ append-nil ys)
+      (ap (λ (l : List Entry). l ++ []) (take-take (length ys) mostOpen (ys ++ replicate mostOpen blankEntry) z ∙ (take-append-le (length ys) ys (replicate mostOpen blankEntry) (omega
+      arith) ∙ take-all (length ys) ys (omega arith))) ∙ append-nil ys)
 
   called-none : (b : Book) → isBook b ≡ false → (c : Call) → called c b ≡ unchanged 29 0 b
   unfolding entered withdrawn
@@ -110,13 +112,15 @@ module _ (ys : List Entry) (n : ℕ) where
       withdraws-along k = rw (open-same few) (go (isOpen k (openIn lent)))
         where
           go : (a : Bool)
-              → Along (pick a (record { told = done (centsOf k (openIn lent)); book = record { entries = without k (openIn lent) ++ drop (n - 1) first; number = n - 1 } }) (unchanged 22 0 held))
+              → Along (pick a (record { told = done (centsOf k (openIn lent)); book = record { entries = without k (openIn lent) ++ drop (n - 1) first; number = n - 1 } }) (unchanged 22 0
+              held))
               (pick a (record { told = done (centsOf k (openIn lent)); book = record { entries = without k (openIn lent) ++ drop (n - 1) ys; number = n - 1 } }) (unchanged 22 0 lent))
           go true =
               record {
                 told = refl;
                 number = refl;
-                entries = append-assoc (without k (openIn lent)) (drop (n - 1) first) (drop mostOpen ys) ∙ ap (λ (t : List Entry). without k (openIn lent) ++ t) (drop-first (n - 1) mostOpen ys (omega (arith, few)));
+                entries = append-assoc (without k (openIn lent)) (drop (n - 1) first) (drop mostOpen ys) ∙ ap (λ (t : List Entry). without k (openIn lent) ++ t) (drop-first (n - 1) mostOpen
+                    ys (omega (arith, few)));
               }
           go false = same-along 22 0
 
@@ -153,8 +157,11 @@ module _ (ys : List Entry) (n : ℕ) where
       large : mostOpen ≤ length ys → (o .answer ≡ answerOf (called c lent)) × (replaced (o .entries) ys ≡ called c lent .book .entries)
       large h =
           let z : o ≡ outcomeOf (called c (held h)) = e ∙ rw (le-leb mostOpen (length ys) h, first-is h) in
-          let a = along h c in
-          (ap (λ (u : acting.Outcome). u .answer) z ∙ answered h (called c (held h)) (called c lent) a, filled h (o .entries) long ∙ (ap (λ (u : acting.Outcome). u .entries ++ drop mostOpen ys) z ∙ a .entries))
+          let a = along h c in (
+            ap (λ (u : acting.Outcome). u .answer) z ∙ answered h (called c (held h)) (called c lent) a,
+            filled h (o .entries) long ∙ (ap (λ (u : acting.Outcome). u .entries ++ drop mostOpen
+                ys) z ∙ a .entries),
+          )
 
   -- ---- the open total
   pub lent-asked : askedOn (length ys) (firstOf (firstPlaces ys) n) ≡ asked lent

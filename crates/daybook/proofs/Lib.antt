@@ -1,5 +1,6 @@
 pub mod Lists
 pub mod Lent
+pub mod One
 pub mod Rows
 pub mod Frames
 pub mod Arrays

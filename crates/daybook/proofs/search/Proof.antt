@@ -1,5 +1,15 @@
 -- `daybook::search` meets its contract: a walk of its MIR, by hand. The loop's invariant: the search from here is the search from the start.
-use Rattle.daybook.proofs.Walk.{_+_, _-_, _<_, _^_, _≤_, ℕ, GName, Lft, Share, fat, fdies, flft, fobor, fres, froom, fshr-bor, ftrue, SProp, emp, ent, exE, fst∗, id⊢, snd∗, via, le-ltb, lt-ltb, Fun, fact, givenOf, tables, tablesOf, bool, usize, yes, elem-back, elem-out, looks-slice, place-is, row, shuts-slice, Is, shows, pointee, shares, uint-lawful, bool-lawful, bool-tells, uint-makes, uint-tells, uint-vals, owns, RefT, pureI, plain, Room, ShrSlice, at-slice, codedHoleys, heres, shr-slice-tells, slice-vals, sliceTy, sliceVal, nothing, only, owned, ensured, lasts, Vals, onEntry, Meets, tripleOf, Contract, Triple, cited, entered, Stays, Walks, ends-at, goes-none, goes-none-slice, says, stay-none, stay-none-slice, walk-meets, walkOf, walked, Atoms, sem, fullShare, URA, T, lit<, drop, getD, length, take, Bool, false, not, true, List, [], _∷_, inl, inr, _∙_, _≡_, ap, refl, sym, Code, Ty, add, assign, copy, imm, int, loop, named, op2, place, tyBool, tyInt, tyPtr, tyRef, unsigned, valueLocal, w64, Val, vbool, vint, vptr, arith, Memory, Routine, Calls, Env, Heap, Loops, Out, Tables, Wp, WpFn, afterBlock, afterSeq, atReturn, afterTurn, WpFn-mono, fmOf, !, Given, Item, _$_, _∵_, _⊛_, anyQ, atRet, by, done, fjoin, frame, fsplit, join, keep, move, qed, rewrite, split, suffices, ‵, ⋆, look-in, sub, whole, and-then, assigns, assigns-last, bin, branches, enter, exec, first, fld, forget, from, hop, init, jumps, land, leaves-loop, lit, load, look, look-raw, no-more, of-opd, params1, pass0, pass1, returns, skips, stays, stop, store, arr-parts}
+use Rattle.daybook.proofs.Walk.{_+_, _-_, _<_, _^_, _≤_, ℕ, GName, Lft, Share, fat, fdies, flft, fobor, fres, froom, fshr-bor, ftrue, SProp, emp, ent, exE, fst∗, id⊢, snd∗, via}
+use Rattle.daybook.proofs.Walk.{le-ltb, lt-ltb, Fun, fact, givenOf, tables, tablesOf, bool, usize, yes, elem-back, elem-out, looks-slice, place-is, row, shuts-slice, Is, shows}
+use Rattle.daybook.proofs.Walk.{pointee, shares, uint-lawful, bool-lawful, bool-tells, uint-makes, uint-tells, uint-vals, owns, RefT, pureI, plain, Room, ShrSlice, at-slice}
+use Rattle.daybook.proofs.Walk.{codedHoleys, heres, shr-slice-tells, slice-vals, sliceTy, sliceVal, nothing, only, owned, ensured, lasts, Vals, onEntry, Meets, tripleOf, Contract}
+use Rattle.daybook.proofs.Walk.{Triple, cited, entered, Stays, Walks, ends-at, goes-none, goes-none-slice, says, stay-none, stay-none-slice, walk-meets, walkOf, walked, Atoms, sem}
+use Rattle.daybook.proofs.Walk.{fullShare, URA, T, lit<, drop, getD, length, take, Bool, false, not, true, List, [], _∷_, inl, inr, _∙_, _≡_, ap, refl, sym, Code, Ty, add, assign}
+use Rattle.daybook.proofs.Walk.{copy, imm, int, loop, named, op2, place, tyBool, tyInt, tyPtr, tyRef, unsigned, valueLocal, w64, Val, vbool, vint, vptr, arith, Memory, Routine, Calls}
+use Rattle.daybook.proofs.Walk.{Env, Heap, Loops, Out, Tables, Wp, WpFn, afterBlock, afterSeq, atReturn, afterTurn, WpFn-mono, fmOf, !, Given, Item, _$_, _∵_, _⊛_, anyQ, atRet, by}
+use Rattle.daybook.proofs.Walk.{done, fjoin, frame, fsplit, join, keep, move, qed, rewrite, split, suffices, ‵, ⋆, look-in, sub, whole, and-then, assigns, assigns-last, bin, branches}
+use Rattle.daybook.proofs.Walk.{enter, exec, first, fld, forget, from, hop, init, jumps, land, leaves-loop, lit, load, look, look-raw, no-more, of-opd, params1, pass0, pass1, returns}
+use Rattle.daybook.proofs.Walk.{skips, stays, stop, store, arr-parts}
 use denote.Struct.Laws as LL
 use Rattle.text.proofs.Truths.{lt-or-ge}
 use Rattle.book.specs.declared.Entry.{Entry}
@@ -37,7 +47,8 @@ abbrev slice : Ty
 slice = sliceTy (tyRef (named 0) imm (pointee (R .written)))
 
 abbrev slots : Slots
-slots = (word, valueLocal) ∷ (slice, valueLocal) ∷ (word, valueLocal) ∷ (kty, valueLocal) ∷ (word, valueLocal) ∷ (word, valueLocal) ∷ (word, valueLocal) ∷ (tyBool, valueLocal) ∷ (tyBool, valueLocal) ∷ (word, valueLocal) ∷ (tyPtr, valueLocal) ∷ (E′.mir, valueLocal) ∷ []
+slots = (word, valueLocal) ∷ (slice, valueLocal) ∷ (word, valueLocal) ∷ (kty, valueLocal) ∷ (word, valueLocal) ∷ (word, valueLocal) ∷ (word, valueLocal) ∷ (tyBool, valueLocal)
+    ∷ (tyBool, valueLocal) ∷ (word, valueLocal) ∷ (tyPtr, valueLocal) ∷ (E′.mir, valueLocal) ∷ []
 
 -- the end of a turn
 abbrev step : Code
@@ -51,17 +62,20 @@ module _ {M : Type 1} (𝓤 : URA M) (H : Heap 𝓤) (A : Atoms 𝓤) (mem : Mem
   abbrev Least : Contract 𝓤
   Least = tripleOf 𝓤 H A le.signature (le.spec 𝓤 H A mem run)
 
-module _ {M : Type 1} (𝓤 : URA M) (H : Heap 𝓤) (A : Atoms 𝓤) (W : Given 𝓤 H A) (mem : Memory → SProp 𝓤) (run : Routine → Fun 𝓤) (a : Entry) (k : Key) (ga : Is R a (vals a)) (gk : Is KR k (kvals k)) where
+module _ {M : Type 1} (𝓤 : URA M) (H : Heap 𝓤) (A : Atoms 𝓤) (W : Given 𝓤 H A) (mem : Memory → SProp 𝓤) (run : Routine
+    → Fun 𝓤) (a : Entry) (k : Key) (ga : Is R a (vals a)) (gk : Is KR k (kvals k)) where
   abbrev hk-at : HasKey 𝓤 H A mem run .Ghost
   hk-at = ((tt, tt, tt, (a, (k, tt)), (vals a, (kvals k, tt))), tt)
 
   hk-asks : ent 𝓤 (emp 𝓤) (HasKey 𝓤 H A mem run .pre hk-at)
-  hk-asks = qed W [] ∵ nothing ! $ owned ! KR (Is KR) (kmakes 𝓤 H A W) k (kvals k) gk $ fjoin ! $ owned ! R (Is R) (LL.makes E.the-type E′.the-plain 𝓤 H A) a (vals a) ga $ fjoin ! $ nothing ! $ join ! $ frame ! $ done !
+  hk-asks = qed W [] ∵ nothing ! $ owned ! KR (Is KR) (kmakes 𝓤 H A W) k (kvals k) gk $ fjoin ! $ owned ! R (Is R) (LL.makes E.the-type E′.the-plain 𝓤 H A) a (vals a) ga $ fjoin ! $
+      nothing ! $ join ! $ frame ! $ done !
 
   hk-said : (r : Bool) → ent 𝓤 (ensured 𝓤 H A hk.ended (hk.clauses 𝓤 H A mem run) tt (a, (k, tt)) tt r) (fact 𝓤 (r ≡ hasKey k a))
   hk-said r = exE 𝓤 _ (λ ws. snd∗ 𝓤 (sem 𝓤 H A (lasts hk.ended tt (a, (k, tt)) ws)) (fact 𝓤 (r ≡ hasKey k a)))
 
-module _ {M : Type 1} (𝓤 : URA M) (H : Heap 𝓤) (A : Atoms 𝓤) (W : Given 𝓤 H A) (mem : Memory → SProp 𝓤) (run : Routine → Fun 𝓤) (κ : Lft) (q : Share) (b o : ℕ) (γ : GName) (ys : List Entry) (opened : ℕ) (k : Key)
+module _ {M : Type 1} (𝓤 : URA M) (H : Heap 𝓤) (A : Atoms 𝓤) (W : Given 𝓤 H A) (mem : Memory → SProp 𝓤) (run : Routine
+    → Fun 𝓤) (κ : Lft) (q : Share) (b o : ℕ) (γ : GName) (ys : List Entry) (opened : ℕ) (k : Key)
     (gn : Room R (length ys)) (opened-fits : opened < 2 ^ 64) (gk : Is KR k (kvals k)) where
   abbrev Arg : Type 0
   Arg = RefT (List Entry) × (ℕ × (Key × Unit {0}))
@@ -78,19 +92,22 @@ module _ {M : Type 1} (𝓤 : URA M) (H : Heap 𝓤) (A : Atoms 𝓤) (W : Given
   abbrev Found : ℕ
   Found = firstAt k (take opened ys)
 
-  exits : (i : ℕ) → i < 2 ^ 64 → i ≡ Found → ent 𝓤 (⋆ 𝓤 H A (‵ (flft κ q) ∷ ‵ (fshr-bor κ (λ s. arr-parts (shares R) (length ys) .part s ys b o)) ∷ ‵ (fres γ (codedHoleys R .code (heres R ys))) ∷ [])) (Post (vint w64 i))
+  exits : (i : ℕ) → i < 2 ^ 64 → i ≡ Found → ent 𝓤 (⋆ 𝓤 H A (‵ (flft κ q) ∷ ‵ (fshr-bor κ (λ s. arr-parts (shares R) (length ys) .part s ys b o))
+      ∷ ‵ (fres γ (codedHoleys R .code (heres R ys))) ∷ [])) (Post (vint w64 i))
   exits i gi e =
       qed W (‵ (flft κ q) ∷ ‵ (fshr-bor κ (λ s. arr-parts (shares R) (length ys) .part s ys b o)) ∷ ‵ (fres γ (codedHoleys R .code (heres R ys))) ∷ []) ∵
       suffices ! _ (ends-at 𝓤 H A f.ended stayed (f.clauses 𝓤 H A mem run) W (((κ, tt), (q, tt), tt, x, at), tt) (vint w64 i) i (tt, (tt, (tt, tt))) (tt, (tt, (tt, tt)))) $ says ! e $
       nothing ! $ move ! (1 ∷ 0 ∷ []) $ join ! $ frame ! $ move ! (1 ∷ 0 ∷ []) $ fjoin ! $ pureI ! (at-slice R (x .0) (at .0)) (tt, (tt, tt)) (refl, gn) $ fjoin ! $
-      nothing ! $ owned ! KR (Is KR) (kmakes 𝓤 H A W) k (kvals k) gk $ fjoin ! $ owned ! usize (Is usize) (uint-makes 𝓤 H A W w64) opened _ (refl, opened-fits) $ fjoin ! $ move ! (1 ∷ 0 ∷ []) $ fjoin ! $
+      nothing ! $ owned ! KR (Is KR) (kmakes 𝓤 H A W) k (kvals k) gk $ fjoin ! $ owned ! usize (Is usize) (uint-makes 𝓤 H A W w64) opened _ (refl, opened-fits) $ fjoin ! $
+      move ! (1 ∷ 0 ∷ []) $ fjoin ! $
       frame ! $ owned ! usize (Is usize) (uint-makes 𝓤 H A W w64) i _ (refl, gi) $ done !
 
   abbrev le-at : Least 𝓤 H A mem run .Ghost
   le-at = ((tt, tt, tt, (opened, (length ys, tt)), (vint w64 opened ∷ [], (vint w64 (length ys) ∷ [], tt))), tt)
 
   le-asks : ent 𝓤 (emp 𝓤) (Least 𝓤 H A mem run .pre le-at)
-  le-asks = qed W [] ∵ nothing ! $ owned ! usize (Is usize) (uint-makes 𝓤 H A W w64) (length ys) _ (refl, gn .0) $ fjoin ! $ owned ! usize (Is usize) (uint-makes 𝓤 H A W w64) opened _ (refl, opened-fits) $ fjoin ! $ nothing ! $ join ! $ frame ! $ done !
+  le-asks = qed W [] ∵ nothing ! $ owned ! usize (Is usize) (uint-makes 𝓤 H A W w64) (length ys) _ (refl, gn .0) $ fjoin ! $
+      owned ! usize (Is usize) (uint-makes 𝓤 H A W w64) opened _ (refl, opened-fits) $ fjoin ! $ nothing ! $ join ! $ frame ! $ done !
 
   module _ (𝓣 : Tables 𝓤 H) (known : Triple 𝓤 (𝓣 .C #hk) (HasKey 𝓤 H A mem run)) (n : ℕ) (few : n ≡ fewer opened (length ys)) (q′ : Share) (p : Places slots) where
     within : n ≤ length ys
@@ -114,10 +131,17 @@ module _ {M : Type 1} (𝓤 : URA M) (H : Heap 𝓤) (A : Atoms 𝓤) (W : Given
 
     -- the row, what a turn changes; then what no turn touches
     abbrev At : ℕ → List (Item 𝓤)
-    At i = ‵ (row R q′ ys b o) ∷ ‵ (fat fullShare word (p .1 .1 .1 .1 .1 .0) 0 (vint w64 i)) ∷ ‵ (froom tyBool (p .1 .1 .1 .1 .1 .1 .1 .0) 0) ∷ ‵ (froom tyBool (p .1 .1 .1 .1 .1 .1 .1 .1 .0) 0) ∷ ‵ (froom word (p .1 .1 .1 .1 .1 .1 .1 .1 .1 .0) 0) ∷ ‵ (froom tyPtr (p .1 .1 .1 .1 .1 .1 .1 .1 .1 .1 .0) 0) ∷ ‵ (froom E′.mir (p .1 .1 .1 .1 .1 .1 .1 .1 .1 .1 .1 .0) 0)
-        ∷ ‵ (fat fullShare slice (p .1 .0) 0 (sliceVal (b, o) (length ys))) ∷ ‵ (fat fullShare word (p .1 .1 .0) 0 (vint w64 opened)) ∷ ‵ (fat fullShare kty (p .1 .1 .1 .0) 0 (kval k)) ∷ ‵ (fat fullShare word (p .1 .1 .1 .1 .0) 0 (vint w64 n)) ∷ ‵ (froom word (p .1 .1 .1 .1 .1 .1 .0) 0) ∷ ‵ (froom word (p .0) 0)
-        ∷ ‵ (fobor κ q (arr-parts (shares R) (length ys) .part q′ ys b o)) ∷ ‵ (fshr-bor κ (λ s. arr-parts (shares R) (length ys) .part s ys b o)) ∷ ‵ (fres γ (codedHoleys R .code (heres R ys)))
-        ∷ ‵ (fdies word (p .0)) ∷ ‵ (fdies slice (p .1 .0)) ∷ ‵ (fdies word (p .1 .1 .0)) ∷ ‵ (fdies kty (p .1 .1 .1 .0)) ∷ ‵ (fdies word (p .1 .1 .1 .1 .0)) ∷ ‵ (fdies word (p .1 .1 .1 .1 .1 .0)) ∷ ‵ (fdies word (p .1 .1 .1 .1 .1 .1 .0)) ∷ ‵ (fdies tyBool (p .1 .1 .1 .1 .1 .1 .1 .0)) ∷ ‵ (fdies tyBool (p .1 .1 .1 .1 .1 .1 .1 .1 .0)) ∷ ‵ (fdies word (p .1 .1 .1 .1 .1 .1 .1 .1 .1 .0)) ∷ ‵ (fdies tyPtr (p .1 .1 .1 .1 .1 .1 .1 .1 .1 .1 .0)) ∷ ‵ (fdies E′.mir (p .1 .1 .1 .1 .1 .1 .1 .1 .1 .1 .1 .0)) ∷ []
+    At i = ‵ (row R q′ ys b o) ∷ ‵ (fat fullShare word (p .1 .1 .1 .1 .1 .0) 0 (vint w64 i)) ∷ ‵ (froom tyBool (p .1 .1 .1 .1 .1 .1 .1 .0) 0)
+        ∷ ‵ (froom tyBool (p .1 .1 .1 .1 .1 .1 .1 .1 .0) 0) ∷ ‵ (froom word (p .1 .1 .1 .1 .1 .1 .1 .1 .1 .0) 0) ∷ ‵ (froom tyPtr (p .1 .1 .1 .1 .1 .1 .1 .1 .1 .1 .0) 0)
+        ∷ ‵ (froom E′.mir (p .1 .1 .1 .1 .1 .1 .1 .1 .1 .1 .1 .0) 0)
+        ∷ ‵ (fat fullShare slice (p .1 .0) 0 (sliceVal (b, o) (length ys))) ∷ ‵ (fat fullShare word (p .1 .1 .0) 0 (vint w64 opened)) ∷ ‵ (fat fullShare kty (p .1 .1 .1 .0) 0 (kval k))
+        ∷ ‵ (fat fullShare word (p .1 .1 .1 .1 .0) 0 (vint w64 n)) ∷ ‵ (froom word (p .1 .1 .1 .1 .1 .1 .0) 0) ∷ ‵ (froom word (p .0) 0)
+        ∷ ‵ (fobor κ q (arr-parts (shares R) (length ys) .part q′ ys b o)) ∷ ‵ (fshr-bor κ (λ s. arr-parts (shares R) (length ys) .part s ys b o))
+        ∷ ‵ (fres γ (codedHoleys R .code (heres R ys)))
+        ∷ ‵ (fdies word (p .0)) ∷ ‵ (fdies slice (p .1 .0)) ∷ ‵ (fdies word (p .1 .1 .0)) ∷ ‵ (fdies kty (p .1 .1 .1 .0)) ∷ ‵ (fdies word (p .1 .1 .1 .1 .0))
+        ∷ ‵ (fdies word (p .1 .1 .1 .1 .1 .0)) ∷ ‵ (fdies word (p .1 .1 .1 .1 .1 .1 .0)) ∷ ‵ (fdies tyBool (p .1 .1 .1 .1 .1 .1 .1 .0))
+        ∷ ‵ (fdies tyBool (p .1 .1 .1 .1 .1 .1 .1 .1 .0)) ∷ ‵ (fdies word (p .1 .1 .1 .1 .1 .1 .1 .1 .1 .0)) ∷ ‵ (fdies tyPtr (p .1 .1 .1 .1 .1 .1 .1 .1 .1 .1 .0))
+        ∷ ‵ (fdies E′.mir (p .1 .1 .1 .1 .1 .1 .1 .1 .1 .1 .1 .0)) ∷ []
 
     abbrev Fact : ℕ → Type 0
     Fact i = (i ≤ n) × (i + firstAt k (drop i (take n ys)) ≡ Found)
@@ -145,11 +169,21 @@ module _ {M : Type 1} (𝓤 : URA M) (H : Heap 𝓤) (A : Atoms 𝓤) (W : Given
         qed W (At i) ∵ exec ! C Λ En m.turn-1 (anyQ (afterTurn 𝓤 H X Left)) $
         assigns ! (bin ! (load ! (from ! (stop !)) (look ! 1 refl)) (load ! (from ! (stop !)) (look ! 10 refl)) tt) (from ! (stop !)) (init ! 2 refl (tt, tt)) $
         rewrite ! 2 (λ (t : Bool). ‵ (fat fullShare tyBool (p .1 .1 .1 .1 .1 .1 .1 .0) 0 (vbool t))) (lt-ltb i n l) refl $ stays ! (load ! (from ! (stop !)) (look ! 2 refl)) $
-        assigns ! (bin ! (load ! (from ! (stop !)) (look ! 1 refl)) (lit ! tt) (record { fits = fits-at i (length ys) inside (gn .1) })) (from ! (stop !)) (init ! 4 refl (tt, record { fits = fits-at i (length ys) inside (gn .1) })) $
-        assigns ! (bin ! (load ! (from ! (fld ! refl (stop !))) (look-in ! 7 (sub ! 0 refl (whole !)))) (load ! (from ! (stop !)) (look ! 4 refl)) tt) (from ! (stop !)) (init ! 5 refl (tt, tt)) $
+        assigns ! (bin ! (load ! (from ! (stop !)) (look ! 1 refl)) (lit ! tt) (record { fits = fits-at i (length ys) inside (gn .1) })) (from ! (stop !)) (init ! 4 refl (
+          tt,
+          record {
+            fits
+                = fits-at i (length ys) inside (gn .1);
+          },
+        )) $
+        assigns ! (bin ! (load ! (from ! (fld ! refl (stop !))) (look-in ! 7 (sub ! 0 refl (whole !)))) (load ! (from ! (stop !)) (look ! 4 refl)) tt) (from ! (stop !)) (init ! 5 refl (
+          tt,
+          tt,
+        )) $
         rewrite ! 5 (λ (z : ℕ). ‵ (fat fullShare tyPtr (p .1 .1 .1 .1 .1 .1 .1 .1 .1 .1 .0) 0 (vptr b z))) (sym (place-is 72 o i)) refl $
         elem-out ! R (Is R) (shows 𝓤 H A R) vals tells q′ ys i noEntry b o inside (λ g.
-        assigns ! (of-opd ! (load ! (from ! (hop ! (look ! 7 refl) (stop !))) (look-raw ! 0 refl))) (from ! (stop !)) (init ! 8 refl (LL.lawful E.the-type E′.the-laws 𝓤 H A W .typed elem (vals elem) g .0)) $
+        assigns ! (of-opd ! (load ! (from ! (hop ! (look ! 7 refl) (stop !))) (look-raw ! 0 refl))) (from ! (stop !)) (init ! 8 refl (LL.lawful E.the-type E′.the-laws 𝓤 H A W .typed elem
+        (vals elem) g .0)) $
         elem-back ! R q′ ys i noEntry (vals elem) b o inside $
         calls-plain ! (fmOf 𝓤 H (W .laws) 𝓣) (HasKey 𝓤 H A mem run) known (hk-at 𝓤 H A W mem run elem k g gk) (hk-asks 𝓤 H A W mem run elem k g gk)
         bool (λ r. ensured 𝓤 H A hk.ended (hk.clauses 𝓤 H A mem run) tt (elem, (k, tt)) tt r) (λ _. id⊢ 𝓤 _) (λ r. r ≡ hasKey k elem) (hk-said 𝓤 H A W mem run elem k g gk)
@@ -197,26 +231,43 @@ module _ {M : Type 1} (𝓤 : URA M) (H : Heap 𝓤) (A : Atoms 𝓤) (W : Given
   walk : (𝓣 : Tables 𝓤 H) → Triple 𝓤 (𝓣 .C #hk) (HasKey 𝓤 H A mem run) → Triple 𝓤 (𝓣 .C #le) (Least 𝓤 H A mem run)
       → ent 𝓤 (onEntry 𝓤 H A f.signature (κ, tt) (q, tt) x at) (WpFn 𝓤 H (𝓣 .C) (𝓣 .Λ) code.function (sliceVal (b, o) (length ys) ∷ vint w64 opened ∷ kval k ∷ []) Post)
   walk 𝓣 known known-le =
-      qed W ((‵ (flft κ q) ⊛ ‵ ftrue) ∷ ‵ (owns (ShrSlice (named 0) κ R ∷ usize ∷ KR ∷ []) x at) ∷ []) ∵ enter ! (𝓣 .C) (𝓣 .Λ) code.function (sliceVal (b, o) (length ys) ∷ vint w64 opened ∷ kval k ∷ []) _ $
-      allocs-all ! slots _ (λ p. params1 ! $ pass1 ! (init ! 20 refl (tt, (tt, (record { fits = gn .0 }, tt)))) $ pass1 ! (init ! 18 refl (tt, record { fits = opened-fits })) $ pass1 ! (init ! 16 refl (ktyped 𝓤 H A W k gk)) $ pass0 ! $
+      qed W ((‵ (flft κ q) ⊛ ‵ ftrue) ∷ ‵ (owns (ShrSlice (named 0) κ R ∷ usize ∷ KR ∷ []) x at) ∷ []) ∵ enter ! (𝓣 .C) (𝓣 .Λ) code.function (sliceVal (b, o) (length ys) ∷ vint w64 opened
+      ∷ kval k ∷ []) _ $
+      allocs-all ! slots _ (λ p. params1 ! $ pass1 ! (init ! 20 refl (tt, (tt, (record { fits = gn .0 }, tt)))) $ pass1 ! (init ! 18 refl (tt, record { fits = opened-fits })) $
+      pass1 ! (init ! 16 refl (ktyped 𝓤 H A W k gk)) $ pass0 ! $
       assigns ! (of-opd ! (load ! (from ! (fld ! refl (stop !))) (look-in ! 20 (sub ! 1 refl (whole !))))) (from ! (stop !)) (init ! 10 refl (tt, record { fits = gn .0 })) $
       calls-plain ! (fmOf 𝓤 H (W .laws) 𝓣) (Least 𝓤 H A mem run) known-le le-at le-asks
-      usize (λ u. ensured 𝓤 H A le.ended (le.clauses 𝓤 H A mem run) tt (opened, (length ys, tt)) tt u) (λ _. id⊢ 𝓤 _) (λ u. u ≡ fewer opened (length ys)) (λ u. exE 𝓤 _ (λ ws. snd∗ 𝓤 (sem 𝓤 H A (lasts le.ended tt (opened, (length ys, tt)) ws)) (fact 𝓤 (u ≡ fewer opened (length ys)))))
+      usize (λ u. ensured 𝓤 H A le.ended (le.clauses 𝓤 H A mem run) tt (opened, (length ys, tt)) tt u) (λ _. id⊢ 𝓤 _) (λ u. u ≡ fewer opened (length ys)) (λ u. exE 𝓤 _ (λ ws. snd∗ 𝓤 (sem 𝓤
+      H A (lasts le.ended tt (opened, (length ys, tt)) ws)) (fact 𝓤 (u ≡ fewer opened (length ys)))))
       (and-then ! (load ! (from ! (stop !)) (look ! 19 refl)) (and-then ! (load ! (from ! (stop !)) (look ! 11 refl)) (no-more !))) (λ n v₄ gn₄ e₄.
-      land ! (from ! (stop !)) (init ! 14 refl (uint-lawful 𝓤 H A W w64 .typed n (v₄ ∷ []) gn₄ .0)) $ rewrite ! 14 (λ (u : Val). ‵ (fat fullShare word (p .1 .1 .1 .1 .0) 0 u)) (ap only (uint-tells w64 n (v₄ ∷ []) gn₄)) refl $
+      land ! (from ! (stop !)) (init ! 14 refl (uint-lawful 𝓤 H A W w64 .typed n (v₄ ∷ []) gn₄ .0)) $
+      rewrite ! 14 (λ (u : Val). ‵ (fat fullShare word (p .1 .1 .1 .1 .0) 0 u)) (ap only (uint-tells w64 n (v₄ ∷ []) gn₄)) refl $
       assigns ! (of-opd ! (lit ! tt)) (from ! (stop !)) (init ! 12 refl (tt, record { fits = lit< tt })) $
       move ! (25 ∷ []) $ fsplit ! $ fsplit ! $ move ! (1 ∷ []) $ fsplit ! $ move ! (28 ∷ []) $ split ! $ move ! (3 ∷ 0 ∷ []) $
       looks-slice ! tt R (Is R) (shows 𝓤 H A R) vals tells (LL.copy E.the-type E′.the-copy 𝓤 H A W) ys b o (λ q′. forget ! 17 refl $
       keep ! (0 ∷ 19 ∷ 15 ∷ 13 ∷ 11 ∷ 9 ∷ 7 ∷ 27 ∷ 25 ∷ 23 ∷ 21 ∷ 17 ∷ 29 ∷ 1 ∷ 2 ∷ 4 ∷ 30 ∷ 28 ∷ 26 ∷ 24 ∷ 22 ∷ 20 ∷ 18 ∷ 16 ∷ 14 ∷ 12 ∷ 10 ∷ 8 ∷ []) $
-      by ! (loops-by 𝓤 H A W 𝓣 (En 𝓣 known n e₄ q′ p) m.turn-1 (Left 𝓣 known n e₄ q′ p) (At 𝓣 known n e₄ q′ p) (Fact 𝓣 known n e₄ q′ p) (λ i. n - i) (turn 𝓣 known n e₄ q′ p) 0 (omega arith, start 𝓣 known n e₄ q′ p)))))
+      by ! (loops-by 𝓤 H A W 𝓣 (En 𝓣 known n e₄ q′ p) m.turn-1 (Left 𝓣 known n e₄ q′ p) (At 𝓣 known n e₄ q′ p) (Fact 𝓣 known n e₄ q′ p) (λ i. n - i) (turn 𝓣 known n e₄ q′ p) 0 (
+        omega arith,
+        start 𝓣 known n e₄ q′ p,
+      )))))
 
-module _ {M : Type 1} (𝓤 : URA M) (H : Heap 𝓤) (A : Atoms 𝓤) (W : Given 𝓤 H A) (mem : Memory → SProp 𝓤) (run : Routine → Fun 𝓤) (𝓣 : Tables 𝓤 H) (known : Triple 𝓤 (𝓣 .C #hk) (HasKey 𝓤 H A mem run)) (known-le : Triple 𝓤 (𝓣 .C #le) (Least 𝓤 H A mem run)) where
+module _ {M : Type 1} (𝓤 : URA M) (H : Heap 𝓤) (A : Atoms 𝓤) (W : Given 𝓤 H A) (mem : Memory → SProp 𝓤) (run : Routine
+    → Fun 𝓤) (𝓣 : Tables 𝓤 H) (known : Triple 𝓤 (𝓣 .C #hk) (HasKey 𝓤 H A mem run)) (known-le : Triple 𝓤 (𝓣 .C #le) (Least 𝓤 H A mem run)) where
   walks : Walks 𝓤 H A f.ended stayed (WpFn 𝓤 H (𝓣 .C) (𝓣 .Λ) code.function) (f.clauses 𝓤 H A mem run)
-  walks = walked 𝓤 H A f.ended stayed (f.clauses 𝓤 H A mem run) (WpFn 𝓤 H (𝓣 .C) (𝓣 .Λ) code.function) (λ κs. (slice-vals, (uint-vals w64, (kvals, tt)))) (λ κs. (shr-slice-tells (named 0) (κs .0) R, (uint-tells w64, (ktells, tt))))
-      (λ κs qs bounds a g are. via 𝓤 _ (fst∗ 𝓤 _ (emp 𝓤)) (walk 𝓤 H A W mem run (κs .0) (qs .0) (a .0 .ptr .0) (a .0 .ptr .1) (a .0 .name) (a .0 .now) (a .1 .0) (a .1 .1 .0) (are .0 .0 .1) (are .1 .0 .1) (are .1 .1 .0) 𝓣 known known-le))
+  walks = walked 𝓤 H A f.ended stayed (f.clauses 𝓤 H A mem run) (WpFn 𝓤 H (𝓣 .C) (𝓣 .Λ) code.function) (λ κs. (slice-vals, (uint-vals w64, (kvals, tt)))) (λ κs. (
+    shr-slice-tells (named 0)
+        (κs .0) R,
+    (uint-tells w64, (ktells, tt)),
+  ))
+      (λ κs qs bounds a g are. via 𝓤 _ (fst∗ 𝓤 _ (emp 𝓤)) (walk 𝓤 H A W mem run (κs .0) (qs .0) (a .0 .ptr .0) (a .0 .ptr .1) (a .0 .name) (a .0 .now) (a .1 .0) (a .1 .1 .0) (are .0 .0 .1)
+      (are .1 .0 .1) (are .1 .1 .0) 𝓣 known known-le))
 
   meets : Meets 𝓤 H A f.signature (WpFn 𝓤 H (𝓣 .C) (𝓣 .Λ) code.function) (f.spec 𝓤 H A mem run)
-  meets = walk-meets 𝓤 H A f.ended stayed W (goes-none-slice 𝓤 H A W 1 (0 ∷ []) tt (plain (λ _. R)) yes, (goes-none 𝓤 H A W 1 (λ _. usize) yes (λ κs x f. refl), (goes-none 𝓤 H A W 1 (λ _. KR) yes (λ κs x f. refl), tt))) (f.clauses 𝓤 H A mem run)
+  meets = walk-meets 𝓤 H A f.ended stayed W (
+    goes-none-slice 𝓤 H A W 1 (0
+        ∷ []) tt (plain (λ _. R)) yes,
+    (goes-none 𝓤 H A W 1 (λ _. usize) yes (λ κs x f. refl), (goes-none 𝓤 H A W 1 (λ _. KR) yes (λ κs x f. refl), tt)),
+  ) (f.clauses 𝓤 H A mem run)
       (WpFn 𝓤 H (𝓣 .C) (𝓣 .Λ) code.function) (WpFn-mono 𝓤 H (W .laws) 𝓣 code.function) walks
 
 pub search-spec : {M : Type 1} → stated.statement M
