@@ -56,10 +56,11 @@ noEntry = record { key = []; cents = 0 }
 abbrev pub capped : ℕ → ℕ
 capped n = pick (leb n (most Total)) n (suc (most Total))
 
--- ---- the first 64 entries of a list that has so many places: no book where they are fewer
-abbrev pub firstOf : List Entry → ℕ → Book
-firstOf l n = record { entries = l; number = n }
+-- a list of entries, n of them open
+abbrev pub bookOf : List Entry → ℕ → Book
+bookOf l n = record { entries = l; number = n }
 
+-- ---- the first 64 entries of a list that has so many places: no book where they are fewer
 unfoldable pub calledOn : ℕ → Call → Book → Outcome
 calledOn places c b = pick (leb mostOpen places) (called c b) (unchanged 29 0 b)
 

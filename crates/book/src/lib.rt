@@ -7,7 +7,7 @@ ghost use lib.ListN.{length, take, drop, getD};
 ghost use Rattle.naming.specs.Key.{keyed};
 ghost use Rattle.book.specs.Book.{mostOpen, hasKey, isOpen, twoEqual, sumOf, isBook, firstAt};
 ghost use Rattle.book.specs.Calls.{refusal, bulk, bulkOf, enter, withdraw, enters, withdraws};
-ghost use Rattle.book.specs.Code.{callAs, answerFor, answerOf, outcomeOf, blankEntry, capped, firstOf, calledOn, askedOn, foundFor, shifted};
+ghost use Rattle.book.specs.Code.{callAs, answerFor, answerOf, outcomeOf, blankEntry, capped, bookOf, calledOn, askedOn, foundFor, shifted};
 
 // How many bulks are open at most, and how many places a book has at least.
 pub const MOST: usize = 64;
@@ -127,7 +127,7 @@ fn sum(b: [Entry; MOST], opened: usize) -> u64
 
 // Whether the first 64 entries, so many of them open, are a book.
 fn is_book(b: [Entry; MOST], opened: usize) -> bool
-    ensures { λ r. ⌜ r ≡ isBook (firstOf b opened) ⌝ }
+    ensures { λ r. ⌜ r ≡ isBook (bookOf b opened) ⌝ }
 {
     if MOST < opened {
         return false;
@@ -140,7 +140,7 @@ fn is_book(b: [Entry; MOST], opened: usize) -> bool
 
 // A refusal, with the entries as they are.
 fn refuse(b: [Entry; MOST], opened: usize, number: u8, place: usize) -> Outcome
-    ensures { λ r. ⌜ r ≡ outcomeOf (record { told = refusal number place; book = firstOf b opened }) ⌝ }
+    ensures { λ r. ⌜ r ≡ outcomeOf (record { told = refusal number place; book = bookOf b opened }) ⌝ }
 {
     Outcome {
         answer: Answer {
@@ -156,7 +156,7 @@ fn refuse(b: [Entry; MOST], opened: usize, number: u8, place: usize) -> Outcome
 // An entry behind the open ones: 20 where its key is open already, 21 where 64 are open.
 fn enter_in(b: [Entry; MOST], opened: usize, e: Entry) -> Outcome
     requires { ⌜ opened ≤ mostOpen ⌝ }
-    ensures { λ r. ⌜ r ≡ outcomeOf (enters (bulk e) (firstOf b opened)) ⌝ }
+    ensures { λ r. ⌜ r ≡ outcomeOf (enters (bulk e) (bookOf b opened)) ⌝ }
 {
     let key = e.key;
     if find_from(b, 0, opened, key) < opened {
@@ -196,7 +196,7 @@ fn shift(b: [Entry; MOST], at: usize, opened: usize) -> [Entry; MOST]
 // The first entry with the key goes; 22 where none has it.
 fn withdraw_in(b: [Entry; MOST], opened: usize, key: [u8; keys::LENGTH]) -> Outcome
     requires { ⌜ opened ≤ mostOpen ⌝ }
-    ensures { λ r. ⌜ r ≡ outcomeOf (withdraws key (firstOf b opened)) ⌝ }
+    ensures { λ r. ⌜ r ≡ outcomeOf (withdraws key (bookOf b opened)) ⌝ }
 {
     let at = find_from(b, 0, opened, key);
     if opened <= at {
@@ -217,7 +217,7 @@ fn withdraw_in(b: [Entry; MOST], opened: usize, key: [u8; keys::LENGTH]) -> Outc
 
 // A call on the first 64 entries of a list of so many places, so many of them open: 29 first, where they are no book.
 pub fn act_on(b: [Entry; MOST], places: usize, opened: usize, call: Call) -> Outcome
-    ensures { λ r. ⌜ r ≡ outcomeOf (calledOn places (callAs call) (firstOf b opened)) ⌝ }
+    ensures { λ r. ⌜ r ≡ outcomeOf (calledOn places (callAs call) (bookOf b opened)) ⌝ }
 {
     if places < MOST {
         return refuse(b, opened, 29, 0);
@@ -239,7 +239,7 @@ pub fn act_on(b: [Entry; MOST], places: usize, opened: usize, call: Call) -> Out
 
 // The open total of the first 64 entries of a list of so many places; 29 where they are no book.
 pub fn ask_on(b: [Entry; MOST], places: usize, opened: usize) -> Answer
-    ensures { λ r. ⌜ r ≡ answerFor (askedOn places (firstOf b opened)) opened ⌝ }
+    ensures { λ r. ⌜ r ≡ answerFor (askedOn places (bookOf b opened)) opened ⌝ }
 {
     if places < MOST {
         return none(opened);

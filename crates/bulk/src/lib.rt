@@ -21,7 +21,7 @@ ghost use Rattle.accounts.specs.Bic.{bicGiven};
 ghost use Rattle.bulk.specs.Told.{told, toldVerdict, toldExtent, toldCall, toldIs, toldFound};
 ghost use Rattle.naming.specs.Key.{keyed};
 ghost use Rattle.book.specs.Calls.{bulkOf, enter, withdraw, called, asked, searched};
-ghost use Rattle.book.specs.Code.{answerFor, answerOf, foundOf, firstOf};
+ghost use Rattle.book.specs.Code.{answerFor, answerOf, foundOf, bookOf};
 ghost use Rattle.judge.specs.Verdict.{meant, located};
 ghost use Rattle.reading.specs.Judged.{judged};
 ghost use Rattle.reading.specs.Items.{item as itemOf};
@@ -212,8 +212,8 @@ pub extern "C" fn bulk_book_enter<'a>(
     message: &'a [u8],
     answer: &'a mut [u64; 3],
 )
-    ensures { λ _. ⌜ (now (answer .exit) ≡ toldCall (answerOf (called (enter (bulkOf (keyed (now (message .entry))))) (firstOf (now (entries .entry)) opened))))
-        × (now (entries .exit) ≡ called (enter (bulkOf (keyed (now (message .entry))))) (firstOf (now (entries .entry)) opened) .book .entries) ⌝ }
+    ensures { λ _. ⌜ (now (answer .exit) ≡ toldCall (answerOf (called (enter (bulkOf (keyed (now (message .entry))))) (bookOf (now (entries .entry)) opened))))
+        × (now (entries .exit) ≡ called (enter (bulkOf (keyed (now (message .entry))))) (bookOf (now (entries .entry)) opened) .book .entries) ⌝ }
 {
     let call = book::entering(message);
     let a = daybook::act(entries, opened, call);
@@ -228,8 +228,8 @@ pub extern "C" fn bulk_book_withdraw<'a>(
     key: &'a [u8; 60],
     answer: &'a mut [u64; 3],
 )
-    ensures { λ _. ⌜ (now (answer .exit) ≡ toldCall (answerOf (called (withdraw (now (key .entry))) (firstOf (now (entries .entry)) opened))))
-        × (now (entries .exit) ≡ called (withdraw (now (key .entry))) (firstOf (now (entries .entry)) opened) .book .entries) ⌝ }
+    ensures { λ _. ⌜ (now (answer .exit) ≡ toldCall (answerOf (called (withdraw (now (key .entry))) (bookOf (now (entries .entry)) opened))))
+        × (now (entries .exit) ≡ called (withdraw (now (key .entry))) (bookOf (now (entries .entry)) opened) .book .entries) ⌝ }
 {
     let call = book::withdrawing(book::key_at(key));
     let a = daybook::act(entries, opened, call);
@@ -244,7 +244,7 @@ pub extern "C" fn bulk_book_find<'a>(
     key: &'a [u8; 60],
     answer: &'a mut [u64; 3],
 )
-    ensures { λ _. ⌜ now (answer .exit) ≡ toldFound (foundOf (searched (now (key .entry)) (firstOf (now (entries .entry)) opened))) ⌝ }
+    ensures { λ _. ⌜ now (answer .exit) ≡ toldFound (foundOf (searched (now (key .entry)) (bookOf (now (entries .entry)) opened))) ⌝ }
 {
     let k = book::key_at(key);
     let r = daybook::find(entries, opened, k);
@@ -254,7 +254,7 @@ pub extern "C" fn bulk_book_find<'a>(
 // The open total: 0, the number open, the cents; or 29, 0, 0.
 #[no_mangle]
 pub extern "C" fn bulk_book_total<'a>(entries: &'a [Entry], opened: usize, answer: &'a mut [u64; 3])
-    ensures { λ _. ⌜ now (answer .exit) ≡ toldCall (answerFor (asked (firstOf (now (entries .entry)) opened)) opened) ⌝ }
+    ensures { λ _. ⌜ now (answer .exit) ≡ toldCall (answerFor (asked (bookOf (now (entries .entry)) opened)) opened) ⌝ }
 {
     let a = daybook::ask(entries, opened);
     tell_call(answer, a);
@@ -263,7 +263,7 @@ pub extern "C" fn bulk_book_total<'a>(entries: &'a [Entry], opened: usize, answe
 // Whether the lent book is one: 0, 0, 0; or 29, 0, 0.
 #[no_mangle]
 pub extern "C" fn bulk_book_check<'a>(entries: &'a [Entry], opened: usize, answer: &'a mut [u64; 3])
-    ensures { λ _. ⌜ now (answer .exit) ≡ toldIs (answerFor (asked (firstOf (now (entries .entry)) opened)) opened) ⌝ }
+    ensures { λ _. ⌜ now (answer .exit) ≡ toldIs (answerFor (asked (bookOf (now (entries .entry)) opened)) opened) ⌝ }
 {
     let a = daybook::ask(entries, opened);
     tell_is(answer, a);

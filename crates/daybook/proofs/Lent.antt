@@ -20,13 +20,13 @@ use Rattle.book.specs.declared.Outcome as acting
 use Rattle.book.specs.Book.{Key, Book, mostOpen, openIn, isOpen, twoEqual, sumOf, openTotal, isBook, firstAt, without, centsOf}
 use Rattle.book.specs.Calls.{Told, done, refusal, Outcome, unchanged, inBook, Bulk, bulk, unfit, enters, entered, withdraws, withdrawn, Call, enter, withdraw, called, asked, Searched, at}
 use Rattle.book.specs.Calls.{nowhere, none, searched}
-use Rattle.book.specs.Code.{answerFor, answerOf, outcomeOf, foundOf, blankEntry, firstOf, calledOn, askedOn, foundFor}
+use Rattle.book.specs.Code.{answerFor, answerOf, outcomeOf, foundOf, blankEntry, bookOf, calledOn, askedOn, foundFor}
 use Rattle.book.proofs.Lists.{open-first}
 use Rattle.daybook.specs.Lent.{firstPlaces, replaced}
 
 module _ (ys : List Entry) (n : ℕ) where
   abbrev lent : Book
-  lent = firstOf ys n
+  lent = bookOf ys n
 
   -- ---- too few places
   few-none : length ys < mostOpen → isBook lent ≡ false
@@ -56,7 +56,7 @@ module _ (ys : List Entry) (n : ℕ) where
     first-is = take-append-le mostOpen ys (replicate mostOpen blankEntry) room
 
     abbrev held : Book
-    held = firstOf first n
+    held = bookOf first n
 
     open-same : n ≤ mostOpen → openIn held ≡ openIn lent
     open-same h = take-take n mostOpen ys h
@@ -144,14 +144,14 @@ module _ (ys : List Entry) (n : ℕ) where
     filled bs long = rw (take-all (length ys) bs (omega arith))
 
   -- ---- a call
-  pub lent-called : (c : Call) (o : acting.Outcome) → o ≡ outcomeOf (calledOn (length ys) c (firstOf (firstPlaces ys) n)) → length (o .entries) ≡ mostOpen
+  pub lent-called : (c : Call) (o : acting.Outcome) → o ≡ outcomeOf (calledOn (length ys) c (bookOf (firstPlaces ys) n)) → length (o .entries) ≡ mostOpen
       → (o .answer ≡ answerOf (called c lent)) × (replaced (o .entries) ys ≡ called c lent .book .entries)
   unfolding calledOn
   lent-called c o e long = elim (lt-or-ge (length ys) mostOpen) [ inl h ↦ small h | inr h ↦ large h ]
     where
       small : length ys < mostOpen → (o .answer ≡ answerOf (called c lent)) × (replaced (o .entries) ys ≡ called c lent .book .entries)
       small h =
-          let z : o ≡ outcomeOf (unchanged 29 0 (firstOf (firstPlaces ys) n)) = e ∙ rw (lt-leb mostOpen (length ys) h) in
+          let z : o ≡ outcomeOf (unchanged 29 0 (bookOf (firstPlaces ys) n)) = e ∙ rw (lt-leb mostOpen (length ys) h) in
           rw (called-none lent (few-none h) c, z) (refl, few-same h)
 
       large : mostOpen ≤ length ys → (o .answer ≡ answerOf (called c lent)) × (replaced (o .entries) ys ≡ called c lent .book .entries)
@@ -164,7 +164,7 @@ module _ (ys : List Entry) (n : ℕ) where
           )
 
   -- ---- the open total
-  pub lent-asked : askedOn (length ys) (firstOf (firstPlaces ys) n) ≡ asked lent
+  pub lent-asked : askedOn (length ys) (bookOf (firstPlaces ys) n) ≡ asked lent
   unfolding askedOn asked
   lent-asked = elim (lt-or-ge (length ys) mostOpen) [
     | inl h ↦ rw (lt-leb mostOpen (length ys) h, few-none h)

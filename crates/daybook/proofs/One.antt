@@ -7,16 +7,16 @@ use Rattle.book.specs.declared.Answer.{Answer}
 use Rattle.book.specs.declared.Found.{Found}
 use Rattle.book.specs.Book.{Key}
 use Rattle.book.specs.Calls.{Call, called, asked, searched}
-use Rattle.book.specs.Code.{answerFor, answerOf, foundOf, firstOf}
+use Rattle.book.specs.Code.{answerFor, answerOf, foundOf, bookOf}
 
 module _ (ys : List Entry) (n : ℕ) where
   pub one-act : (c : Call) (a b : Answer) (x y : List Entry)
-      → a ≡ answerOf (called c (firstOf ys n)) → x ≡ called c (firstOf ys n) .book .entries
-      → b ≡ answerOf (called c (firstOf ys n)) → y ≡ called c (firstOf ys n) .book .entries → (a ≡ b) × (x ≡ y)
+      → a ≡ answerOf (called c (bookOf ys n)) → x ≡ called c (bookOf ys n) .book .entries
+      → b ≡ answerOf (called c (bookOf ys n)) → y ≡ called c (bookOf ys n) .book .entries → (a ≡ b) × (x ≡ y)
   one-act c a b x y d e f g = (d ∙ sym f, e ∙ sym g)
 
-  pub one-ask : (a b : Answer) → a ≡ answerFor (asked (firstOf ys n)) n → b ≡ answerFor (asked (firstOf ys n)) n → a ≡ b
+  pub one-ask : (a b : Answer) → a ≡ answerFor (asked (bookOf ys n)) n → b ≡ answerFor (asked (bookOf ys n)) n → a ≡ b
   one-ask a b d e = d ∙ sym e
 
-  pub one-find : (k : Key) (a b : Found) → a ≡ foundOf (searched k (firstOf ys n)) → b ≡ foundOf (searched k (firstOf ys n)) → a ≡ b
+  pub one-find : (k : Key) (a b : Found) → a ≡ foundOf (searched k (bookOf ys n)) → b ≡ foundOf (searched k (bookOf ys n)) → a ≡ b
   one-find k a b d e = d ∙ sym e

@@ -9,7 +9,7 @@ ghost use Prim.Native.Nat.{_≤_};
 ghost use lib.ListN.{length, take};
 ghost use Rattle.book.specs.Book.{firstAt};
 ghost use Rattle.book.specs.Calls.{called, asked, searched};
-ghost use Rattle.book.specs.Code.{callAs, answerFor, answerOf, foundOf, firstOf};
+ghost use Rattle.book.specs.Code.{callAs, answerFor, answerOf, foundOf, bookOf};
 ghost use Rattle.daybook.specs.Lent.{firstPlaces, replaced, fewer};
 
 // The smaller of two numbers.
@@ -80,8 +80,8 @@ fn answer_of(o: Outcome) -> Answer
 
 // A call that changes the book: an entry or a withdrawal.
 pub fn act(entries: &mut [Entry], opened: usize, call: Call) -> Answer
-    ensures { λ r. ⌜ (r ≡ answerOf (called (callAs call) (firstOf (now (entries .entry)) opened)))
-        × (now (entries .exit) ≡ called (callAs call) (firstOf (now (entries .entry)) opened) .book .entries) ⌝ }
+    ensures { λ r. ⌜ (r ≡ answerOf (called (callAs call) (bookOf (now (entries .entry)) opened)))
+        × (now (entries .exit) ≡ called (callAs call) (bookOf (now (entries .entry)) opened) .book .entries) ⌝ }
 {
     let places = entries.len();
     let b = copy_in(entries);
@@ -93,7 +93,7 @@ pub fn act(entries: &mut [Entry], opened: usize, call: Call) -> Answer
 
 // The open total, or 29 where the lent book is none.
 pub fn ask(entries: &[Entry], opened: usize) -> Answer
-    ensures { λ r. ⌜ r ≡ answerFor (asked (firstOf (now (entries .entry)) opened)) opened ⌝ }
+    ensures { λ r. ⌜ r ≡ answerFor (asked (bookOf (now (entries .entry)) opened)) opened ⌝ }
 {
     let places = entries.len();
     let b = copy_in(entries);
@@ -102,7 +102,7 @@ pub fn ask(entries: &[Entry], opened: usize) -> Answer
 
 // The first open entry with the key, or that there is none; 29 where the lent book is none.
 pub fn find(entries: &[Entry], opened: usize, key: [u8; keys::LENGTH]) -> Found
-    ensures { λ r. ⌜ r ≡ foundOf (searched key (firstOf (now (entries .entry)) opened)) ⌝ }
+    ensures { λ r. ⌜ r ≡ foundOf (searched key (bookOf (now (entries .entry)) opened)) ⌝ }
 {
     let a = ask(entries, opened);
     let at = search(entries, opened, key);

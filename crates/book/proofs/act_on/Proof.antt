@@ -3,7 +3,7 @@ use mathlib.Core.Path.{_∙_, sym, ap}
 use Rattle.text.proofs.Truths.{yes-not, no-not}
 use Rattle.book.specs.Calls.{Call, bulk, unfit}
 use Rattle.book.specs.declared.Ask.{Ask}
-use Rattle.book.specs.Code.{callAs, callFor, firstOf, outcomeOf, calledOn}
+use Rattle.book.specs.Code.{callAs, callFor, bookOf, outcomeOf, calledOn}
 use Rattle.book.proofs.Answers.{few-places, no-book, enter-called, withdraw-called, book-few}
 use borrow.Author.Needs.{needs}
 use Rattle.book.proofs.act_on.Statement.{statement}
@@ -45,17 +45,17 @@ withdraw-in-requires c κs = book-few (c .before .before .before .before .before
 returns-3 : tie.Need-returns-3
 returns-3 c = let a = c .before .before .before .before .before .before .before .before .args in
     enter-called (a .b) (a .opened) (c .before .before .before .before .before .before .before .before .good .0 .1 .0 .1) (a .places) (c .before .before .before .before .before .before .before .if1 .left) (yes-not (c .before .before .before .before .before .before .is-book .ensures) (c .before .before .before .before .before .if2 .left)) _ (unfit _ _) (c .refuse3 .ensures)
-    ∙ ap (λ (k : Ask). outcomeOf (calledOn (a .places) (callFor k (a .call .entry)) (firstOf (a .b) (a .opened)))) (sym (c .before .before .ask .given .1))
+    ∙ ap (λ (k : Ask). outcomeOf (calledOn (a .places) (callFor k (a .call .entry)) (bookOf (a .b) (a .opened)))) (sym (c .before .before .ask .given .1))
 
 returns-4 : tie.Need-returns-4
 returns-4 c = let a = c .before .before .before .before .before .before .before .args in
     enter-called (a .b) (a .opened) (c .before .before .before .before .before .before .before .good .0 .1 .0 .1) (a .places) (c .before .before .before .before .before .before .if1 .left) (yes-not (c .before .before .before .before .before .is-book .ensures) (c .before .before .before .before .if2 .left)) _ (bulk (a .call .entry)) (c .enter-in .ensures)
-    ∙ ap (λ (k : Ask). outcomeOf (calledOn (a .places) (callFor k (a .call .entry)) (firstOf (a .b) (a .opened)))) (sym (c .before .enum-told .given .1))
+    ∙ ap (λ (k : Ask). outcomeOf (calledOn (a .places) (callFor k (a .call .entry)) (bookOf (a .b) (a .opened)))) (sym (c .before .enum-told .given .1))
 
 returns-5 : tie.Need-returns-5
 returns-5 c = let a = c .before .before .before .before .before .before .before .before .args in
     withdraw-called (a .b) (a .opened) (c .before .before .before .before .before .before .before .before .good .0 .1 .0 .1) (a .places) (c .before .before .before .before .before .before .before .if1 .left) (yes-not (c .before .before .before .before .before .before .is-book .ensures) (c .before .before .before .before .before .if2 .left)) _ (a .call .entry .key) (c .withdraw-in .ensures)
-    ∙ ap (λ (k : Ask). outcomeOf (calledOn (a .places) (callFor k (a .call .entry)) (firstOf (a .b) (a .opened)))) (sym (c .before .before .enum-told2 .given .1))
+    ∙ ap (λ (k : Ask). outcomeOf (calledOn (a .places) (callFor k (a .call .entry)) (bookOf (a .b) (a .opened)))) (sym (c .before .before .enum-told2 .given .1))
 
 pub act-on-spec : {M : Type 1} → statement M
 act-on-spec =

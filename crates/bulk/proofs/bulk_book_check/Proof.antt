@@ -17,7 +17,7 @@ use denote.Ref.{MutRef, ptr-vals, mut-tells}
 use denote.Triple.Walked.{gave-ref, goes-gave-ref}
 use Rattle.book.specs.declared.Answer.{Answer}
 use Rattle.book.specs.Calls.{asked}
-use Rattle.book.specs.Code.{answerFor, firstOf}
+use Rattle.book.specs.Code.{answerFor, bookOf}
 use Rattle.bulk.specs.Told.{toldIs}
 use Rattle.daybook.proofs.Rows.{R}
 use Rattle.book.proofs.Answer as N
@@ -92,7 +92,7 @@ module _ {M : Type 1} (𝓤 : URA M) (H : Heap 𝓤) (A : Atoms 𝓤) (W : Given
   Words r = toldIs r
 
   abbrev Asked : Answer
-  Asked = answerFor (asked (firstOf ys n)) n
+  Asked = answerFor (asked (bookOf ys n)) n
 
   abbrev Said : List ℕ → Type 0
   Said rs = rs ≡ toldIs Asked

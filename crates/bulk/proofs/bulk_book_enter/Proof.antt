@@ -21,7 +21,7 @@ use Rattle.book.specs.declared.Call.{Call}
 use Rattle.book.specs.declared.Answer.{Answer}
 use Rattle.book.specs.Calls as Asked
 use Rattle.book.specs.Calls.{bulkOf, called}
-use Rattle.book.specs.Code.{callAs, answerOf, firstOf}
+use Rattle.book.specs.Code.{callAs, answerOf, bookOf}
 use Rattle.bulk.specs.Told.{toldCall}
 use Rattle.daybook.proofs.Rows.{R}
 use Rattle.book.proofs.Call as L
@@ -111,13 +111,13 @@ module _ {M : Type 1} (𝓤 : URA M) (H : Heap 𝓤) (A : Atoms 𝓤) (W : Given
 
   -- what is done to the book
   abbrev Done : Call → Answer → List Entry → Type 0
-  Done c a ls = (a ≡ answerOf (called (callAs c) (firstOf ys n))) × (ls ≡ called (callAs c) (firstOf ys n) .book .entries)
+  Done c a ls = (a ≡ answerOf (called (callAs c) (bookOf ys n))) × (ls ≡ called (callAs c) (bookOf ys n) .book .entries)
 
   abbrev Asks : Asked.Call
   Asks = Asked.enter (bulkOf (keyed ms))
 
   abbrev Said : List Entry → List ℕ → Type 0
-  Said ls rs = (rs ≡ toldCall (answerOf (called Asks (firstOf ys n)))) × (ls ≡ called Asks (firstOf ys n) .book .entries)
+  Said ls rs = (rs ≡ toldCall (answerOf (called Asks (bookOf ys n)))) × (ls ≡ called Asks (bookOf ys n) .book .entries)
 
   said : (c : Call) (a : Answer) (ls : List Entry) (rs : List ℕ) → callAs c ≡ Asks → Done c a ls → rs ≡ Words a → Said ls rs
   said c a ls rs e d h = (h ∙ (ap Words (d .0) ∙ rw e), d .1 ∙ rw e)

@@ -18,7 +18,7 @@ use denote.Ref.{MutRef, ShrRef, ptr-vals, mut-tells, shr-tells, shr-copy}
 use denote.Triple.Walked.{gave-ref, stay-none-ref, goes-gave-ref, goes-none-ref}
 use Rattle.book.specs.declared.Found.{Found}
 use Rattle.book.specs.Calls.{searched}
-use Rattle.book.specs.Code.{foundOf, firstOf}
+use Rattle.book.specs.Code.{foundOf, bookOf}
 use Rattle.bulk.specs.Told.{toldFound}
 use Rattle.daybook.proofs.Rows.{R, KR, kty, kmakes}
 use Rattle.book.proofs.Found as F
@@ -104,9 +104,9 @@ module _ {M : Type 1} (𝓤 : URA M) (H : Heap 𝓤) (A : Atoms 𝓤) (W : Given
   Words r = toldFound r
 
   abbrev Said : List ℕ → Type 0
-  Said rs = rs ≡ toldFound (foundOf (searched ms (firstOf ys n)))
+  Said rs = rs ≡ toldFound (foundOf (searched ms (bookOf ys n)))
 
-  said : (k : List ℕ) (r : Found) (rs : List ℕ) → k ≡ ms → r ≡ foundOf (searched k (firstOf ys n)) → rs ≡ Words r → Said rs
+  said : (k : List ℕ) (r : Found) (rs : List ℕ) → k ≡ ms → r ≡ foundOf (searched k (bookOf ys n)) → rs ≡ Words r → Said rs
   said k r rs e g h = h ∙ (ap Words g ∙ rw e)
 
   exits : (rs : List ℕ) → Said rs → ent 𝓤 (⋆ 𝓤 H A ((‵ (flft κ q) ⊛ ‵ ftrue) ∷ ‵ (ShrSlice (named 0) κ R .own y1 (sliceVal (b₁, o₁) (length ys) ∷ []))
@@ -168,8 +168,8 @@ module _ {M : Type 1} (𝓤 : URA M) (H : Heap 𝓤) (A : Atoms 𝓤) (W : Given
       ! 18 refl)) (and-then ! (load ! (from ! (stop !)) (look ! 12 refl)) (no-more !)))) (λ v₆.
       use1 W (later (some (λ (r : Found). ((‵ (flft κ q) ⊛ ‵ ftrue) ⊛ ‵ (F.the-row .own r (v₆
       ∷ []))) ⊛ raw (ensured 𝓤 H A fd.ended (fd.clauses 𝓤 H A mem run) (κ, tt) (y1, (n, (k, tt))) tt r)))) (id⊢ 𝓤 _) $ await ! tt $ pick ! (λ r₆.
-      split ! $ move ! (1 ∷ []) $ use1 W (raw (fact 𝓤 (r₆ ≡ foundOf (searched k (firstOf ys n))))) (exE 𝓤 _ (λ ws′. snd∗ 𝓤 (sem 𝓤 H A (lasts fd.ended (κ, tt) (y1, (n, (k, tt))) ws′)) (fact
-      𝓤 (r₆ ≡ foundOf (searched k (firstOf ys n)))))) $ heard ! (r₆ ≡ foundOf (searched k (firstOf ys n))) (λ e₂.
+      split ! $ move ! (1 ∷ []) $ use1 W (raw (fact 𝓤 (r₆ ≡ foundOf (searched k (bookOf ys n))))) (exE 𝓤 _ (λ ws′. snd∗ 𝓤 (sem 𝓤 H A (lasts fd.ended (κ, tt) (y1, (n, (k, tt))) ws′)) (fact
+      𝓤 (r₆ ≡ foundOf (searched k (bookOf ys n)))))) $ heard ! (r₆ ≡ foundOf (searched k (bookOf ys n))) (λ e₂.
       split ! $ move ! (1 ∷ []) $ peeks ! F.the-row (Is F.the-row) (shows 𝓤 H A F.the-row) r₆ (v₆ ∷ []) (λ gr. let-go ! $
       land ! (from ! (stop !)) (init ! 10 refl (LL.lawful F.the-type F′.the-laws 𝓤 H A W .typed r₆ (v₆ ∷ []) gr .0)) $
       assigns ! (addr ! (from ! (hop ! (look ! 14 refl) (stop !)))) (from ! (stop !)) (init ! 6 refl (tt, tt)) $

@@ -15,7 +15,7 @@ use Rattle.book.specs.declared.Call.{Call}
 use Rattle.book.specs.declared.Answer.{Answer}
 use Rattle.book.specs.declared.Outcome.{Outcome}
 use Rattle.book.specs.Calls.{called}
-use Rattle.book.specs.Code.{callAs, answerOf, outcomeOf, firstOf, calledOn}
+use Rattle.book.specs.Code.{callAs, answerOf, outcomeOf, bookOf, calledOn}
 use Rattle.daybook.specs.Lent.{firstPlaces, replaced}
 use Rattle.daybook.proofs.Lent.{lent-called}
 use Rattle.daybook.proofs.Frames.{Slots, allocs-all, frees-all}
@@ -146,10 +146,10 @@ module _ {M : Type 1} (𝓤 : URA M) (H : Heap 𝓤) (A : Atoms 𝓤) (W : Given
   Post = walkOf 𝓤 H A f.ended stayed (f.clauses 𝓤 H A mem run) .post (((κ, tt), (q, tt), tt, x, at), tt)
 
   abbrev Called : List Entry → Outcome
-  Called r = outcomeOf (calledOn (length ys) (callAs k) (firstOf r n))
+  Called r = outcomeOf (calledOn (length ys) (callAs k) (bookOf r n))
 
   abbrev Said : Answer → List Entry → Type 0
-  Said a zs = (a ≡ answerOf (called (callAs k) (firstOf ys n))) × (zs ≡ called (callAs k) (firstOf ys n) .book .entries)
+  Said a zs = (a ≡ answerOf (called (callAs k) (bookOf ys n))) × (zs ≡ called (callAs k) (bookOf ys n) .book .entries)
 
   told : (r : List Entry) (out : Outcome) (bs : List Entry) (a : Answer) (zs : List Entry) → r ≡ firstPlaces ys → out ≡ Called r → bs ≡ out .entries → zs ≡ replaced bs ys
       → a ≡ out .answer → length bs ≡ 64 → Said a zs

@@ -10,7 +10,7 @@ use denote.Struct.Laws as LL
 use Rattle.book.specs.declared.Entry.{Entry}
 use Rattle.book.specs.declared.Answer.{Answer}
 use Rattle.book.specs.Calls.{Told, asked}
-use Rattle.book.specs.Code.{answerFor, firstOf, askedOn}
+use Rattle.book.specs.Code.{answerFor, bookOf, askedOn}
 use Rattle.daybook.specs.Lent.{firstPlaces}
 use Rattle.daybook.proofs.Lent.{lent-asked}
 use Rattle.daybook.proofs.Frames.{Slots, allocs-all, frees-all}
@@ -76,12 +76,12 @@ module _ {M : Type 1} (𝓤 : URA M) (H : Heap 𝓤) (A : Atoms 𝓤) (W : Given
   Post = walkOf 𝓤 H A f.ended stayed (f.clauses 𝓤 H A mem run) .post (((κ, tt), (q, tt), tt, x, at), tt)
 
   abbrev Said : List Entry → Answer
-  Said r = answerFor (askedOn (length ys) (firstOf r n)) n
+  Said r = answerFor (askedOn (length ys) (bookOf r n)) n
 
-  told : (r : List Entry) (a : Answer) → r ≡ firstPlaces ys → a ≡ Said r → a ≡ answerFor (asked (firstOf ys n)) n
+  told : (r : List Entry) (a : Answer) → r ≡ firstPlaces ys → a ≡ Said r → a ≡ answerFor (asked (bookOf ys n)) n
   told r a e f = f ∙ rw e (ap (λ (t : Told). answerFor t n) (lent-asked ys n))
 
-  exits : (a : Answer) (v : Val) → Is N.the-row a (v ∷ []) → a ≡ answerFor (asked (firstOf ys n)) n
+  exits : (a : Answer) (v : Val) → Is N.the-row a (v ∷ []) → a ≡ answerFor (asked (bookOf ys n)) n
       → ent 𝓤 (⋆ 𝓤 H A ((‵ (flft κ q) ⊛ ‵ ftrue) ∷ ‵ (ShrSlice (named 0) κ R .own y (s ∷ [])) ∷ [])) (Post v)
   exits a v ga e =
       qed W ((‵ (flft κ q) ⊛ ‵ ftrue) ∷ ‵ (ShrSlice (named 0) κ R .own y (s ∷ [])) ∷ []) ∵

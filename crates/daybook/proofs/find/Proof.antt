@@ -12,7 +12,7 @@ use Rattle.book.specs.declared.Answer.{Answer}
 use Rattle.book.specs.declared.Found.{Found}
 use Rattle.book.specs.Book.{Key, firstAt}
 use Rattle.book.specs.Calls.{asked, searched}
-use Rattle.book.specs.Code.{answerFor, firstOf, foundFor, foundOf}
+use Rattle.book.specs.Code.{answerFor, bookOf, foundFor, foundOf}
 use Rattle.daybook.proofs.Lent.{lent-found}
 use Rattle.daybook.proofs.Frames.{Slots, allocs-all, frees-all}
 use Rattle.daybook.proofs.Calls.{calls-plain}
@@ -83,12 +83,12 @@ module _ {M : Type 1} (𝓤 : URA M) (H : Heap 𝓤) (A : Atoms 𝓤) (W : Given
   Post = walkOf 𝓤 H A f.ended stayed (f.clauses 𝓤 H A mem run) .post (((κ, tt), (q, tt), tt, x, at), tt)
 
   abbrev Asked : Answer
-  Asked = answerFor (asked (firstOf ys n)) n
+  Asked = answerFor (asked (bookOf ys n)) n
 
-  told : (a : Answer) (i : ℕ) (r : Found) → a ≡ Asked → i ≡ firstAt k (take n ys) → r ≡ foundFor a i → r ≡ foundOf (searched k (firstOf ys n))
+  told : (a : Answer) (i : ℕ) (r : Found) → a ≡ Asked → i ≡ firstAt k (take n ys) → r ≡ foundFor a i → r ≡ foundOf (searched k (bookOf ys n))
   told a i r e g h = h ∙ rw (e, g) (lent-found ys n k)
 
-  exits : (r : Found) (v : Val) → Is F.the-row r (v ∷ []) → r ≡ foundOf (searched k (firstOf ys n))
+  exits : (r : Found) (v : Val) → Is F.the-row r (v ∷ []) → r ≡ foundOf (searched k (bookOf ys n))
       → ent 𝓤 (⋆ 𝓤 H A ((‵ (flft κ q) ⊛ ‵ ftrue) ∷ ‵ (ShrSlice (named 0) κ R .own y (s ∷ [])) ∷ [])) (Post v)
   exits r v gr e =
       qed W ((‵ (flft κ q) ⊛ ‵ ftrue) ∷ ‵ (ShrSlice (named 0) κ R .own y (s ∷ [])) ∷ []) ∵
