@@ -10,6 +10,18 @@ pub type Words = [u64; 3];
 /// The bytes of one posting record, with its LF.
 pub const RECORD: usize = 256;
 
+/// The bytes of a bulk's key, and the places that a day book has at least.
+pub const KEY: usize = 60;
+pub const BOOK: usize = 64;
+
+/// An entry of a day book: 72 bytes, the key at 0, the cents at 64.
+#[repr(C)]
+#[derive(Clone, Copy, Debug, PartialEq, Eq)]
+pub struct Entry {
+    pub key: [u8; KEY],
+    pub cents: u64,
+}
+
 /// The folder that the library was linked from. What tests leave behind lies beside it.
 pub const FOLDER: &str = env!("BULK_FOLDER");
 
@@ -53,6 +65,30 @@ extern "C" {
         area_length: usize,
         answer: *mut u64,
     );
+    fn bulk_book_enter(
+        entries: *mut Entry,
+        places: usize,
+        opened: usize,
+        message: *const u8,
+        length: usize,
+        answer: *mut u64,
+    );
+    fn bulk_book_withdraw(
+        entries: *mut Entry,
+        places: usize,
+        opened: usize,
+        key: *const [u8; KEY],
+        answer: *mut u64,
+    );
+    fn bulk_book_find(
+        entries: *const Entry,
+        places: usize,
+        opened: usize,
+        key: *const [u8; KEY],
+        answer: *mut u64,
+    );
+    fn bulk_book_total(entries: *const Entry, places: usize, opened: usize, answer: *mut u64);
+    fn bulk_book_check(entries: *const Entry, places: usize, opened: usize, answer: *mut u64);
 }
 
 /// What the three words hold before the call, and the guard words beside them before and after it.
@@ -122,6 +158,42 @@ pub fn records(message: &[u8], area: &mut [u8]) -> Words {
     answered(|answer| unsafe {
         bulk_records(message.as_ptr(), message.len(), lent, length, answer)
     })
+}
+
+/// Enters a message into a day book: `0, number open, cents`, or `number, place, 0` and the book as lent.
+pub fn book_enter(entries: &mut [Entry], opened: usize, message: &[u8]) -> Words {
+    let (lent, places) = (entries.as_mut_ptr(), entries.len());
+    // SAFETY: the message is lent for the call, the entries mutably so, the answer is three words.
+    answered(|answer| unsafe {
+        bulk_book_enter(lent, places, opened, message.as_ptr(), message.len(), answer)
+    })
+}
+
+/// Withdraws a key: `0, number open, cents`, or `number, 0, 0` and the book as lent.
+pub fn book_withdraw(entries: &mut [Entry], opened: usize, key: &[u8; KEY]) -> Words {
+    let (lent, places) = (entries.as_mut_ptr(), entries.len());
+    // SAFETY: the key is lent for the call, the entries mutably so, the answer is three words.
+    answered(|answer| unsafe { bulk_book_withdraw(lent, places, opened, key, answer) })
+}
+
+/// The first open entry with a key: `0, 1, place`, `0, 0, 0` for none, or `29, 0, 0`.
+pub fn book_find(entries: &[Entry], opened: usize, key: &[u8; KEY]) -> Words {
+    // SAFETY: the entries and the key are lent for the call, the answer is three words.
+    answered(|answer| unsafe {
+        bulk_book_find(entries.as_ptr(), entries.len(), opened, key, answer)
+    })
+}
+
+/// The open total: `0, number open, cents`, or `29, 0, 0`.
+pub fn book_total(entries: &[Entry], opened: usize) -> Words {
+    // SAFETY: the entries are lent for the call, the answer is three words.
+    answered(|answer| unsafe { bulk_book_total(entries.as_ptr(), entries.len(), opened, answer) })
+}
+
+/// Whether the lent book is one: `0, 0, 0`, or `29, 0, 0`.
+pub fn book_check(entries: &[Entry], opened: usize) -> Words {
+    // SAFETY: the entries are lent for the call, the answer is three words.
+    answered(|answer| unsafe { bulk_book_check(entries.as_ptr(), entries.len(), opened, answer) })
 }
 
 #[cfg(test)]
