@@ -1,4 +1,4 @@
--- Two answers of the C face that one contract allows are equal, word for word; and so is the area.
+-- Two answers of the C face that one contract allows are equal, word for word; and so are the area and the entries of a book.
 use mathlib.Core.Path.{_≡_, sym, ap, _∙_}
 use mathlib.Core.List.{List}
 use Prim.Native.Nat.{ℕ}
@@ -7,7 +7,11 @@ use Rattle.reading.specs.Verdict.{Judged, Located}
 use Rattle.postings.specs.Area.{recorded}
 use Rattle.forms.specs.Written.{Outcome}
 use Rattle.forms.proofs.Once.{one-written}
-use Rattle.bulk.specs.Told.{told, toldVerdict, toldExtent, toldWritten, PlainTold}
+use Rattle.book.specs.declared.Entry.{Entry}
+use Rattle.book.specs.Calls.{Call, called, Searched}
+use Rattle.book.specs.Book.{Book}
+use Rattle.book.specs.Code.{answerOf, foundOf}
+use Rattle.bulk.specs.Told.{told, toldVerdict, toldExtent, toldWritten, PlainTold, toldCall, toldFound}
 
 module _ (x y : List ℕ) where
   pub one-told : (g : Given) → x ≡ told g → y ≡ told g → x ≡ y
@@ -27,3 +31,11 @@ module _ (x y : List ℕ) where
   one-told-plain m a b c k l =
       let e = one-written m a (record { answer = k .answer; area = b }) (record { answer = l .answer; area = c }) (k .wrote) (l .wrote) in
       (k .told ∙ ap (λ (o : Outcome). toldWritten (o .answer)) e ∙ sym (l .told), ap (λ (o : Outcome). o .area) e)
+
+  -- a book: a change, with its entries afterwards; and a search
+  pub one-told-call : (c : Call) (b : Book) (l k : List Entry) → x ≡ toldCall (answerOf (called c b)) → l ≡ called c b .book .entries → y ≡ toldCall (answerOf (called c b))
+      → k ≡ called c b .book .entries → (x ≡ y) × (l ≡ k)
+  one-told-call c b l k d e f g = (d ∙ sym f, e ∙ sym g)
+
+  pub one-told-found : (s : Searched) → x ≡ toldFound (foundOf s) → y ≡ toldFound (foundOf s) → x ≡ y
+  one-told-found s e f = e ∙ sym f

@@ -5,12 +5,24 @@
 --   an item lies                 0, the place of its `<`, the place behind its `>`
 --   the plain form is written    0, its length, 0
 --   refused                      the refusal's number, its place, 0
+-- and for each call of the day book:
+--   a bulk is entered or withdrawn   0, the number open afterwards, the bulk's cents
+--   the open total                   0, the number open, the cents
+--   the lent book is one             0, 0, 0
+--   an entry has the key             0, 1, its place
+--   none has it                      0, 0, 0
+--   refused                          the refusal's number, its place, 0
 use Prim.Native.Nat.{ℕ}
 use mathlib.Core.Path.{_≡_}
+use mathlib.Core.Bool.{Bool, true, false}
 use mathlib.Core.List.{List, [], _∷_}
+use lib.Dec.{eqb}
+use Rattle.text.specs.Truth.{pick}
 use Rattle.answers.specs.Given.{Given, yes, worth, refused}
 use Rattle.reading.specs.Verdict.{Judged, accepted, refused as denied, Located, lies, notThere}
 use Rattle.forms.specs.Written.{Answered, written, refused as notWritten, Wrote}
+use Rattle.book.specs.declared.Answer.{Answer}
+use Rattle.book.specs.declared.Found.{Found}
 
 abbrev pub told : Given → List ℕ
 told yes = 0 ∷ 0 ∷ 0 ∷ []
@@ -34,3 +46,12 @@ pub record PlainTold (m a words b : List ℕ) : Type 0 where
   pub answer : Answered
   pub wrote : Wrote m a (record { answer = answer; area = b })
   pub told : words ≡ toldWritten answer
+
+abbrev pub toldCall : Answer → List ℕ
+toldCall a = pick (eqb (a .number) 0) (0 ∷ a .opened ∷ a .cents ∷ []) (a .number ∷ a .place ∷ 0 ∷ [])
+
+abbrev pub toldIs : Answer → List ℕ
+toldIs a = a .number ∷ a .place ∷ 0 ∷ []
+
+abbrev pub toldFound : Found → List ℕ
+toldFound r = pick (r .found) (0 ∷ 1 ∷ r .at ∷ []) (r .number ∷ r .place ∷ 0 ∷ [])

@@ -1,6 +1,8 @@
 // The C face and nothing else: every public function once more, under its exported C name.
 // Each takes any bytes, and writes all three words of `answer` by the table of specs/Told.antt.
 use answers::Answer;
+use book::Entry;
+use book::Found;
 use judge::Extent;
 use judge::Verdict;
 use money::Range;
@@ -18,8 +20,11 @@ ghost use Rattle.money.specs.Amount.{amountGiven};
 ghost use Rattle.accounts.specs.Iban.{ibanGiven};
 ghost use Rattle.accounts.specs.Identifier.{identifierGiven};
 ghost use Rattle.accounts.specs.Bic.{bicGiven};
-ghost use Rattle.bulk.specs.Told.{told, toldVerdict, toldExtent, toldWritten, PlainTold};
+ghost use Rattle.bulk.specs.Told.{told, toldVerdict, toldExtent, toldWritten, PlainTold, toldCall, toldIs, toldFound};
 ghost use Rattle.plain.specs.Answer.{answered};
+ghost use Rattle.naming.specs.Key.{keyed};
+ghost use Rattle.book.specs.Calls.{bulkOf, enter, withdraw, called, asked, searched};
+ghost use Rattle.book.specs.Code.{answerFor, answerOf, foundOf, bookOf};
 ghost use Rattle.judge.specs.Verdict.{meant, located};
 ghost use Rattle.reading.specs.Judged.{judged};
 ghost use Rattle.reading.specs.Items.{item as itemOf};
@@ -201,4 +206,98 @@ pub extern "C" fn bulk_header_amount(value: &[u8], answer: &mut [u64; 3])
     ensures { λ _. ⌜ now (answer .exit) ≡ told (amountGiven Range.Total (now (value .entry))) ⌝ }
 {
     tell(money::amount(Range::Total, value), answer);
+}
+
+// Writes the three words of a call of the day book.
+fn tell_call(answer: &mut [u64; 3], a: book::Answer)
+    ensures { λ _. ⌜ now (answer .exit) ≡ toldCall a ⌝ }
+{
+    if a.number == 0 {
+        *answer = [0, a.opened as u64, a.cents];
+        return;
+    }
+    *answer = [a.number as u64, a.place as u64, 0];
+}
+
+// Writes the three words of whether a lent book is one.
+fn tell_is(answer: &mut [u64; 3], a: book::Answer)
+    ensures { λ _. ⌜ now (answer .exit) ≡ toldIs a ⌝ }
+{
+    *answer = [a.number as u64, a.place as u64, 0];
+}
+
+// Writes the three words of a search.
+fn tell_found(answer: &mut [u64; 3], r: Found)
+    ensures { λ _. ⌜ now (answer .exit) ≡ toldFound r ⌝ }
+{
+    if r.found {
+        *answer = [0, 1, r.at as u64];
+        return;
+    }
+    *answer = [r.number as u64, r.place as u64, 0];
+}
+
+// A message is entered into the day book: 0, the number open, the bulk's cents; or number, place, 0, and the book as lent.
+#[no_mangle]
+pub extern "C" fn bulk_book_enter<'a>(
+    entries: &'a mut [Entry],
+    opened: usize,
+    message: &'a [u8],
+    answer: &'a mut [u64; 3],
+)
+    ensures { λ _. ⌜ (now (answer .exit) ≡ toldCall (answerOf (called (enter (bulkOf (keyed (now (message .entry))))) (bookOf (now (entries .entry)) opened))))
+        × (now (entries .exit) ≡ called (enter (bulkOf (keyed (now (message .entry))))) (bookOf (now (entries .entry)) opened) .book .entries) ⌝ }
+{
+    let call = book::entering(message);
+    let a = daybook::act(entries, opened, call);
+    tell_call(answer, a);
+}
+
+// A key is withdrawn from the day book: 0, the number open, the bulk's cents; or number, 0, 0, and the book as lent.
+#[no_mangle]
+pub extern "C" fn bulk_book_withdraw<'a>(
+    entries: &'a mut [Entry],
+    opened: usize,
+    key: &'a [u8; 60],
+    answer: &'a mut [u64; 3],
+)
+    ensures { λ _. ⌜ (now (answer .exit) ≡ toldCall (answerOf (called (withdraw (now (key .entry))) (bookOf (now (entries .entry)) opened))))
+        × (now (entries .exit) ≡ called (withdraw (now (key .entry))) (bookOf (now (entries .entry)) opened) .book .entries) ⌝ }
+{
+    let call = book::withdrawing(book::key_at(key));
+    let a = daybook::act(entries, opened, call);
+    tell_call(answer, a);
+}
+
+// The first open entry with the key: 0, 1, its place; 0, 0, 0 where there is none; or 29, 0, 0.
+#[no_mangle]
+pub extern "C" fn bulk_book_find<'a>(
+    entries: &'a [Entry],
+    opened: usize,
+    key: &'a [u8; 60],
+    answer: &'a mut [u64; 3],
+)
+    ensures { λ _. ⌜ now (answer .exit) ≡ toldFound (foundOf (searched (now (key .entry)) (bookOf (now (entries .entry)) opened))) ⌝ }
+{
+    let k = book::key_at(key);
+    let r = daybook::find(entries, opened, k);
+    tell_found(answer, r);
+}
+
+// The open total: 0, the number open, the cents; or 29, 0, 0.
+#[no_mangle]
+pub extern "C" fn bulk_book_total<'a>(entries: &'a [Entry], opened: usize, answer: &'a mut [u64; 3])
+    ensures { λ _. ⌜ now (answer .exit) ≡ toldCall (answerFor (asked (bookOf (now (entries .entry)) opened)) opened) ⌝ }
+{
+    let a = daybook::ask(entries, opened);
+    tell_call(answer, a);
+}
+
+// Whether the lent book is one: 0, 0, 0; or 29, 0, 0.
+#[no_mangle]
+pub extern "C" fn bulk_book_check<'a>(entries: &'a [Entry], opened: usize, answer: &'a mut [u64; 3])
+    ensures { λ _. ⌜ now (answer .exit) ≡ toldIs (answerFor (asked (bookOf (now (entries .entry)) opened)) opened) ⌝ }
+{
+    let a = daybook::ask(entries, opened);
+    tell_is(answer, a);
 }

@@ -1,14 +1,17 @@
--- Two verdicts of one meaning are one, and so are two extents and two findings: so two answers that one contract allows are equal.
+-- Two verdicts of one meaning are one, and so are two extents, two findings and two surveys: so two answers that one contract allows are equal.
 use mathlib.Core.Path.{_≡_, refl, ap, sym, _∙_}
 use Rattle.judge.specs.declared.Verdict.{Verdict}
 use Rattle.judge.specs.declared.Verdict.the-variants.{Accepted, Refused}
 use Rattle.judge.specs.declared.Extent.{Extent}
 use Rattle.judge.specs.declared.Extent.the-variants.{Lies, NotThere}
 use Prim.Native.Nat.{ℕ}
+use mathlib.Core.List.{List}
 use Rattle.reading.specs.Verdict.{Judged, accepted, refused, Located, lies, notThere}
 use Rattle.judge.specs.declared.Finding.{Finding}
 use Rattle.judge.specs.Verdict.{meant, located}
+use Rattle.judge.specs.declared.Survey.{Survey}
 use Rattle.judge.specs.Found.{Found, foundAs}
+use Rattle.judge.specs.Survey.{Surveyed, surveyedAs}
 
 verdict-of : Judged → Verdict
 verdict-of (accepted count cents) = Accepted count cents
@@ -40,3 +43,13 @@ one-finding a b f d e =
     let v : a .verdict ≡ b .verdict = one-verdict (a .verdict) (b .verdict) (f .verdict) (ap (λ (x : Found). x .verdict) d) (ap (λ (x : Found). x .verdict) e) in
     let p : a .first ≡ b .first = ap (λ (x : Found). x .first) (d ∙ sym e) in
     ap (λ (w : Verdict). record { verdict = w; first = a .first }) v ∙ ap (λ (n : ℕ). record { verdict = b .verdict; first = n }) p
+
+-- a survey
+pub one-survey : (a b : Survey) (s : Surveyed) → surveyedAs a ≡ s → surveyedAs b ≡ s → a ≡ b
+one-survey a b s d e =
+    let f : a .finding ≡ b .finding = one-finding (a .finding) (b .finding) (s .found) (ap (λ (x : Surveyed). x .found) d) (ap (λ (x : Surveyed). x .found) e) in
+    let n : a .service ≡ b .service = ap (λ (x : Surveyed). x .service) (d ∙ sym e) in
+    let l : a .starts ≡ b .starts = ap (λ (x : Surveyed). x .places) (d ∙ sym e) in
+    ap (λ (g : Finding). record { finding = g; service = a .service; starts = a .starts }) f
+    ∙ ap (λ (k : ℕ). record { finding = b .finding; service = k; starts = a .starts }) n
+    ∙ ap (λ (p : List ℕ). record { finding = b .finding; service = b .service; starts = p }) l

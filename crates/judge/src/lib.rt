@@ -1,5 +1,6 @@
 // The judge: one message, one answer, the first fault.
 use notes::Met;
+use notes::Notes;
 use notes::State;
 use notes::Step;
 use tags::Look;
@@ -17,6 +18,7 @@ ghost use Rattle.reading.specs.Items.{item as itemOf};
 ghost use Rattle.notes.specs.Steps.{stated, stepped, Fine};
 ghost use Rattle.judge.specs.Verdict.{meant, located, openedAs};
 ghost use Rattle.judge.specs.Found.{foundAs, denied, found};
+ghost use Rattle.judge.specs.Survey.{surveyedAs, without, surveyed, survey};
 ghost use Rattle.judge.specs.Engine.{Within, throughIn, comparedIn, finishedIn, walkedIn};
 
 pub enum Verdict {
@@ -42,6 +44,14 @@ pub enum Opened {
 pub struct Finding {
     pub verdict: Verdict,
     pub first: usize,
+}
+
+// A finding, and what was noted of an accepted message (0 of any other): its items' LclInstrm as its place in its list from 1 on, and where the
+// last value of each field begins.
+pub struct Survey {
+    pub finding: Finding,
+    pub service: u64,
+    pub starts: [u32; profile::FIELDS],
 }
 
 // Past white space and the root tag, which is due there.
@@ -129,20 +139,61 @@ fn finish(m: &[u8], st: State) -> Finding
     compare(st)
 }
 
-// What a message of any bytes is found to be.
-pub fn find(m: &[u8]) -> Finding
-    ensures { λ r. ⌜ foundAs r ≡ found (now (m .entry)) ⌝ }
+// A finding with nothing noted.
+fn bare(f: Finding) -> Survey
+    ensures { λ r. ⌜ surveyedAs r ≡ without (foundAs f) ⌝ }
+{
+    Survey {
+        finding: f,
+        service: 0,
+        starts: [0; profile::FIELDS],
+    }
+}
+
+// A finding with what was noted, where the message is accepted.
+fn with_notes(f: Finding, n: Notes) -> Survey
+    ensures { λ r. ⌜ surveyedAs r ≡ surveyed (foundAs f) (n .service) (n .starts) ⌝ }
+{
+    let v = f.verdict;
+    match v {
+        Verdict::Refused(_, _) => bare(f),
+        Verdict::Accepted(_, _) => {
+            let starts = n.starts;
+            Survey {
+                finding: f,
+                service: n.service,
+                starts,
+            }
+        }
+    }
+}
+
+// What a message of any bytes is found to be, and what was noted of it.
+pub fn read(m: &[u8]) -> Survey
+    ensures { λ r. ⌜ surveyedAs r ≡ survey (now (m .entry)) ⌝ }
 {
     if profile::MOST_BYTES < m.len() {
-        return deny(1, 0);
+        return bare(deny(1, 0));
     }
     let r = read_through(m);
     let met = r.met;
     let st = r.state;
     match met {
-        Met::On => finish(m, st),
-        Met::Stopped(number, place) => deny(number, place),
+        Met::Stopped(number, place) => bare(deny(number, place)),
+        Met::On => {
+            let notes = st.notes;
+            with_notes(finish(m, st), notes)
+        }
     }
+}
+
+// What a message of any bytes is found to be.
+pub fn find(m: &[u8]) -> Finding
+    ensures { λ r. ⌜ foundAs r ≡ found (now (m .entry)) ⌝ }
+{
+    let s = read(m);
+    let f = s.finding;
+    f
 }
 
 // A message of any bytes: accepted with its count and cents, or its first fault.

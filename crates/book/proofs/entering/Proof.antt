@@ -1,0 +1,34 @@
+-- `book::entering` meets its contract.
+use Rattle.book.proofs.Answers.{unfit-call, fit-call}
+use borrow.Author.Needs.{needs}
+use Rattle.book.proofs.entering.Statement.{statement}
+use Rattle.book.proofs.entering.Tie as tie
+
+key-requires : tie.Need-key-requires
+key-requires c κs = search needs
+
+enum-known-verdict : tie.Need-enum-known-verdict
+enum-known-verdict c = search needs
+
+blank-requires : tie.Need-blank-requires
+blank-requires c κs = search needs
+
+enum-known-verdict-2 : tie.Need-enum-known-verdict-2
+enum-known-verdict-2 c = search needs
+
+returns : tie.Need-returns
+returns c = unfit-call (c .before .before .before .before .before .before .before .args .message .now) (c .before .before .before .before .before .key .result) (c .before .before .before .before .before .key .ensures) _ _ (c .blank .result) (c .before .before .verdict .given .1)
+
+returns-2 : tie.Need-returns-2
+returns-2 c = fit-call (c .before .before .before .before .before .before .args .message .now) (c .before .before .before .before .key .result) (c .before .before .before .before .key .ensures) _ _ (c .before .verdict2 .given .1)
+
+pub entering-spec : {M : Type 1} → statement M
+entering-spec =
+    tie.close
+    (tie.spec
+    key-requires
+    enum-known-verdict
+    blank-requires
+    enum-known-verdict-2
+    returns
+    returns-2)

@@ -1,0 +1,332 @@
+// The day book on values: what each call answers, and the first 64 entries afterwards.
+use judge::Verdict;
+ghost use mathlib.Core.Path.{_≡_};
+ghost use mathlib.Core.Bool.{not};
+ghost use Prim.Native.Nat.{_+_, _≤_, _<_};
+ghost use lib.ListN.{length, take, drop, getD};
+ghost use Rattle.naming.specs.Key.{keyed};
+ghost use Rattle.book.specs.Book.{mostOpen, hasKey, isOpen, twoEqual, sumOf, isBook, firstAt};
+ghost use Rattle.book.specs.Calls.{refusal, bulk, bulkOf, enter, withdraw, enters, withdraws};
+ghost use Rattle.book.specs.Code.{callAs, answerFor, answerOf, outcomeOf, blankEntry, capped, bookOf, calledOn, askedOn, foundFor, shifted};
+
+// How many bulks are open at most, and how many places a book has at least.
+pub const MOST: usize = 64;
+
+// An open bulk: its key and its cents. It has the layout of C, since the face lends it.
+#[repr(C)]
+pub struct Entry {
+    pub key: [u8; keys::LENGTH],
+    pub cents: u64,
+}
+
+// What is asked: a withdrawal, an entry, or an entry of what the judge refused, with his number and place.
+pub enum Ask {
+    Withdraw,
+    Enter,
+    Unfit(u8, usize),
+}
+
+// A call that changes the book. Of a withdrawal only the entry's key counts.
+pub struct Call {
+    pub ask: Ask,
+    pub entry: Entry,
+}
+
+// A refusal's number and place, or 0; the number open afterwards; the cents of the bulk, or those of all open ones where these are asked.
+pub struct Answer {
+    pub number: u8,
+    pub place: usize,
+    pub opened: usize,
+    pub cents: u64,
+}
+
+// What is answered, and the first 64 entries afterwards.
+pub struct Outcome {
+    pub answer: Answer,
+    pub entries: [Entry; MOST],
+}
+
+// A refusal's number and place, or 0; whether an entry has the key, and where the first one stands.
+pub struct Found {
+    pub number: u8,
+    pub place: usize,
+    pub found: bool,
+    pub at: usize,
+}
+
+// An entry of no bulk.
+pub fn blank() -> Entry
+    ensures { λ r. ⌜ r ≡ blankEntry ⌝ }
+{
+    Entry {
+        key: [32; keys::LENGTH],
+        cents: 0,
+    }
+}
+
+// Whether an entry has the key.
+pub fn has_key(e: Entry, key: [u8; keys::LENGTH]) -> bool
+    ensures { λ r. ⌜ r ≡ hasKey key e ⌝ }
+{
+    let k = e.key;
+    text::same(&key, &k)
+}
+
+// Where the first of the open entries that has the key stands, from a place on; the number open where none has it.
+fn find_from(b: [Entry; MOST], from: usize, opened: usize, key: [u8; keys::LENGTH]) -> usize
+    requires { ⌜ (from ≤ opened) × (opened ≤ mostOpen) ⌝ }
+    ensures { λ r. ⌜ r ≡ from + firstAt key (drop from (take opened b)) ⌝ }
+{
+    let mut i = from;
+    while i < opened {
+        let e = b[i];
+        if has_key(e, key) {
+            return i;
+        }
+        i += 1;
+    }
+    i
+}
+
+// Whether two of the open entries have the same key.
+fn two_equal(b: [Entry; MOST], opened: usize) -> bool
+    requires { ⌜ opened ≤ mostOpen ⌝ }
+    ensures { λ r. ⌜ r ≡ twoEqual (take opened b) ⌝ }
+{
+    let mut i = 0;
+    while i < opened {
+        let e = b[i];
+        let key = e.key;
+        let next = i + 1;
+        if find_from(b, next, opened, key) < opened {
+            return true;
+        }
+        i = next;
+    }
+    false
+}
+
+// The sum of the open entries, or one more than the most where it is above.
+fn sum(b: [Entry; MOST], opened: usize) -> u64
+    requires { ⌜ opened ≤ mostOpen ⌝ }
+    ensures { λ r. ⌜ r ≡ capped (sumOf (take opened b)) ⌝ }
+{
+    let mut sum: u64 = 0;
+    let mut i = 0;
+    while i < opened {
+        let e = b[i];
+        let cents = e.cents;
+        if money::MOST_TOTAL - sum < cents {
+            return money::MOST_TOTAL + 1;
+        }
+        sum += cents;
+        i += 1;
+    }
+    sum
+}
+
+// Whether the first 64 entries, so many of them open, are a book.
+fn is_book(b: [Entry; MOST], opened: usize) -> bool
+    ensures { λ r. ⌜ r ≡ isBook (bookOf b opened) ⌝ }
+{
+    if MOST < opened {
+        return false;
+    }
+    if two_equal(b, opened) {
+        return false;
+    }
+    sum(b, opened) <= money::MOST_TOTAL
+}
+
+// A refusal, with the entries as they are.
+fn refuse(b: [Entry; MOST], opened: usize, number: u8, place: usize) -> Outcome
+    ensures { λ r. ⌜ r ≡ outcomeOf (record { told = refusal number place; book = bookOf b opened }) ⌝ }
+{
+    Outcome {
+        answer: Answer {
+            number,
+            place,
+            opened,
+            cents: 0,
+        },
+        entries: b,
+    }
+}
+
+// An entry behind the open ones: 20 where its key is open already, 21 where 64 are open.
+fn enter_in(b: [Entry; MOST], opened: usize, e: Entry) -> Outcome
+    requires { ⌜ opened ≤ mostOpen ⌝ }
+    ensures { λ r. ⌜ r ≡ outcomeOf (enters (bulk e) (bookOf b opened)) ⌝ }
+{
+    let key = e.key;
+    if find_from(b, 0, opened, key) < opened {
+        return refuse(b, opened, 20, 0);
+    }
+    if MOST <= opened {
+        return refuse(b, opened, 21, 0);
+    }
+    let mut out = b;
+    out[opened] = e;
+    Outcome {
+        answer: Answer {
+            number: 0,
+            place: 0,
+            opened: opened + 1,
+            cents: e.cents,
+        },
+        entries: out,
+    }
+}
+
+// The later open entries move down one place; the places past them keep what they held.
+fn shift(b: [Entry; MOST], at: usize, opened: usize) -> [Entry; MOST]
+    requires { ⌜ (at < opened) × (opened ≤ mostOpen) ⌝ }
+    ensures { λ r. ⌜ r ≡ shifted at opened b ⌝ }
+{
+    let mut out = b;
+    let mut i = at;
+    while i + 1 < opened {
+        let e = out[i + 1];
+        out[i] = e;
+        i += 1;
+    }
+    out
+}
+
+// The first entry with the key goes; 22 where none has it.
+fn withdraw_in(b: [Entry; MOST], opened: usize, key: [u8; keys::LENGTH]) -> Outcome
+    requires { ⌜ opened ≤ mostOpen ⌝ }
+    ensures { λ r. ⌜ r ≡ outcomeOf (withdraws key (bookOf b opened)) ⌝ }
+{
+    let at = find_from(b, 0, opened, key);
+    if opened <= at {
+        return refuse(b, opened, 22, 0);
+    }
+    let e = b[at];
+    let rest = shift(b, at, opened);
+    Outcome {
+        answer: Answer {
+            number: 0,
+            place: 0,
+            opened: opened - 1,
+            cents: e.cents,
+        },
+        entries: rest,
+    }
+}
+
+// A call on the first 64 entries of a list of so many places, so many of them open: 29 first, where they are no book.
+pub fn act_on(b: [Entry; MOST], places: usize, opened: usize, call: Call) -> Outcome
+    ensures { λ r. ⌜ r ≡ outcomeOf (calledOn places (callAs call) (bookOf b opened)) ⌝ }
+{
+    if places < MOST {
+        return refuse(b, opened, 29, 0);
+    }
+    if !is_book(b, opened) {
+        return refuse(b, opened, 29, 0);
+    }
+    let ask = call.ask;
+    let e = call.entry;
+    match ask {
+        Ask::Unfit(number, place) => refuse(b, opened, number, place),
+        Ask::Enter => enter_in(b, opened, e),
+        Ask::Withdraw => {
+            let key = e.key;
+            withdraw_in(b, opened, key)
+        }
+    }
+}
+
+// The open total of the first 64 entries of a list of so many places; 29 where they are no book.
+pub fn ask_on(b: [Entry; MOST], places: usize, opened: usize) -> Answer
+    ensures { λ r. ⌜ r ≡ answerFor (askedOn places (bookOf b opened)) opened ⌝ }
+{
+    if places < MOST {
+        return none(opened);
+    }
+    if !is_book(b, opened) {
+        return none(opened);
+    }
+    Answer {
+        number: 0,
+        place: 0,
+        opened,
+        cents: sum(b, opened),
+    }
+}
+
+// No book.
+fn none(opened: usize) -> Answer
+    ensures { λ r. ⌜ r ≡ answerFor (refusal 29 0) opened ⌝ }
+{
+    Answer {
+        number: 29,
+        place: 0,
+        opened,
+        cents: 0,
+    }
+}
+
+// What a search answers that came to a place, where the book was asked before it.
+pub fn found_at(a: Answer, at: usize) -> Found
+    ensures { λ r. ⌜ r ≡ foundFor a at ⌝ }
+{
+    if a.number != 0 {
+        return Found {
+            number: a.number,
+            place: a.place,
+            found: false,
+            at: 0,
+        };
+    }
+    if at < a.opened {
+        return Found {
+            number: 0,
+            place: 0,
+            found: true,
+            at,
+        };
+    }
+    Found {
+        number: 0,
+        place: 0,
+        found: false,
+        at: 0,
+    }
+}
+
+// The call that enters a message: its bulk, or the judge's own refusal.
+pub fn entering(message: &[u8]) -> Call
+    ensures { λ r. ⌜ callAs r ≡ enter (bulkOf (keyed (now (message .entry)))) ⌝ }
+{
+    let k = keys::key(message);
+    let verdict = k.verdict;
+    let key = k.key;
+    match verdict {
+        Verdict::Refused(number, place) => Call {
+            ask: Ask::Unfit(number, place),
+            entry: blank(),
+        },
+        Verdict::Accepted(_, cents) => Call {
+            ask: Ask::Enter,
+            entry: Entry { key, cents },
+        },
+    }
+}
+
+// A key where it lies.
+pub fn key_at(key: &[u8; keys::LENGTH]) -> [u8; keys::LENGTH]
+    ensures { λ r. ⌜ r ≡ now (key .entry) ⌝ }
+{
+    *key
+}
+
+// The call that withdraws a key.
+pub fn withdrawing(key: [u8; keys::LENGTH]) -> Call
+    ensures { λ r. ⌜ callAs r ≡ withdraw key ⌝ }
+{
+    Call {
+        ask: Ask::Withdraw,
+        entry: Entry { key, cents: 0 },
+    }
+}

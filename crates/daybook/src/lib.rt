@@ -1,0 +1,110 @@
+// The day book in a lent list of entries. What each call means is on values, in the crate below; here whole entries go in and out.
+use book::Answer;
+use book::Call;
+use book::Entry;
+use book::Found;
+use book::Outcome;
+ghost use mathlib.Core.Path.{_≡_};
+ghost use Prim.Native.Nat.{_≤_};
+ghost use lib.ListN.{length, take};
+ghost use Rattle.book.specs.Book.{firstAt};
+ghost use Rattle.book.specs.Calls.{called, asked, searched};
+ghost use Rattle.book.specs.Code.{callAs, answerFor, answerOf, foundOf, bookOf};
+ghost use Rattle.daybook.specs.Lent.{firstPlaces, replaced, fewer};
+
+// The smaller of two numbers.
+fn least(a: usize, b: usize) -> usize
+    ensures { λ r. ⌜ r ≡ fewer a b ⌝ }
+{
+    if a <= b {
+        return a;
+    }
+    b
+}
+
+// Where the first of the open entries that has the key stands, or the number of them where none has it.
+pub fn search(entries: &[Entry], opened: usize, key: [u8; keys::LENGTH]) -> usize
+    ensures { λ r. ⌜ r ≡ firstAt key (take opened (now (entries .entry))) ⌝ }
+{
+    let n = least(opened, entries.len());
+    let mut i = 0;
+    while i < n {
+        if book::has_key(entries[i], key) {
+            break;
+        }
+        i += 1;
+    }
+    i
+}
+
+// The first 64 entries, and blank ones where they are fewer.
+fn copy_in(entries: &[Entry]) -> [Entry; book::MOST]
+    ensures { λ r. ⌜ r ≡ firstPlaces (now (entries .entry)) ⌝ }
+{
+    let n = least(entries.len(), book::MOST);
+    let mut out = [book::blank(); book::MOST];
+    let mut i = 0;
+    while i < n {
+        out[i] = entries[i];
+        i += 1;
+    }
+    out
+}
+
+// The first 64 entries, or as many as there are, are replaced, and every other stays.
+fn copy_out(entries: &mut [Entry], b: [Entry; book::MOST])
+    ensures { λ _. ⌜ now (entries .exit) ≡ replaced b (now (entries .entry)) ⌝ }
+{
+    let n = least(entries.len(), book::MOST);
+    let mut i = 0;
+    while i < n {
+        entries[i] = b[i];
+        i += 1;
+    }
+}
+
+// The parts of an outcome.
+fn entries_of(o: Outcome) -> [Entry; book::MOST]
+    ensures { λ r. ⌜ r ≡ o .entries ⌝ }
+{
+    let e = o.entries;
+    e
+}
+
+fn answer_of(o: Outcome) -> Answer
+    ensures { λ r. ⌜ r ≡ o .answer ⌝ }
+{
+    let a = o.answer;
+    a
+}
+
+// A call that changes the book: an entry or a withdrawal.
+pub fn act(entries: &mut [Entry], opened: usize, call: Call) -> Answer
+    ensures { λ r. ⌜ (r ≡ answerOf (called (callAs call) (bookOf (now (entries .entry)) opened)))
+        × (now (entries .exit) ≡ called (callAs call) (bookOf (now (entries .entry)) opened) .book .entries) ⌝ }
+{
+    let places = entries.len();
+    let b = copy_in(entries);
+    let o = book::act_on(b, places, opened, call);
+    let e = entries_of(o);
+    copy_out(entries, e);
+    answer_of(o)
+}
+
+// The open total, or 29 where the lent book is none.
+pub fn ask(entries: &[Entry], opened: usize) -> Answer
+    ensures { λ r. ⌜ r ≡ answerFor (asked (bookOf (now (entries .entry)) opened)) opened ⌝ }
+{
+    let places = entries.len();
+    let b = copy_in(entries);
+    book::ask_on(b, places, opened)
+}
+
+// The first open entry with the key, or that there is none; 29 where the lent book is none.
+pub fn find(entries: &[Entry], opened: usize, key: [u8; keys::LENGTH]) -> Found
+    ensures { λ r. ⌜ r ≡ foundOf (searched key (bookOf (now (entries .entry)) opened)) ⌝ }
+{
+    let a = ask(entries, opened);
+    let at = search(entries, opened, key);
+    book::found_at(a, at)
+}

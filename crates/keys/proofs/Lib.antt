@@ -1,0 +1,4 @@
+pub mod Parts
+pub mod Lies
+pub mod Whole
+pub mod One

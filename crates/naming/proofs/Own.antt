@@ -1,0 +1,240 @@
+-- The key of an accepted bulk is made of its document's own four values, and two bulks of one key have the same four.
+use mathlib.Core.Path.{_≡_, refl, sym, ap, _∙_}
+use mathlib.Core.Bool.{Bool, true, false}
+use mathlib.Core.List.{List, [], _∷_, _++_}
+use Prim.Native.Nat.{ℕ, _+_, _≤_, _<_}
+use native.Mathlib.Omega.{arith}
+use lib.ListN.{length, take, replicate}
+use lib.Seq.{take-at}
+use Rattle.text.specs.Truth.{pick}
+use Rattle.text.proofs.Truths.{never}
+use Rattle.codes.specs.declared.Element.the-variants.{LclInstrm}
+use Rattle.profile.specs.declared.Kind.{Kind}
+use Rattle.profile.specs.declared.Kind.the-variants.{Code}
+use Rattle.profile.specs.declared.Simple.{Simple}
+use Rattle.profile.specs.declared.Simple.the-variants.{Reference, Date, Bic}
+use Rattle.profile.specs.declared.Field.{Field}
+use Rattle.profile.specs.declared.Field.the-variants.{MsgId, InstgBic, IntrBkSttlmDt}
+use Rattle.profile.specs.declared.Field.the-variants as field
+use Rattle.profile.specs.Fields.{sameField}
+use Rattle.profile.specs.Kinds.{sameKind}
+use Rattle.profile.specs.Version.{Version, v02}
+use Rattle.profile.specs.Profile.{profile}
+use Rattle.reading.specs.Trace.{What, itemBegins, itemEnds, there, absent, value, Entry, trace, message}
+use Rattle.reading.specs.Noted.{Ended, on, noted}
+use Rattle.reading.specs.Verdict.{accepted}
+use Rattle.reading.specs.Rules.{valuesOf, valuesAt, firstOf}
+use Rattle.reading.specs.Judged.{whats, lastOf, listed, judged}
+use Rattle.reading.specs.Items.{notesOf}
+use Rattle.reading.proofs.Flat.{flat, goes-flat, goes-whole}
+use Rattle.postings.specs.Record.{padded}
+use Rattle.documents.specs.Document.{Doc, Proper, Each}
+use Rattle.documents.specs.Said.{said}
+use Rattle.documents.specs.Message.{Message, whole, Lawful}
+use Rattle.documents.specs.Holds.{Alike, Holds}
+use Rattle.documents.proofs.Often.{fixed, times, weight, as-often, aKind, aField, weight-kind, weight-field}
+use Rattle.documents.proofs.Lists.{lone}
+use Rattle.documents.proofs.Messages.{Documented, message-found}
+use Rattle.documents.proofs.Exactly.{document-accepted}
+use Rattle.documents.proofs.Standing.{OnceAt, one-at}
+use Rattle.items.specs.Sure.{sure}
+use Rattle.items.specs.Chain.{Itemized}
+use Rattle.items.proofs.Parts.{surely}
+use Rattle.items.proofs.Accepted.{accepted-chained}
+use Rattle.naming.specs.Key.{keyWith, keyOf, readIn, keyed}
+use Rattle.naming.specs.Own.{Four, keyFor, Names, Named}
+use Rattle.naming.proofs.Padded.{Held, padded-one, parts-one}
+use Rattle.naming.proofs.Legal.{aStranger, each-legal, services-held, aPlain, Fits, plain-fits}
+
+-- ---- each stands once in the header, and is of its kind
+pub id-once : (v : Version) → OnceAt MsgId (profile v)
+unfolding profile
+id-once v02 = record { fixed = refl; once = refl }
+
+pub bic-once : (v : Version) → OnceAt InstgBic (profile v)
+unfolding profile
+bic-once v02 = record { fixed = refl; once = refl }
+
+pub date-once : (v : Version) → OnceAt IntrBkSttlmDt (profile v)
+unfolding profile
+date-once v02 = record { fixed = refl; once = refl }
+
+pub record KindAt (h : Field) (s : Simple) (v : Version) : Type 0 where
+  pub fixed : fixed (aStranger h (aPlain s)) 0 (profile v) ≡ true
+  pub none : times (aStranger h (aPlain s)) 0 (profile v) ≡ 0
+
+pub id-kind : (v : Version) → KindAt MsgId Reference v
+unfolding profile
+id-kind v02 = record { fixed = refl; none = refl }
+
+pub bic-kind : (v : Version) → KindAt InstgBic Bic v
+unfolding profile
+bic-kind v02 = record { fixed = refl; none = refl }
+
+pub date-kind : (v : Version) → KindAt IntrBkSttlmDt Date v
+unfolding profile
+date-kind v02 = record { fixed = refl; none = refl }
+
+-- ---- there is a LclInstrm: a field of its own, of its kind
+abbrev aService : Kind → Bool
+aService k = sameKind k (Code LclInstrm)
+
+service-kind : (v : Version) → (fixed (aStranger field.LclInstrm aService) 0 (profile v) ≡ true) × (times (aStranger field.LclInstrm aService) 0 (profile v) ≡ 0)
+unfolding profile
+service-kind v02 = (refl, refl)
+
+service-sure : (v : Version) → sure field.LclInstrm (profile v) ≡ true
+unfolding profile
+service-sure v02 = refl
+
+-- as many of the kind as of the field, where the field has no other
+fewer : (ws : List What) → weight (aStranger field.LclInstrm aService) 0 ws ≡ 0 → weight (aField field.LclInstrm) 0 ws ≤ weight (aKind (Code LclInstrm)) 0 ws
+fewer [] e = omega arith
+fewer (itemBegins ∷ l) e = omega (arith, fewer l (omega arith))
+fewer (itemEnds ∷ l) e = omega (arith, fewer l (omega arith))
+fewer (there n ∷ l) e = omega (arith, fewer l (omega arith))
+fewer (absent n ∷ l) e = omega (arith, fewer l (omega arith))
+fewer (value k f v ∷ l) e = go (sameField f field.LclInstrm) (sameKind k (Code LclInstrm)) e (fewer l)
+  where
+    x : ℕ
+    x = weight (aStranger field.LclInstrm aService) 0 l
+
+    y : ℕ
+    y = weight (aField field.LclInstrm) 0 l
+
+    z : ℕ
+    z = weight (aKind (Code LclInstrm)) 0 l
+
+    go : (a b : Bool) → pick a (pick b 0 1) 0 + x ≡ 0 → (x ≡ 0 → y ≤ z) → pick a 1 0 + y ≤ pick b 1 0 + z
+    go true true e h = omega (arith, h (omega arith))
+    go true false e h = never (omega arith)
+    go false true e h = omega (arith, h (omega arith))
+    go false false e h = omega (arith, h (omega arith))
+
+-- ---- the four of an accepted message
+one-of : (l : List (List ℕ)) → length l ≡ 1 → l ≡ lastOf [] l ∷ []
+one-of l h = lone l h
+
+-- the first of some, and the others
+record Headed (l : List (List ℕ)) : Type 0 where
+  pub others : List (List ℕ)
+  pub is : l ≡ firstOf [] l ∷ others
+  pub same : Each (λ w. w ≡ firstOf [] l) others
+
+headed : (l : List (List ℕ)) → 1 ≤ length l → Alike l → Headed l
+headed [] h a = never (omega arith)
+headed (w ∷ l) h a = record { others = l; is = refl; same = a }
+
+module _ (m : List ℕ) (n c : ℕ) (e : judged m ≡ accepted n c) where
+  abbrev read : Itemized m n
+  read = accepted-chained m n c e
+
+  abbrev end : Ended (List Entry)
+  end = record { at = read .last; notes = read .ended .notes }
+
+  abbrev doc : Documented m
+  doc = message-found m (read .last) (goes-whole (message m) [] end (read .goes))
+
+  abbrev ws : List What
+  ws = said (profile (doc .version)) (doc .document .inside)
+
+  read-said : readIn m ≡ ws
+  read-said = ap (λ q. whats (notesOf q)) (read .goes) ∙ (ap whats (goes-flat (message m) [] end (read .goes)) ∙ doc .says)
+
+  holds : Holds ws n c
+  holds = document-accepted (doc .document) (doc .lawful) n c (rw (doc .is) at e)
+
+  proper : Proper (profile (doc .version)) (doc .document .inside)
+  proper = doc .lawful .inside
+
+  service-there : 1 ≤ length (valuesOf (Code LclInstrm) ws)
+  service-there =
+      let t = trace (profile (read .version)) m (read .place) in
+      let z : ws ≡ whats (flat t) = sym read-said ∙ ap (λ q. whats (notesOf q)) (read .goes) ∙ ap whats (goes-flat t [] (read .ended) (read .reads)) in
+      let one : 1 ≤ length (valuesAt field.LclInstrm (whats (flat t))) =
+      surely m field.LclInstrm (profile (read .version)) (service-sure (read .version)) (read .place) (read .ended .at) (goes-whole t [] (read .ended) (read .reads)) in
+      let k = service-kind (doc .version) in
+      omega (
+        arith,
+        ap (λ (l : List What). length (valuesAt field.LclInstrm l)) z,
+        one,
+        weight-field field.LclInstrm ws,
+        weight-kind (Code LclInstrm) ws,
+        fewer ws (as-often (aStranger field.LclInstrm aService) 0 (profile (doc .version)) (k .0) (doc .document .inside) proper ∙ k .1),
+      )
+
+  pub four : Four
+  four = record { service = firstOf [] (valuesOf (Code LclInstrm) ws); id = lastOf [] (valuesAt MsgId ws); bic = lastOf [] (valuesAt InstgBic ws); date = lastOf [] (valuesAt IntrBkSttlmDt ws) }
+
+  -- **The key of an accepted bulk is made of its document's own values**: its items' LclInstrm, its one MsgId, its one instructing BIC, its one settlement date.
+  pub named : Named m
+  unfolding four keyed
+  named =
+      let s = headed (valuesOf (Code LclInstrm) ws) service-there (holds .alike) in
+      record {
+        version = doc .version;
+        document = doc .document;
+        lawful = doc .lawful;
+        is = doc .is;
+        four = four;
+        names =
+            record {
+              others = s .others;
+              service = s .is;
+              same = s .same;
+              id = one-of (valuesAt MsgId ws) (one-at (doc .document .inside) proper MsgId (id-once (doc .version)));
+              bic = one-of (valuesAt InstgBic ws) (one-at (doc .document .inside) proper InstgBic (bic-once (doc .version)));
+              date = one-of (valuesAt IntrBkSttlmDt ws) (one-at (doc .document .inside) proper IntrBkSttlmDt (date-once (doc .version)));
+            };
+        key = rw e (ap keyOf read-said);
+      }
+
+  -- what each of them is
+  held-at : (h : Field) (s : Simple) → KindAt h s (doc .version) → OnceAt h (profile (doc .version)) → Fits s (lastOf [] (valuesAt h ws))
+  held-at h s k o =
+      let l = each-legal h (aPlain s) (Fits s) (plain-fits s) ws (as-often (aStranger h (aPlain s)) 0 (profile (doc .version)) (k .fixed) (doc .document .inside) proper ∙ k .none) (holds .kinds) in
+      (rw (one-of (valuesAt h ws) (one-at (doc .document .inside) proper h o)) at l) .0
+
+  pub record FourHeld (f : Four) : Type 0 where
+    pub service : Held 4 (f .service)
+    pub id : Held 35 (f .id)
+    pub bic : Held 11 (f .bic)
+    pub date : length (f .date) ≡ 10
+
+  pub four-held : FourHeld four
+  unfolding four
+  four-held =
+      let s = headed (valuesOf (Code LclInstrm) ws) service-there (holds .alike) in
+      record {
+        service = (rw (s .is) at (services-held ws (holds .kinds))) .0;
+        id = held-at MsgId Reference (id-kind (doc .version)) (id-once (doc .version));
+        bic = held-at InstgBic Bic (bic-kind (doc .version)) (bic-once (doc .version));
+        date = held-at IntrBkSttlmDt Date (date-kind (doc .version)) (date-once (doc .version));
+      }
+
+-- ---- four values that their fields hold are told from the key
+full : (n : ℕ) (v : List ℕ) → length v ≡ n → padded n v ≡ v
+unfolding padded
+full n v h = take-at v (replicate n 32) n h
+
+module _ (m k : List ℕ) {n c i d : ℕ} (e : judged m ≡ accepted n c) (g : judged k ≡ accepted i d) where
+  -- **Two accepted bulks of one key have the same service, MsgId, instructing BIC and settlement date.**
+  pub same-four : keyed m .key ≡ keyed k .key → four m n c e ≡ four k i d g
+  unfolding keyWith four named
+  same-four z =
+      let f = four m n c e in
+      let t = four k i d g in
+      let h = four-held m n c e in
+      let j = four-held k i d g in
+      let y : keyFor f ≡ keyFor t = sym (named m n c e .key) ∙ (z ∙ named k i d g .key) in
+      let p = parts-one 4 (f .service) (t .service) _ _ y in
+      let q = parts-one 35 (f .id) (t .id) _ _ (p .1) in
+      let r = parts-one 11 (f .bic) (t .bic) _ _ (q .1) in
+      let a : f .service ≡ t .service = padded-one 4 (f .service) (t .service) (h .service) (j .service) (p .0) in
+      let b : f .id ≡ t .id = padded-one 35 (f .id) (t .id) (h .id) (j .id) (q .0) in
+      let w : f .bic ≡ t .bic = padded-one 11 (f .bic) (t .bic) (h .bic) (j .bic) (r .0) in
+      let x : f .date ≡ t .date = sym (full 10 (f .date) (h .date)) ∙ (r .1 ∙ full 10 (t .date) (j .date)) in
+      ap (λ (l : List ℕ). record { service = l; id = f .id; bic = f .bic; date = f .date }) a
+      ∙ ap (λ (l : List ℕ). record { service = t .service; id = l; bic = f .bic; date = f .date }) b
+      ∙ ap (λ (l : List ℕ). record { service = t .service; id = t .id; bic = l; date = f .date }) w
+      ∙ ap (λ (l : List ℕ). record { service = t .service; id = t .id; bic = t .bic; date = l }) x
