@@ -24,7 +24,7 @@ use Rattle.accounts.specs.Bic.{bicForm, bicGiven}
 use Rattle.profile.specs.declared.Kind.{Kind}
 use Rattle.profile.specs.declared.Kind.the-variants.{Plain, Count, Total, Amount, Code}
 use Rattle.profile.specs.declared.Simple.{Simple}
-use Rattle.profile.specs.declared.Simple.the-variants.{Reference, Text70, Text140, Date, Time, Bic, Iban, Identifier}
+use Rattle.profile.specs.declared.Simple.the-variants.{Reference, EndToEnd, Text70, Text140, Date, Time, Bic, Iban, Identifier}
 use Rattle.profile.specs.declared.Field.{Field}
 use Rattle.profile.specs.Fields.{sameField}
 use Rattle.profile.specs.Kinds.{sameKind}
@@ -151,6 +151,7 @@ number Time = 4
 number Bic = 5
 number Iban = 6
 number Identifier = 7
+number EndToEnd = 8
 
 abbrev simple : ℕ → Simple
 simple zero = Reference
@@ -160,7 +161,8 @@ simple (suc (suc (suc zero))) = Date
 simple (suc (suc (suc (suc zero)))) = Time
 simple (suc (suc (suc (suc (suc zero))))) = Bic
 simple (suc (suc (suc (suc (suc (suc zero)))))) = Iban
-simple (suc (suc (suc (suc (suc (suc (suc n))))))) = Identifier
+simple (suc (suc (suc (suc (suc (suc (suc zero))))))) = Identifier
+simple (suc (suc (suc (suc (suc (suc (suc (suc n)))))))) = EndToEnd
 
 back : (s : Simple) → simple (number s) ≡ s
 back Reference = refl
@@ -171,6 +173,7 @@ back Time = refl
 back Bic = refl
 back Iban = refl
 back Identifier = refl
+back EndToEnd = refl
 
 abbrev pub aPlain : Simple → Kind → Bool
 aPlain s (Plain j) = eqb (number j) (number s)
@@ -189,6 +192,7 @@ Fits Time v = Unit {0}
 Fits Bic v = Held 11 v
 Fits Iban v = Unit {0}
 Fits Identifier v = Unit {0}
+Fits EndToEnd v = Unit {0}
 
 fits : (s : Simple) (v : List ℕ) → Passes (simpleGiven s v) → Fits s v
 unfolding simpleGiven
@@ -200,6 +204,7 @@ fits Time v h = tt
 fits Bic v h = bic-held v h
 fits Iban v h = tt
 fits Identifier v h = tt
+fits EndToEnd v h = tt
 
 pub plain-fits : (s : Simple) (k : Kind) (v : List ℕ) → aPlain s k ≡ true → Passes (kindGiven k v) → Fits s v
 plain-fits s (Plain j) v e h =
