@@ -57,6 +57,57 @@ void bulk_count(const uint8_t *value, size_t length, uint64_t answer[BULK_ANSWER
 void bulk_item_amount(const uint8_t *value, size_t length, uint64_t answer[BULK_ANSWER]);
 void bulk_header_amount(const uint8_t *value, size_t length, uint64_t answer[BULK_ANSWER]);
 
+/* ---- The day book.
+ *
+ * The open bulks are a lent list of entries and the number open, the open ones first in order of entry. The caller keeps both: an
+ * empty book is 64 places or more, whatever they hold, and 0 open; of an entry or a withdrawal that holds, the answer tells the
+ * number open afterwards. Every call first looks whether what is lent is a book: at least 64 places, at most 64 open, no two open
+ * keys equal, the open sums together at most 99,999,999,999,999,999 cents. If it is none, the answer is 29, 0, 0. A refusal leaves
+ * every entry as lent. */
+
+/* The bytes of a key. */
+#define BULK_KEY 60
+
+/* The most bulks that are open, and the fewest places that a book has. */
+#define BULK_BOOK 64
+
+/* One place of a book: 72 bytes, aligned to 8.
+ *
+ *     from  bytes
+ *        0      4  key: service, LclInstrm of the bulk's items
+ *        4     35       MsgId
+ *       39     11       BIC of the instructing agent
+ *       50     10       settlement date
+ *       60      4  unused: never read, and no call promises what they hold afterwards
+ *       64      8  cents, in the machine's order
+ *
+ * Each of the four has spaces behind it, up to its length. Keys are equal when all their 60 bytes are. */
+typedef struct bulk_entry {
+    uint8_t key[BULK_KEY];
+    uint8_t unused[4];
+    uint64_t cents;
+} bulk_entry;
+
+/* A message is entered: 0, the number open afterwards, the bulk's cents, and its entry stands behind the open ones, every other place
+ * as lent; or number, place, 0: 29; the judge's own with its place; 20, its key is open already; 21, 64 are open. */
+void bulk_book_enter(bulk_entry *entries, size_t places, size_t opened, const uint8_t *message, size_t length,
+                     uint64_t answer[BULK_ANSWER]);
+
+/* A key is withdrawn: 0, the number open afterwards, the bulk's cents, and the open ones behind it stand one place further down;
+ * places past those that are still open keep what they held, also the one that has become free. Or number, 0, 0: 29; 22, the key is
+ * not open. The key lies apart from the entries: one of an entry is copied first. */
+void bulk_book_withdraw(bulk_entry *entries, size_t places, size_t opened, const uint8_t key[BULK_KEY], uint64_t answer[BULK_ANSWER]);
+
+/* The first open entry with the key: 0, 1, its place from 0; 0, 0, 0 where there is none; or 29, 0, 0. */
+void bulk_book_find(const bulk_entry *entries, size_t places, size_t opened, const uint8_t key[BULK_KEY],
+                    uint64_t answer[BULK_ANSWER]);
+
+/* The open total: 0, the number open, the cents; or 29, 0, 0. */
+void bulk_book_total(const bulk_entry *entries, size_t places, size_t opened, uint64_t answer[BULK_ANSWER]);
+
+/* Whether what is lent is a book: 0, 0, 0; or 29, 0, 0. */
+void bulk_book_check(const bulk_entry *entries, size_t places, size_t opened, uint64_t answer[BULK_ANSWER]);
+
 #ifdef __cplusplus
 }
 #endif

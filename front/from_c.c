@@ -88,6 +88,146 @@ static void check_message(const uint8_t *message, size_t length)
     hold("item, not there", answer, 18, 0, 0);
 }
 
+/* A book with two places more than it must have: as entries, and as the bytes that the header names. */
+#define ENTRY 72
+#define PLACES (BULK_BOOK + 2)
+typedef union book {
+    bulk_entry entries[PLACES];
+    uint8_t bytes[PLACES * ENTRY];
+} book;
+
+static book open_bulks, due;
+
+/* The layout by which this file is compiled is the one that the header names. */
+static void check_layout(void)
+{
+    if (sizeof(bulk_entry) != ENTRY || sizeof(book) != PLACES * ENTRY || offsetof(bulk_entry, key) != 0 ||
+        offsetof(bulk_entry, unused) != 60 || offsetof(bulk_entry, cents) != 64) {
+        printf("bulk_entry: not the layout of the header\n");
+        wrong++;
+    }
+}
+
+/* Holds every place to what is due there: the key at 0, the cents at 64. */
+static void hold_book(const char *what)
+{
+    for (size_t i = 0; i < PLACES; i++) {
+        const uint8_t *is = open_bulks.bytes + ENTRY * i, *must = due.bytes + ENTRY * i;
+        if (memcmp(is, must, BULK_KEY) != 0 || memcmp(is + 64, must + 64, 8) != 0) {
+            printf("%s: place %d of the book is not as it must be\n", what, (int)i);
+            wrong++;
+        }
+    }
+}
+
+/* The example's key, byte by byte, with number i in its MsgId, `MSG/1`: `MSG00`, `MSG01` and so on. */
+static void make_key(uint8_t key[BULK_KEY], size_t i)
+{
+    memset(key, ' ', BULK_KEY);
+    memcpy(key, "CORE", 4);
+    memcpy(key + 4, "MSG", 3);
+    key[7] = (uint8_t)('0' + i / 10);
+    key[8] = (uint8_t)('0' + i % 10);
+    memcpy(key + 39, "BANKDEFF", 8);
+    memcpy(key + 50, "2010-12-03", 10);
+}
+
+/* An entry by the offsets of the header, without its struct. */
+static void make_entry(book *of, size_t place, size_t i, uint64_t cents)
+{
+    make_key(of->bytes + ENTRY * place, i);
+    memcpy(of->bytes + ENTRY * place + 64, &cents, 8);
+}
+
+/* Enters the example with number i in its MsgId. */
+static void enter(const uint8_t *message, size_t length, size_t opened, size_t i, uint64_t answer[BULK_ANSWER])
+{
+    static uint8_t numbered[65536];
+    uint8_t *id = numbered + behind(message, "<MsgId>");
+    memcpy(numbered, message, length);
+    id[3] = (uint8_t)('0' + i / 10);
+    id[4] = (uint8_t)('0' + i % 10);
+    bulk_book_enter(open_bulks.entries, PLACES, opened, numbered, length, answer);
+}
+
+/* 64 bulks are entered, each behind the one before; no second with the same key, and no 65th. */
+static void check_enter(const uint8_t *message, size_t length)
+{
+    uint64_t answer[BULK_ANSWER];
+    memset(open_bulks.bytes, 7, sizeof open_bulks);
+    memset(due.bytes, 7, sizeof due);
+    for (size_t i = 0; i < BULK_BOOK; i++) {
+        enter(message, length, i, i, answer);
+        hold("enter", answer, 0, i + 1, 1234);
+        make_entry(&due, i, i, 1234);
+        hold_book("enter");
+        enter(message, length, i + 1, i, answer);
+        hold("enter, open already", answer, 20, 0, 0);
+    }
+    enter(message, length, BULK_BOOK, 99, answer);
+    hold("enter, 64 open", answer, 21, 0, 0);
+    enter(message, length - 1, BULK_BOOK, 99, answer);
+    hold("enter, refused by the judge", answer, 3, length - 1, 0);
+    hold_book("enter, refused");
+}
+
+/* In that book: a key is found, withdrawn from the middle, and entered again as the last. */
+static void check_withdraw(const uint8_t *message, size_t length)
+{
+    uint64_t answer[BULK_ANSWER];
+    uint8_t key[BULK_KEY];
+    make_key(key, 99);
+    bulk_book_find(open_bulks.entries, PLACES, BULK_BOOK, key, answer);
+    hold("find, none", answer, 0, 0, 0);
+    bulk_book_withdraw(open_bulks.entries, PLACES, BULK_BOOK, key, answer);
+    hold("withdraw, not open", answer, 22, 0, 0);
+    hold_book("withdraw, not open");
+    make_key(key, 10);
+    bulk_book_find(open_bulks.entries, PLACES, BULK_BOOK, key, answer);
+    hold("find", answer, 0, 1, 10);
+    bulk_book_withdraw(open_bulks.entries, PLACES, BULK_BOOK, key, answer);
+    hold("withdraw", answer, 0, BULK_BOOK - 1, 1234);
+    memmove(due.bytes + ENTRY * 10, due.bytes + ENTRY * 11, ENTRY * (BULK_BOOK - 11));
+    hold_book("withdraw");
+    enter(message, length, BULK_BOOK - 1, 10, answer);
+    hold("enter again", answer, 0, BULK_BOOK, 1234);
+    make_entry(&due, BULK_BOOK - 1, 10, 1234);
+    hold_book("enter again");
+}
+
+/* Asks for the total of a book, and whether it is one: so many cents, or 29. */
+static void check_total(const char *what, size_t places, size_t opened, uint64_t number, uint64_t cents)
+{
+    uint64_t answer[BULK_ANSWER];
+    bulk_book_total(open_bulks.entries, places, opened, answer);
+    hold(what, answer, number, number ? 0 : opened, cents);
+    bulk_book_check(open_bulks.entries, places, opened, answer);
+    hold(what, answer, number, 0, 0);
+}
+
+/* A book made by hand, by offsets alone: what is none, and the highest sum. */
+static void check_handmade(void)
+{
+    static const uint64_t most = 99999999999999999;
+    check_total("64 open", PLACES, BULK_BOOK, 0, 64 * 1234);
+    check_total("no open", BULK_BOOK, 0, 0, 0);
+    check_total("63 places", BULK_BOOK - 1, 0, 29, 0);
+    make_entry(&open_bulks, BULK_BOOK, 99, 1);
+    check_total("65 open", PLACES, BULK_BOOK + 1, 29, 0);
+    make_entry(&open_bulks, 0, 1, 1);
+    make_entry(&open_bulks, 1, 2, most - 3);
+    make_entry(&open_bulks, 2, 3, 2);
+    check_total("the highest sum", PLACES, 3, 0, most);
+    make_entry(&open_bulks, 2, 3, 3);
+    check_total("a sum above", PLACES, 3, 29, 0);
+    check_total("a sum above, but not of the open ones", PLACES, 2, 0, most - 2);
+    make_entry(&open_bulks, 2, 3, UINT64_MAX - (most - 3));
+    check_total("a sum that would wrap", PLACES, 3, 29, 0);
+    make_entry(&open_bulks, 2, 1, 1);
+    check_total("two keys equal", PLACES, 3, 29, 0);
+    check_total("two keys equal, one of them not open", PLACES, 2, 0, most - 2);
+}
+
 /* The record of the example, in an area too small and in one that is larger. */
 static void check_records(const uint8_t *message, size_t length, const uint8_t record[BULK_RECORD])
 {
@@ -140,6 +280,10 @@ int main(int words, char **word)
     }
     check_values();
     check_message(message, length);
+    check_layout();
+    check_enter(message, length);
+    check_withdraw(message, length);
+    check_handmade();
     check_records(message, length, record);
     check_plain(message, length);
     return wrong ? 1 : 0;

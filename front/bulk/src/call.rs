@@ -15,6 +15,7 @@ pub enum Command {
     Records,
     Plain,
     Same,
+    Book,
     Check,
     Explain,
     Help,
@@ -152,12 +153,13 @@ impl Form {
 }
 
 impl Command {
-    const ALL: [Command; 8] = [
+    const ALL: [Command; 9] = [
         Command::Judge,
         Command::Items,
         Command::Records,
         Command::Plain,
         Command::Same,
+        Command::Book,
         Command::Check,
         Command::Explain,
         Command::Help,
@@ -171,6 +173,7 @@ impl Command {
             Command::Records => "records",
             Command::Plain => "plain",
             Command::Same => "same",
+            Command::Book => "book",
             Command::Check => "check",
             Command::Explain => "explain",
             Command::Help => "help",
@@ -219,6 +222,12 @@ impl Command {
             Command::Same => (
                 "Usage: bulk same FILE FILE. Two files, and - at most once.",
                 "Aufruf: bulk same DATEI DATEI. Zwei Dateien, und - höchstens einmal.",
+            ),
+            Command::Book => (
+                "Usage: bulk book SCRIPT. A line of SCRIPT is enter FILE, withdraw SERVICE MSGID BIC \
+                 DATE, find SERVICE MSGID BIC DATE, total, or list.",
+                "Aufruf: bulk book SKRIPT. Eine Zeile von SKRIPT ist enter DATEI, withdraw VERFAHREN \
+                 MSGID BIC DATUM, find VERFAHREN MSGID BIC DATUM, total oder list.",
             ),
             Command::Check => (
                 "Usage: bulk check KIND VALUE. A VALUE with spaces stands in quotes.",

@@ -18,19 +18,19 @@ bulk judges a SEPA direct-debit bulk (pacs.003.001.02) before it is signed.
   bulk records FILE OUT   write the posting records to OUT, whole or not at all
   bulk plain FILE [OUT]   the plain form: no indentation, no needless zeros
   bulk same FILE FILE     whether two plain forms are the same, or what differs
+  bulk book SCRIPT        a day book; lines: enter, withdraw, find, total, list
   bulk check KIND VALUE   one value; KIND is iban, creditor-id, bic, count,
                           item-amount, header-amount, date, time, reference,
                           text70 (a name) or text140 (a remittance text)
   bulk explain [N]        what refusal N means, its causes, what to do
 
-A FILE or VALUE of - is standard input, an OUT of - standard output; a folder
-means its .xml files. Places count bytes from 0; lines, columns, items from 1.
+- is standard input, as OUT standard output; a folder means its .xml files.
+Places count bytes (in a book: bulks) from 0; lines, columns, items from 1.
 
   --de, --en   German or English; else LC_ALL, LC_MESSAGES or LANG decides
-  --plain      for scripts: `accepted COUNT CENTS` or `refused NUMBER PLACE`,
-               of several files with a tab and the name; items with tabs
-  --json       for programs: one object per file or item (front/bulk/README.md)
-  --csv        items for a spreadsheet, with semicolons
+  --plain      for scripts: `accepted COUNT CENTS` or `refused NUMBER PLACE`
+  --json       for programs: one object per file, item or call
+  --csv        items for a spreadsheet; more on all three: front/bulk/README.md
   --help       this page, also bulk help; --version; -- ends the options
 
 Exit status: 0 accepted, same; 1 refused, different; 2 could not do its work.
@@ -45,19 +45,19 @@ bulk prüft einen SEPA-Lastschrift-Bulk (Sammler), pacs.003.001.02, vor Freigabe
   bulk records DATEI ZIEL  Buchungssätze nach ZIEL, ganz oder gar nicht
   bulk plain DATEI [ZIEL]  Normalform: ohne Einrückung und überflüssige Nullen
   bulk same DATEI DATEI    ob zwei Normalformen gleich sind, sonst was abweicht
+  bulk book SKRIPT         Tagebuch; Zeilen: enter, withdraw, find, total, list
   bulk check ART WERT      ein Wert; ART ist iban, bic, count, date, time,
                            reference, creditor-id (Gläubiger-ID), item-amount,
                            header-amount, text70 (Name) oder text140 (Zweck)
   bulk explain [N]         Bedeutung von Ablehnung N, Ursachen, was zu tun ist
 
 - ist die Standardeingabe, als ZIEL die Standardausgabe. Ein Ordner meint seine
-.xml-Dateien. Stellen zählen Bytes ab 0; Zeilen, Spalten und Posten ab 1.
+.xml-Dateien. Stellen (Bytes) und Plätze zählen ab 0, alles andere ab 1.
 
   --de, --en   Deutsch oder Englisch; sonst nach LC_ALL, LC_MESSAGES oder LANG
-  --plain      für Skripte: `accepted ANZAHL CENT` oder `refused NUMMER STELLE`,
-               bei mehreren Dateien Tabulator und Name; Posten mit Tabulatoren
-  --json       für Programme: ein Objekt je Datei/Posten (front/bulk/README.md)
-  --csv        Posten für die Tabellenkalkulation, mit Semikolons
+  --plain      für Skripte: `accepted ANZAHL CENT` oder `refused NUMMER STELLE`
+  --json       für Programme: ein Objekt je Datei, Posten oder Anweisung
+  --csv        Posten als Tabelle; Näheres zu allen drei: front/bulk/README.md
   --help       diese Seite, auch bulk help; --version; -- beendet die Optionen
 
 Status: 0 angenommen/gleich, 1 abgelehnt/ungleich, 2 Fehler bei der Ausführung.

@@ -2,6 +2,7 @@
 
 #![deny(unsafe_code)]
 
+mod book;
 mod call;
 mod check;
 mod compared;
@@ -23,6 +24,7 @@ mod profile;
 mod read;
 mod refusal;
 mod same;
+mod script;
 mod show;
 #[allow(unsafe_code)]
 mod system;
@@ -81,6 +83,7 @@ fn run(call: &Call) -> Result<Status, Trouble> {
         (Command::Plain, [name]) => made::made(call, Made::Plain, name, out::OUTPUT.as_ref()),
         (Command::Plain, [name, out]) => made::made(call, Made::Plain, name, out),
         (Command::Same, [one, other]) => same::same(call, one, other),
+        (Command::Book, [script]) => book::book(call, script),
         (Command::Check, [kind, value]) => check::check(call, kind, value),
         (Command::Explain, []) => pages::explain(call, None).map(|()| Status::Accepted),
         (Command::Explain, [number]) => {

@@ -9,6 +9,8 @@ use face::Kind;
 pub struct Header<'a> {
     pub msg_id: &'a [u8],
     pub settlement_date: &'a [u8],
+    /// The instructing agent's.
+    pub bic: &'a [u8],
 }
 
 /// What an item says. A value that was not read is empty.
@@ -61,6 +63,7 @@ impl<'a> Contents<'a> {
         match (open.name(1), open.name(0), self.items.last_mut()) {
             (b"GrpHdr", b"MsgId", None) => self.header.msg_id = value,
             (b"GrpHdr", b"IntrBkSttlmDt", None) => self.header.settlement_date = value,
+            (b"FinInstnId", b"BIC", None) => self.header.bic = value,
             (_, _, None) => {}
             (_, name, Some(item)) => item.note(open, name, value),
         }
@@ -120,6 +123,7 @@ mod tests {
         let evening = read(EVENING, EVENING.len());
         assert_eq!(evening.header.msg_id, b"BULK-2026-10-28-EVENING");
         assert_eq!(evening.header.settlement_date, b"2026-10-30");
+        assert_eq!(evening.header.bic, b"HAFNDEHHXXX");
         assert_eq!((evening.items.len(), evening.cents()), (5, Some(202_490)));
         let item = &evening.items[1];
         assert_eq!(item.tx_id, b"TX-20261028-0002");

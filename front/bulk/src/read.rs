@@ -9,7 +9,7 @@ use std::path::Path;
 
 /// The most bytes that the judge takes. One more is refused with 1 whatever follows, so no more than
 /// that is ever read: a file of any size, or an endless one, does no harm.
-const MOST: u64 = 16_777_216;
+pub const MOST: u64 = 16_777_216;
 
 /// The name of standard input.
 pub const INPUT: &str = "-";
@@ -28,6 +28,17 @@ pub fn bytes(name: &OsStr) -> Result<Vec<u8>, Trouble> {
         })
     };
     read.map_err(|error| Trouble::Unreadable(name.to_owned(), error))
+}
+
+/// Whether a file can be read, as far as that is told without reading it: a pipe is read only once.
+pub fn look(name: &OsStr) -> Result<(), Trouble> {
+    let looked = fs::metadata(name).and_then(|data| match data.is_dir() {
+        // What reading a folder would answer.
+        true => Err(io::Error::from_raw_os_error(21)),
+        false if data.is_file() => File::open(name).map(drop),
+        false => Ok(()),
+    });
+    looked.map_err(|error| Trouble::Unreadable(name.to_owned(), error))
 }
 
 /// Reads up to the most, with room for the length that is known.

@@ -2,11 +2,12 @@
 //! once, here, in the chosen language.
 
 use crate::call::{Command, Form};
+use crate::check;
 use crate::failure::cause;
 use crate::language::Language;
 use crate::made::Made;
+use crate::script::Fault;
 use crate::show::name;
-use crate::{check, pages};
 use std::ffi::OsString;
 use std::io;
 
@@ -42,6 +43,8 @@ pub enum Trouble {
     /// What it holds would be lost.
     NotReplaced(Made, OsString),
     Unwritable(OsString, io::Error),
+    /// The script of `book`.
+    Script(Fault),
     /// The command and the library do not agree.
     Disagreement,
 }
@@ -58,6 +61,7 @@ impl Trouble {
             | Trouble::Misused(_)
             | Trouble::SeveralForms
             | Trouble::FormOf(..) => self.of_call(language),
+            Trouble::Script(fault) => fault.words(language),
             Trouble::Output(error) => output(error, language),
             Trouble::OutputAfter(made, out, error) => {
                 let written = match made {
@@ -105,17 +109,10 @@ impl Trouble {
                     format!("Unbekannte Art {quoted}. Arten: {all}"),
                 )
             }
-            Trouble::UnknownNumber(_) => {
-                let last = pages::last();
-                language.say(
-                    format!(
-                        "There is no refusal {quoted}. bulk explain lists them all: 1 to {last}."
-                    ),
-                    format!(
-                        "Ablehnung {quoted} gibt es nicht. bulk explain nennt alle: 1 bis {last}."
-                    ),
-                )
-            }
+            Trouble::UnknownNumber(_) => language.say(
+                format!("There is no refusal {quoted}. bulk explain lists them all."),
+                format!("Ablehnung {quoted} gibt es nicht. bulk explain nennt alle."),
+            ),
             _ => language.say(
                 format!("Unknown option {quoted}. If you mean a file: ./{word} {see}"),
                 format!("Unbekannte Option {quoted}. Falls eine Datei gemeint ist: ./{word} {see}"),

@@ -23,6 +23,7 @@ fn help_is_one_screen() {
             "records",
             "bulk plain",
             "bulk same",
+            "bulk book",
             "check",
             "explain",
             "bulk help",
@@ -56,7 +57,7 @@ fn the_version() {
 /// A bad call, in which FILE stands for a message, and what is said of it in English and German.
 type BadCall = (&'static [&'static str], &'static str, &'static str);
 
-const BAD_CALLS: [BadCall; 21] = [
+const BAD_CALLS: [BadCall; 24] = [
     (&[], "bulk judge FILE", "bulk judge DATEI"),
     (
         &["jugde", "FILE"],
@@ -83,6 +84,9 @@ const BAD_CALLS: [BadCall; 21] = [
         "There is no --csv for same.",
         "Für same gibt es --csv nicht.",
     ),
+    (&["book"], "withdraw SERVICE MSGID BIC DATE", "withdraw VERFAHREN MSGID BIC DATUM"),
+    (&["book", "FILE", "FILE"], "bulk book SCRIPT.", "bulk book SKRIPT."),
+    (&["book", "--csv", "FILE"], "There is no --csv for book.", "Für book gibt es --csv nicht."),
     (&["check", "iban"], "bulk check KIND VALUE", "bulk check ART WERT"),
     (&["check", "iban", "a", "b"], "bulk check KIND VALUE", "bulk check ART WERT"),
     (&["explain", "1", "2"], "bulk explain 14", "bulk explain 14"),

@@ -4,6 +4,11 @@ mod common;
 
 use common::*;
 
+/// Every number that has a page.
+fn numbers() -> impl Iterator<Item = u64> {
+    (1..=22).chain([29])
+}
+
 /// The texts of a number in English and in German: its sentence, its labels and its rows.
 fn texts(number: u64) -> [Vec<String>; 2] {
     let body = PAGES.split(&format!("\n## {number}\n")).nth(1).unwrap();
@@ -20,7 +25,7 @@ fn texts(number: u64) -> [Vec<String>; 2] {
 
 #[test]
 fn every_page_is_told_whole_in_both_languages() {
-    for number in 1..=19 {
+    for number in numbers() {
         let both = flat(&bulk(&["explain", &number.to_string()]).done(0));
         let [english, german] = texts(number);
         for text in english.iter().chain(&german) {
@@ -33,7 +38,7 @@ fn every_page_is_told_whole_in_both_languages() {
 
 #[test]
 fn a_chosen_language_is_the_only_one() {
-    for number in 1..=19 {
+    for number in numbers() {
         let number_text = number.to_string();
         let [english, german] = texts(number);
         let said = flat(&bulk(&["--en", "explain", &number_text]).done(0));
@@ -54,13 +59,13 @@ fn a_chosen_language_is_the_only_one() {
 fn the_list_of_numbers() {
     let both = flat(&bulk(&["explain"]).done(0));
     let german = flat(&bulk(&["--de", "explain"]).done(0));
-    for number in 1..=19 {
+    for number in numbers() {
         let sentences = overview(number);
         assert!(both.contains(&format!("{number} {} {}", sentences[0], sentences[1])), "{both}");
         assert!(german.contains(&format!("{number} {}", sentences[1])), "{german}");
         assert!(!german.contains(&sentences[0]), "{german}");
     }
-    for wrong in ["0", "20", "fourteen", "1.4"] {
+    for wrong in ["0", "23", "28", "30", "fourteen", "1.4"] {
         let said = bulk(&["explain", wrong]).trouble();
         assert!(said.contains(&format!("There is no refusal “{wrong}”")), "{said}");
     }
@@ -105,5 +110,36 @@ fn the_texts_as_an_office_writes_them() {
         ["anew", "slip of the pen", "verb", "Bytereihenfolge", "Satzbereich", "Schreibfehler"]
     {
         assert!(!PAGES.contains(gone), "{gone}");
+    }
+}
+
+/// The pages of the day book.
+#[test]
+fn the_texts_of_the_day_book() {
+    for (number, german, words) in [
+        (
+            20,
+            "Ein Bulk mit diesem Schlüssel ist bereits offen.",
+            ["BIC of the instructing bank (InstgAgt)", "eine Doppeleinreichung", "B14"],
+        ),
+        (
+            21,
+            "Das Tagebuch ist voll: 64 Bulks sind offen.",
+            ["keeps at most 64 open bulks", "zwei Tagebücher führen", "S01"],
+        ),
+        (
+            22,
+            "Kein Bulk mit diesem Schlüssel ist offen.",
+            ["a BIC of 8 characters is not the same", "Fälligkeitstag der Posten", "XT75"],
+        ),
+        (
+            29,
+            "Was das Programm bereitgestellt hat, ist kein Tagebuch.",
+            ["under 64 places, over 64 open", "über 999999999999999.99 Euro", "0 offen"],
+        ),
+    ] {
+        assert_eq!(overview(number)[1], german);
+        let said = flat(&bulk(&["explain", &number.to_string()]).done(0));
+        words.iter().for_each(|words| assert!(said.contains(words), "{words}\n{said}"));
     }
 }

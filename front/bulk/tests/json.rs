@@ -231,6 +231,47 @@ fn one_object_for_two_files() {
 }
 
 #[test]
+fn one_object_per_call() {
+    let folder = Folder::new();
+    let (good, bad) = (sample("evening.xml"), sample("october.xml"));
+    let key = "CORE BULK-2026-10-28-EVENING HAFNDEHHXXX 2026-10-30";
+    let lines = format!(
+        "# a day\nenter {0}\nenter {1}\nenter {0}\nfind {key}\ntotal\nlist\nwithdraw {key}\n\
+         find {key}\n",
+        text(&good),
+        text(&bad)
+    );
+    let script = folder.put("day.book", lines);
+    let said = objects(&bulk(&["--json", "book", text(&script)]).done(1));
+    let verdicts =
+        ["entered", "refused", "refused", "at", "total", "list", "withdrawn", "none"].map(string);
+    assert_eq!(said.iter().map(|object| object["verdict"].clone()).collect::<Vec<_>>(), verdicts);
+    assert!(said.iter().all(|object| object.keys().eq(said[0].keys())));
+    let lines = (2..10).map(Json::Number);
+    assert!(lines.eq(said.iter().map(|object| object["line"].clone())));
+
+    let [entered, refused, doubled, at, _, list, withdrawn, none] = &said[..] else { panic!() };
+    assert_eq!((&entered["call"], &entered["file"]), (&string("enter"), &string(text(&good))));
+    assert_eq!((&entered["service"], &entered["bic"]), (&string("CORE"), &string("HAFNDEHHXXX")));
+    assert_eq!((&entered["cents"], &entered["open"]), (&Json::Number(202_490), &Json::Number(1)));
+    assert_eq!(entered["open_euros"], string("2024.90"));
+    for (object, file, status) in [(entered, &good, 0), (refused, &bad, 1)] {
+        let judged = bulk(&["--json", "judge", text(file)]).done(status);
+        assert_eq!(object["judged"], Reader { rest: judged.trim_end() }.value());
+    }
+    assert_eq!((&refused["number"], &refused["place"]), (&Json::Number(14), &Json::Number(252)));
+    assert_eq!((&doubled["number"], &doubled["place"]), (&Json::Number(20), &Json::Number(0)));
+    assert_eq!(doubled["meaning"], string("A bulk with this key is open already."));
+    assert_eq!((&at["at"], &at["file"]), (&Json::Number(0), &Json::Null));
+    let Json::List(bulks) = &list["bulks"] else { panic!() };
+    let Json::Object(first) = &bulks[0] else { panic!() };
+    assert_eq!((bulks.len(), &first[0]), (1, &("at".to_string(), Json::Number(0))));
+    assert_eq!(first[5], ("cents".to_string(), Json::Number(202_490)));
+    assert_eq!((&withdrawn["cents"], &withdrawn["open"]), (&at["cents"], &Json::Number(0)));
+    assert_eq!((&none["at"], &none["bulks"]), (&Json::Null, &Json::List(vec![])));
+}
+
+#[test]
 fn an_iban_of_another_length() {
     let changed = damaged("DE48200999000041726300", "DE592009990000417263000");
     let said = objects(&piped(&["--json", "judge", "-"], &changed).done(1));
@@ -261,20 +302,22 @@ fn a_total_is_never_rounded() {
 fn every_key_is_documented() {
     let readme = include_str!("../README.md");
     let folder = Folder::new();
-    let (file, out) = (sample("october.xml"), folder.path("out"));
+    let (file, out, good) = (sample("october.xml"), folder.path("out"), sample("evening.xml"));
     for words in [
         &["judge", text(&file)][..],
         &["items", text(&file)],
         &["records", text(&sample("evening.xml")), text(&out)],
         &["plain", text(&sample("evening.xml")), text(&folder.path("plain"))],
         &["same", text(&sample("evening.xml")), text(&sample("doubled.xml"))],
+        &["book", text(&folder.put("day.book", format!("enter {}\nlist\n", text(&good))))],
         &["check", "iban", "x"],
     ] {
         for object in objects(&bulk(&[&["--json"], words].concat()).out) {
             let mut keys: Vec<&String> = object.keys().collect();
-            // Those of a difference too.
-            if let Some(Json::List(list)) = object.get("differences") {
-                let Json::Object(pairs) = &list[0] else { panic!() };
+            // Those of a difference and of an open bulk too.
+            for list in ["differences", "bulks"].map(|key| object.get(key)) {
+                let Some(Json::List(list)) = list else { continue };
+                let Some(Json::Object(pairs)) = list.first() else { continue };
                 keys.extend(pairs.iter().map(|pair| &pair.0));
             }
             for key in keys {

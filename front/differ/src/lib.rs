@@ -13,6 +13,7 @@
 //! - [`face`]: the library under test, asked by the kinds of these tests.
 //! - [`ask`], [`form`]: the questions: the judges, what is known, and the laws held against each
 //!   other; those about the plain form.
+//! - [`days`], [`daybook`]: days of the day book, and the questions about them.
 //! - [`tally`]: what a run has seen; a difference, printed so that it can be run again.
 //! - [`usual`], [`bench`]: messages like those that are sent, and the stopwatch.
 
@@ -21,6 +22,8 @@
 pub mod ask;
 pub mod bench;
 pub mod damage;
+pub mod daybook;
+pub mod days;
 pub mod face;
 pub mod form;
 pub mod handmade;

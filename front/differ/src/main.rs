@@ -8,7 +8,7 @@ use differ::bench::{bench, Machine};
 use differ::damage::{self, Case, Known, Twin};
 use differ::random::Random;
 use differ::tally::Name;
-use differ::{face, form, slips, spellings, sweep, twins, value};
+use differ::{days, face, form, slips, spellings, sweep, twins, value};
 use std::process::ExitCode;
 
 const USAGE: &str = "\
@@ -22,6 +22,7 @@ differ records N SEED         N messages with record areas of all sizes
 differ plain N SEED           N messages with areas of all sizes for the plain form
 differ twins N SEED           N pairs of messages, of the same plain form or not
 differ spellings SEED         every spelling of small messages: the plain form
+differ days N SEED            N days of the day book, call by call
 differ limits                 messages at the limits of length and of items
 differ large N SEED           N messages of up to 10,000 items
 differ samples FOLDER         the sample messages, and the October day with its own count
@@ -36,6 +37,8 @@ fn main() -> ExitCode {
     let words: Vec<String> = std::env::args().skip(1).collect();
     let words: Vec<&str> = words.iter().map(String::as_str).collect();
     let told = match words[..] {
+        ["again", "days", seed, number] => numbers(seed, number).map(again_day),
+        ["show", "days", seed, number] => numbers(seed, number).map(show_day),
         ["again", run, seed, number] => numbers(seed, number)
             .and_then(|(seed, number)| one(run, seed, number, again_value, again_message)),
         ["show", run, seed, number] => numbers(seed, number)
@@ -87,6 +90,7 @@ fn counted(run: &str, n: u64, seed: u64) -> Option<ExitCode> {
         "plain" => plain_forms(n, seed),
         "twins" => twinned(n, seed),
         "large" => large(n, seed),
+        "days" => booked(n, seed),
         _ => return None,
     })
 }
@@ -105,6 +109,7 @@ fn all(times: u64) -> ExitCode {
     runs.push(records(2_000 * times, 1));
     runs.push(plain_forms(2_000 * times, 1));
     runs.push(twinned(10_000 * times, 1));
+    runs.push(booked(1_000 * times, 1));
     runs.push(limits());
     runs.push(large(6 * times, 1));
     let failed = runs.iter().any(|run| *run != ExitCode::SUCCESS);
@@ -232,6 +237,16 @@ fn spelled(seed: u64) -> ExitCode {
             _ => asker.plain(&name, &case, &[exact]),
         }
     });
+    asker.tally.end()
+}
+
+/// So many days of the day book.
+fn booked(n: u64, seed: u64) -> ExitCode {
+    let mut asker = Asker::new(format!("days {n} {seed}"));
+    for number in 0..n {
+        let day = days::day(seed, number);
+        asker.day(&Name { run: "days", seed, number, sort: day.sort }, &day);
+    }
     asker.tally.end()
 }
 
@@ -387,6 +402,20 @@ fn again_value(name: &Name, case: &value::Case) -> ExitCode {
     let mut asker = Asker::new(format!("{} {} {}", name.run, name.seed, name.number));
     asker.value(name, case);
     asker.tally.end()
+}
+
+/// Makes the calls of a day again, and shows it.
+fn again_day((seed, number): (u64, u64)) -> ExitCode {
+    let day = days::day(seed, number);
+    print!("{}", day.text());
+    let mut asker = Asker::new(format!("days {seed} {number}"));
+    asker.day(&Name { run: "days", seed, number, sort: day.sort }, &day);
+    asker.tally.end()
+}
+
+/// A day as text.
+fn show_day((seed, number): (u64, u64)) -> ExitCode {
+    show(days::day(seed, number).text().as_bytes())
 }
 
 /// Asks every question about a message again.

@@ -2,6 +2,8 @@
 //! own towards the system, front/bulk/src/system.rs.) The functions here are safe: each lends a slice
 //! for the call, and three words for the answer.
 
+pub mod book;
+
 use std::io::Write;
 
 /// The three words of an answer: `0` and two values, or a refusal number, its place, and 0.
