@@ -20,7 +20,7 @@ bulk judges a SEPA direct-debit bulk (pacs.003.001.02) before it is signed.
   bulk same FILE FILE     whether two plain forms are the same, or what differs
   bulk check KIND VALUE   one value; KIND is iban, creditor-id, bic, count,
                           item-amount, header-amount, date, time, reference,
-                          text70 (a name) or text140 (a remittance text)
+                          end-to-end, text70 (name) or text140 (remittance text)
   bulk explain [N]        what refusal N means, its causes, what to do
 
 A FILE or VALUE of - is standard input, an OUT of - standard output; a folder
@@ -46,7 +46,7 @@ bulk prüft einen SEPA-Lastschrift-Bulk (Sammler), pacs.003.001.02, vor Freigabe
   bulk plain DATEI [ZIEL]  Normalform: ohne Einrückung und überflüssige Nullen
   bulk same DATEI DATEI    ob zwei Normalformen gleich sind, sonst was abweicht
   bulk check ART WERT      ein Wert; ART ist iban, bic, count, date, time,
-                           reference, creditor-id (Gläubiger-ID), item-amount,
+                           reference, end-to-end, creditor-id, item-amount,
                            header-amount, text70 (Name) oder text140 (Zweck)
   bulk explain [N]         Bedeutung von Ablehnung N, Ursachen, was zu tun ist
 

@@ -4,6 +4,7 @@
 
 mod call;
 mod check;
+mod collapsed;
 mod compared;
 mod csv;
 mod doubled;
