@@ -42,13 +42,15 @@ void bulk_records(const uint8_t *message, size_t length, uint8_t *area, size_t a
  * longer than the message. */
 void bulk_plain(const uint8_t *message, size_t length, uint8_t *area, size_t area_length, uint64_t answer[BULK_ANSWER]);
 
-/* One value: 0, 0, 0; or number, 0, 0. The number is 7; of an IBAN 7, 19 or 8, of a creditor identifier 7 or 8. */
+/* One value: 0, 0, 0; or number, 0, 0. The number is 7; of an IBAN 7, 19 or 8, of a creditor identifier 7 or 8. An EndToEndId and the
+ * two texts are judged with their white space collapsed: tab, CR and LF count as space, runs become one, ends are stripped. */
 void bulk_iban(const uint8_t *value, size_t length, uint64_t answer[BULK_ANSWER]);
 void bulk_creditor_id(const uint8_t *value, size_t length, uint64_t answer[BULK_ANSWER]);
 void bulk_bic(const uint8_t *value, size_t length, uint64_t answer[BULK_ANSWER]);
 void bulk_date(const uint8_t *value, size_t length, uint64_t answer[BULK_ANSWER]);
 void bulk_time(const uint8_t *value, size_t length, uint64_t answer[BULK_ANSWER]);
 void bulk_reference(const uint8_t *value, size_t length, uint64_t answer[BULK_ANSWER]);
+void bulk_end_to_end(const uint8_t *value, size_t length, uint64_t answer[BULK_ANSWER]);
 void bulk_text70(const uint8_t *value, size_t length, uint64_t answer[BULK_ANSWER]);
 void bulk_text140(const uint8_t *value, size_t length, uint64_t answer[BULK_ANSWER]);
 

@@ -42,9 +42,14 @@ static void check_values(void)
     check(bulk_time, "2010-12-01T09:30:00+14:01", 7, 0);
     check(bulk_reference, "A/B", 0, 0);
     check(bulk_reference, "A//B", 7, 0);
+    check(bulk_reference, "RENT 2023 04", 7, 0);
+    check(bulk_end_to_end, "RENT 2023 04", 0, 0);
+    check(bulk_end_to_end, "\tRENT \r\n2023  04 ", 0, 0);
+    check(bulk_end_to_end, "RENT 2023/\n", 7, 0);
     check(bulk_text70, "Erika Mustermann", 0, 0);
-    check(bulk_text70, " Erika", 7, 0);
-    check(bulk_text140, "Invoice 1", 0, 0);
+    check(bulk_text70, " Erika\t", 0, 0);
+    check(bulk_text70, " \t\r\n", 7, 0);
+    check(bulk_text140, "Invoice\n1", 0, 0);
     check(bulk_text140, "", 7, 0);
     check(bulk_count, "007", 0, 7);
     check(bulk_count, "7.", 7, 0);
@@ -270,6 +275,29 @@ static void check_plain(const uint8_t *message, size_t length)
     }
 }
 
+/* The example with white space beside its EndToEndId: record and plain form hold the collapsed value, so both are the example's. */
+static void check_collapsed(const uint8_t *message, size_t length, const uint8_t record[BULK_RECORD])
+{
+    static uint8_t spelled[65536 + 2], form[65536 + 38], other[65536 + 38];
+    size_t start = behind(message, "<EndToEndId>"), end = behind(message, "</EndToEndId>") - strlen("</EndToEndId>");
+    uint64_t answer[BULK_ANSWER];
+    uint8_t area[BULK_RECORD];
+    memcpy(spelled, message, start);
+    spelled[start] = '\t';
+    memcpy(spelled + start + 1, message + start, end - start);
+    spelled[end + 1] = '\n';
+    memcpy(spelled + end + 2, message + end, length - end);
+    bulk_records(spelled, length + 2, area, sizeof area, answer);
+    hold("records, collapsed", answer, 0, 1, 1234);
+    bulk_plain(message, length, form, sizeof form, answer);
+    bulk_plain(spelled, length + 2, other, sizeof other, answer);
+    hold("plain, collapsed", answer, 0, length + 38, 0);
+    if (memcmp(area, record, BULK_RECORD) != 0 || memcmp(form, other, sizeof form) != 0) {
+        printf("collapsed: not the record, or not the plain form\n");
+        wrong++;
+    }
+}
+
 int main(int words, char **word)
 {
     static uint8_t message[65536], record[BULK_RECORD + 1];
@@ -286,5 +314,6 @@ int main(int words, char **word)
     check_handmade();
     check_records(message, length, record);
     check_plain(message, length);
+    check_collapsed(message, length, record);
     return wrong ? 1 : 0;
 }

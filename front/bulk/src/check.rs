@@ -11,7 +11,7 @@ use face::Kind;
 use std::ffi::OsStr;
 use std::os::unix::ffi::OsStrExt;
 
-const KINDS: [(&str, Kind); 11] = [
+const KINDS: [(&str, Kind); 12] = [
     ("iban", Kind::Iban),
     ("creditor-id", Kind::CreditorId),
     ("bic", Kind::Bic),
@@ -21,6 +21,7 @@ const KINDS: [(&str, Kind); 11] = [
     ("date", Kind::Date),
     ("time", Kind::Time),
     ("reference", Kind::Reference),
+    ("end-to-end", Kind::EndToEnd),
     ("text70", Kind::Text70),
     ("text140", Kind::Text140),
 ];

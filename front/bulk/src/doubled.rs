@@ -15,7 +15,7 @@ pub type Group = Vec<usize>;
 pub struct Doubled {
     /// The same TxId.
     pub same: Vec<Group>,
-    /// Different TxIds, and the same EndToEndId, debtor IBAN, amount and collection date.
+    /// Different TxIds, and the same EndToEndId (collapsed), debtor IBAN, amount and collection date.
     pub alike: Vec<Group>,
 }
 
@@ -24,7 +24,7 @@ impl Doubled {
     pub fn among(items: &[Item]) -> Doubled {
         let same = groups(items, |item| Some(item.tx_id).filter(|tx_id| !tx_id.is_empty()));
         let mut alike = groups(items, |item| {
-            let texts = [item.end_to_end_id, item.debtor_iban, item.collection_date];
+            let texts = [&*item.end_to_end_id, item.debtor_iban, item.collection_date];
             item.cents.filter(|_| !texts.contains(&&b""[..])).map(|cents| (cents, texts))
         });
         // Where all share one TxId the first list has them.
@@ -96,7 +96,7 @@ pub fn warnings(items: &[Item], doubled: &Doubled, language: Language) -> String
 /// What items that are alike have in common.
 fn shared(item: &Item, language: Language) -> String {
     let euros = language.euros(item.cents.unwrap_or(0).into());
-    let (id, iban) = (shown(item.end_to_end_id), shown(item.debtor_iban));
+    let (id, iban) = (shown(&item.end_to_end_id), shown(item.debtor_iban));
     format!("{id}, {iban}, {euros}, {}", shown(item.collection_date))
 }
 
@@ -126,7 +126,7 @@ mod tests {
     fn item<'a>(tx_id: &'a str, end_to_end_id: &'a str, cents: u64) -> Item<'a> {
         Item {
             tx_id: tx_id.as_bytes(),
-            end_to_end_id: end_to_end_id.as_bytes(),
+            end_to_end_id: end_to_end_id.as_bytes().into(),
             cents: Some(cents),
             collection_date: b"2026-10-30",
             debtor_iban: b"DE87200500001234567890",

@@ -21,7 +21,7 @@ bulk judges a SEPA direct-debit bulk (pacs.003.001.02) before it is signed.
   bulk book SCRIPT        a day book; lines: enter, withdraw, find, total, list
   bulk check KIND VALUE   one value; KIND is iban, creditor-id, bic, count,
                           item-amount, header-amount, date, time, reference,
-                          text70 (a name) or text140 (a remittance text)
+                          end-to-end, text70 (name) or text140 (remittance text)
   bulk explain [N]        what refusal N means, its causes, what to do
 
 - is standard input, as OUT standard output; a folder means its .xml files.
@@ -47,7 +47,7 @@ bulk prüft einen SEPA-Lastschrift-Bulk (Sammler), pacs.003.001.02, vor Freigabe
   bulk same DATEI DATEI    ob zwei Normalformen gleich sind, sonst was abweicht
   bulk book SKRIPT         Tagebuch; Zeilen: enter, withdraw, find, total, list
   bulk check ART WERT      ein Wert; ART ist iban, bic, count, date, time,
-                           reference, creditor-id (Gläubiger-ID), item-amount,
+                           reference, end-to-end, creditor-id, item-amount,
                            header-amount, text70 (Name) oder text140 (Zweck)
   bulk explain [N]         Bedeutung von Ablehnung N, Ursachen, was zu tun ist
 

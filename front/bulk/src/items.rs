@@ -95,7 +95,7 @@ impl Row<'_> {
 /// A row for scripts: number, place, TxId, EndToEndId, debtor IBAN, cents, euros.
 fn plain(row: &Row) -> String {
     let Item { place, tx_id, end_to_end_id, debtor_iban, .. } = row.item;
-    let [tx_id, end_to_end_id, iban] = [tx_id, end_to_end_id, debtor_iban].map(|text| shown(text));
+    let [tx_id, end_to_end_id, iban] = [tx_id, &**end_to_end_id, debtor_iban].map(shown);
     let (cents, euros) = (row.cents(), euro::euros(row.cents()));
     format!("{}\t{place}\t{tx_id}\t{end_to_end_id}\t{iban}\t{cents}\t{euros}\n", row.number)
 }
@@ -109,8 +109,8 @@ fn json(row: &Row) -> String {
         .number("item", row.number as u64)
         .number("place", item.place as u64)
         .text("tx_id", item.tx_id)
-        .text("end_to_end_id", item.end_to_end_id)
-        .text("debtor", item.debtor)
+        .text("end_to_end_id", &item.end_to_end_id)
+        .text("debtor", &item.debtor)
         .text("debtor_iban", item.debtor_iban)
         .number("cents", row.cents())
         .text("euros", euro::euros(row.cents()).as_bytes())
@@ -162,7 +162,7 @@ fn cells(row: &Row, language: Language) -> [String; 8] {
         row.number.to_string(),
         row.item.place.to_string(),
         shown(row.item.tx_id),
-        shown(row.item.end_to_end_id),
+        shown(&row.item.end_to_end_id),
         shown(row.item.debtor_iban),
         row.cents().to_string(),
         euros.trim_end_matches(" EUR").to_string(),

@@ -5,6 +5,7 @@
 mod book;
 mod call;
 mod check;
+mod collapsed;
 mod compared;
 mod csv;
 mod doubled;

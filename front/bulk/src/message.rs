@@ -1,8 +1,10 @@
 //! What the header and the items of a message say, found by their tags. Nothing is judged here: it is
 //! asked for as far as the judge found the message in order.
 
+use crate::collapsed::collapsed;
 use crate::tags::{until, Open, Tags, ITEM};
 use face::Kind;
+use std::borrow::Cow;
 
 /// What the header says. A value that was not read is empty; no legal one is.
 #[derive(Clone, Debug, Default, PartialEq, Eq)]
@@ -13,20 +15,21 @@ pub struct Header<'a> {
     pub bic: &'a [u8],
 }
 
-/// What an item says. A value that was not read is empty.
+/// What an item says: its EndToEndId and the debtor's name collapsed. A value that was not read is
+/// empty.
 #[derive(Clone, Debug, Default, PartialEq, Eq)]
 pub struct Item<'a> {
     /// Where its `<` stands.
     pub place: usize,
     pub tx_id: &'a [u8],
-    pub end_to_end_id: &'a [u8],
+    pub end_to_end_id: Cow<'a, [u8]>,
     pub instrument: &'a [u8],
     pub sequence: &'a [u8],
     pub cents: Option<u64>,
     pub collection_date: &'a [u8],
     pub mandate: &'a [u8],
     pub mandate_date: &'a [u8],
-    pub debtor: &'a [u8],
+    pub debtor: Cow<'a, [u8]>,
     pub debtor_iban: &'a [u8],
 }
 
@@ -85,14 +88,14 @@ impl<'a> Item<'a> {
     fn note(&mut self, open: &Open, name: &[u8], value: &'a [u8]) {
         match name {
             b"TxId" => self.tx_id = value,
-            b"EndToEndId" => self.end_to_end_id = value,
+            b"EndToEndId" => self.end_to_end_id = collapsed(value),
             b"Cd" if open.name(1) == b"LclInstrm" => self.instrument = value,
             b"SeqTp" => self.sequence = value,
             b"IntrBkSttlmAmt" => self.cents = worth(Kind::ItemAmount, value),
             b"ReqdColltnDt" => self.collection_date = value,
             b"MndtId" => self.mandate = value,
             b"DtOfSgntr" => self.mandate_date = value,
-            b"Nm" if open.name(1) == b"Dbtr" => self.debtor = value,
+            b"Nm" if open.name(1) == b"Dbtr" => self.debtor = collapsed(value),
             b"IBAN" if open.name(2) == b"DbtrAcct" => self.debtor_iban = value,
             _ => {}
         }
@@ -112,6 +115,7 @@ mod tests {
     use super::*;
 
     const EVENING: &[u8] = include_bytes!("../../../samples/evening-indented.xml");
+    const WRAPPED: &[u8] = include_bytes!("../../../samples/rents-wrapped.xml");
 
     /// Where this text stands in the evening.
     fn at(text: &str) -> usize {
@@ -127,38 +131,52 @@ mod tests {
         assert_eq!((evening.items.len(), evening.cents()), (5, Some(202_490)));
         let item = &evening.items[1];
         assert_eq!(item.tx_id, b"TX-20261028-0002");
-        assert_eq!(item.end_to_end_id, b"BUSY-2026-10-LP017");
+        assert_eq!(*item.end_to_end_id, *b"BUSY-2026-10-LP017");
         assert_eq!((item.instrument, item.sequence), (&b"CORE"[..], &b"FRST"[..]));
         assert_eq!((item.cents, item.collection_date), (Some(3780), &b"2026-10-30"[..]));
         assert_eq!(item.mandate, b"CHARGE-2026-0342");
         assert_eq!(item.mandate_date, b"2026-09-30");
-        assert_eq!(item.debtor, b"Kurierdienst Blitz und Sohn");
+        assert_eq!(*item.debtor, *b"Kurierdienst Blitz und Sohn");
         assert_eq!(item.debtor_iban, b"DE11700997001203344556");
         assert!(EVENING[item.place..].starts_with(b"<DrctDbtTxInf>"));
     }
 
-    /// Each item of the sample is what the library writes into its record.
+    /// Each item of these samples is what the library writes into its record.
     #[test]
     fn the_items_are_those_of_the_records() {
-        let evening = read(EVENING, EVENING.len());
-        let mut area = vec![0; face::RECORD * evening.items.len()];
-        assert_eq!(face::records(EVENING, &mut area), [0, 5, 202_490]);
-        let text = |bytes: &[u8]| String::from_utf8(bytes.to_vec()).unwrap();
-        for (item, record) in evening.items.iter().zip(area.chunks(face::RECORD)) {
-            let cents = format!("{:011}", item.cents.unwrap());
-            let [tx_id, end_to_end_id, mandate, iban, date, sequence] = [
-                item.tx_id,
-                item.end_to_end_id,
-                item.mandate,
-                item.debtor_iban,
-                item.collection_date,
-                item.sequence,
-            ]
-            .map(text);
-            let front = format!("{tx_id:35}{end_to_end_id:35}{mandate:35}{iban:34}");
-            let back = format!("{cents}{date}{sequence}");
-            assert_eq!((text(&record[..139]), text(&record[184..209])), (front, back));
+        for (sample, count) in [(EVENING, 5), (WRAPPED, 3)] {
+            let items = read(sample, sample.len()).items;
+            assert_eq!(items.len(), count);
+            let mut area = vec![0; face::RECORD * count];
+            assert_eq!(face::records(sample, &mut area)[..2], [0, count as u64]);
+            let text = |bytes: &[u8]| String::from_utf8(bytes.to_vec()).unwrap();
+            for (item, record) in items.iter().zip(area.chunks(face::RECORD)) {
+                let cents = format!("{:011}", item.cents.unwrap());
+                let [tx_id, end_to_end_id, mandate, iban, date, sequence] = [
+                    item.tx_id,
+                    &item.end_to_end_id,
+                    item.mandate,
+                    item.debtor_iban,
+                    item.collection_date,
+                    item.sequence,
+                ]
+                .map(text);
+                let front = format!("{tx_id:35}{end_to_end_id:35}{mandate:35}{iban:34}");
+                let back = format!("{cents}{date}{sequence}");
+                assert_eq!((text(&record[..139]), text(&record[184..209])), (front, back));
+            }
         }
+    }
+
+    /// What collapses is shown collapsed.
+    #[test]
+    fn what_the_wrapped_rents_say() {
+        let rents = read(WRAPPED, WRAPPED.len());
+        let ids = rents.items.iter().map(|item| &*item.end_to_end_id);
+        assert!(ids.eq([&b"RENT 2023 04"[..], b"RENT 2023 04", b"BUSY 2023 03 LP017"]));
+        let debtors = rents.items.iter().map(|item| &*item.debtor);
+        let due = [&b"Anna Gluehbirne"[..], b"Sanne de Stekker", b"Kurierdienst Blitz und Sohn"];
+        assert!(debtors.eq(due));
     }
 
     #[test]
@@ -168,7 +186,7 @@ mod tests {
         assert_eq!(upto("</MsgId>").header.msg_id, b"BULK-2026-10-28-EVENING");
         assert_eq!(upto("1120.50").items[2].cents, None);
         assert_eq!(upto("</IntrBkSttlmAmt>").items[0].cents, Some(84500));
-        assert_eq!(upto("DE36370998000008812345").items[0].debtor, b"Anna Gluehbirne");
+        assert_eq!(*upto("DE36370998000008812345").items[0].debtor, *b"Anna Gluehbirne");
         assert_eq!(upto("DE36370998000008812345").items[0].debtor_iban, b"");
         // A value that the message cuts was not read.
         let cut = &EVENING[..at("TX-20261028-0001") + 3];

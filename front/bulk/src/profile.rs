@@ -86,7 +86,7 @@ const ITEM: Element = or_more(group(
             "PmtId",
             &[
                 or_not(value("InstrId", Kind::Reference)),
-                value("EndToEndId", Kind::Reference),
+                value("EndToEndId", Kind::EndToEnd),
                 value("TxId", Kind::Reference),
             ],
         ),
@@ -245,8 +245,18 @@ mod tests {
                     assert_eq!(after("CORX"), [10, here]);
                 }
                 Some(Content::Value(kind) | Content::Amount(kind)) => {
-                    for value in ["7", "A1", "2000-02-29", "2000-02-29T00:00:00", "BANKDEFF", "A B"]
-                    {
+                    for value in [
+                        "7",
+                        "A1",
+                        "2000-02-29",
+                        "2000-02-29T00:00:00",
+                        "BANKDEFF",
+                        "A B",
+                        "\tA\n",
+                        "A /",
+                        &"A".repeat(36),
+                        &"A".repeat(71),
+                    ] {
                         match face::check(kind, value.as_bytes()) {
                             [0, ..] => assert_eq!(after(value), read_on(value), "{value}"),
                             [number, ..] => assert_eq!(after(value), [number, here], "{value}"),

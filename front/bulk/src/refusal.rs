@@ -93,13 +93,13 @@ impl<'a> Refusal<'a> {
         let Some((_, item)) = &self.item else { return String::new() };
         let debtor = language.say("debtor", "Zahlungspflichtiger");
         let mut parts = Vec::new();
-        match (item.tx_id, item.end_to_end_id) {
+        match (item.tx_id, &*item.end_to_end_id) {
             (b"", b"") => {}
             (b"", id) => parts.push(format!("EndToEndId {}", shown(id))),
             (id, _) => parts.push(format!("TxId {}", shown(id))),
         }
         if !item.debtor.is_empty() {
-            parts.push(format!("{debtor} {}", shown(item.debtor)));
+            parts.push(format!("{debtor} {}", shown(&item.debtor)));
         }
         parts.extend(item.cents.map(|cents| language.euros(cents.into())));
         match parts.len() {

@@ -210,7 +210,7 @@ fn refused(object: Object, refusal: &Refusal, language: Language) -> Object {
         .text_or_null("element", refusal.path.as_deref().unwrap_or("").as_bytes())
         .number_or_null("item", number)
         .text_or_null("tx_id", item.tx_id)
-        .text_or_null("debtor", item.debtor)
+        .text_or_null("debtor", &item.debtor)
         .number_or_null("item_cents", item.cents);
     let object = match refusal.found {
         Found::Bytes(bytes) => object.text("found", beginning(bytes, MOST)),
@@ -248,7 +248,7 @@ fn same_json(items: &[Item], group: &[usize]) -> String {
 fn alike_json(items: &[Item], group: &[usize]) -> String {
     let item = &items[group[0] - 1];
     Object::default()
-        .text("end_to_end_id", item.end_to_end_id)
+        .text("end_to_end_id", &item.end_to_end_id)
         .text("debtor_iban", item.debtor_iban)
         .number_or_null("cents", item.cents)
         .text("collection_date", item.collection_date)

@@ -1,6 +1,7 @@
 //! Why a value was refused: the character, the length, the form. The library judges; this only puts
 //! its answer into words, and the tests hold it against the library.
 
+use crate::collapsed::{collapsed, WHITE};
 use crate::language::Language;
 use crate::show::{characters, shown};
 use face::Kind;
@@ -14,12 +15,17 @@ pub enum Why<'a> {
         length: usize,
         most: usize,
     },
+    /// The same of a collapsed value, where the value as it lies is longer.
+    AtMostCollapsed {
+        length: usize,
+        most: usize,
+    },
     AtLeast {
         length: usize,
         least: usize,
     },
     EightOrEleven(usize),
-    SpaceFirst,
+    WhiteSpaceAlone,
     SlashFirst,
     SlashLast,
     TwoSlashes,
@@ -62,8 +68,25 @@ pub fn why(kind: Kind, value: &[u8]) -> Option<Why<'_>> {
     match kind {
         Kind::Date => date(value),
         Kind::Time => time(value),
+        Kind::EndToEnd | Kind::Text70 | Kind::Text140 => collapsing(kind, value),
         _ => character(kind, value).or_else(|| length(kind, value)).or_else(|| rule(kind, value)),
     }
+}
+
+/// Why a value of a kind that collapses is not of the form. A character is told by its number in the
+/// value as it lies; length and slashes are those of the collapsed value.
+fn collapsing(kind: Kind, value: &[u8]) -> Option<Why<'_>> {
+    let meant = collapsed(value);
+    if meant.is_empty() {
+        return Some(Why::WhiteSpaceAlone);
+    }
+    let length = || match length(kind, &meant)? {
+        Why::AtMost { length, most } if length < value.len() => {
+            Some(Why::AtMostCollapsed { length, most })
+        }
+        why => Some(why),
+    };
+    character(kind, value).or_else(length).or_else(|| rule(kind, &meant))
 }
 
 /// Why an IBAN is refused with 19: the length that is due in its country, or that there is none. The
@@ -101,7 +124,7 @@ fn may_stand(kind: Kind, at: usize, byte: u8) -> bool {
         (Kind::Bic, 6) => capital_or_digit && !b"01".contains(&byte),
         (Kind::Bic, 7) => capital_or_digit && byte != b'O',
         (Kind::Iban | Kind::Bic, _) => capital_or_digit,
-        (Kind::Text70 | Kind::Text140, _) => in_reference || byte == b' ',
+        (Kind::EndToEnd | Kind::Text70 | Kind::Text140, _) => in_reference || WHITE.contains(&byte),
         _ => in_reference,
     }
 }
@@ -115,7 +138,7 @@ fn length(kind: Kind, value: &[u8]) -> Option<Why<'static>> {
         Kind::Iban => (15, 34),
         Kind::CreditorId => (8, 35),
         Kind::Count => (1, 15),
-        Kind::Reference => (1, 35),
+        Kind::Reference | Kind::EndToEnd => (1, 35),
         Kind::Text70 => (1, 70),
         Kind::Text140 => (1, 140),
         _ => return None,
@@ -130,15 +153,21 @@ fn length(kind: Kind, value: &[u8]) -> Option<Why<'static>> {
 /// What else a kind asks of a value whose characters and length are right.
 fn rule(kind: Kind, value: &[u8]) -> Option<Why<'static>> {
     match kind {
-        Kind::Reference if value.starts_with(b"/") => Some(Why::SlashFirst),
-        Kind::Reference if value.ends_with(b"/") => Some(Why::SlashLast),
-        Kind::Reference if value.windows(2).any(|pair| pair == b"//") => Some(Why::TwoSlashes),
-        Kind::Text70 | Kind::Text140 if value.starts_with(b" ") => Some(Why::SpaceFirst),
+        Kind::Reference | Kind::EndToEnd => slashes(value),
         Kind::CreditorId if !value[7..].iter().any(u8::is_ascii_alphanumeric) => {
             Some(Why::NoLetterOrDigit)
         }
         Kind::ItemAmount | Kind::HeaderAmount => amount(value),
         _ => None,
+    }
+}
+
+/// The slash rule.
+fn slashes(value: &[u8]) -> Option<Why<'static>> {
+    match value {
+        [b'/', ..] => Some(Why::SlashFirst),
+        [.., b'/'] => Some(Why::SlashLast),
+        _ => value.windows(2).any(|pair| pair == b"//").then_some(Why::TwoSlashes),
     }
 }
 
@@ -194,6 +223,7 @@ impl Why<'_> {
         matches!(
             self,
             Why::AtMost { .. }
+                | Why::AtMostCollapsed { .. }
                 | Why::AtLeast { .. }
                 | Why::EightOrEleven(_)
                 | Why::CountryLength { .. }
@@ -273,6 +303,10 @@ impl Why<'_> {
         );
         Some(match self {
             Why::AtMost { length, most } => format!("{length} {characters}, {at_most} {most}"),
+            Why::AtMostCollapsed { length, most } => language.say(
+                format!("{length} characters without needless white space, at most {most}"),
+                format!("{length} Zeichen ohne überflüssigen Leerraum, höchstens {most}"),
+            ),
             Why::AtLeast { length, least } => format!("{length} {characters}, {at_least} {least}"),
             Why::EightOrEleven(length) => format!("{length} {characters}, {eight}"),
             Why::ManyDigitsBefore(digits) => language.say(
@@ -291,7 +325,7 @@ impl Why<'_> {
     fn fixed(&self) -> (&'static str, &'static str) {
         match self {
             Why::Empty => ("the value is empty", "der Wert ist leer"),
-            Why::SpaceFirst => ("it begins with a space", "er beginnt mit einem Leerzeichen"),
+            Why::WhiteSpaceAlone => ("nothing but white space", "nur Leerraum"),
             Why::SlashFirst => ("it begins with a slash", "er beginnt mit einem Schrägstrich"),
             Why::SlashLast => ("it ends with a slash", "er endet mit einem Schrägstrich"),
             Why::TwoSlashes => ("two slashes in a row", "zwei Schrägstriche hintereinander"),
@@ -319,7 +353,7 @@ impl Why<'_> {
 mod tests {
     use super::*;
 
-    const KINDS: [(Kind, &[&str]); 11] = [
+    const KINDS: [(Kind, &[&str]); 12] = [
         (Kind::Iban, &["DE87200500001234567890", "NL96TULP0417164300", "AA111111111111"]),
         (Kind::CreditorId, &["DE98ZZZ09999999999", "DE98ZZZ-", "DE98ZZZ(+)"]),
         (Kind::Bic, &["BANKDEFF", "BANKDEFFXXX", "BANKDEFFXX"]),
@@ -332,7 +366,11 @@ mod tests {
             &["2026-10-28T18:42:07+01:00", "2026-10-28T18:42:07.123Z", "2026-02-30T00:00:00"],
         ),
         (Kind::Reference, &["A", "A/B", "0123456789012345678901234567890123A"]),
-        (Kind::Text70, &["Anna Gluehbirne", "B "]),
+        (
+            Kind::EndToEnd,
+            &["RENT 2023 04", "\tRENT \r\n 2023/04 ", "/ /", "0123456789012345 78901234567890123A"],
+        ),
+        (Kind::Text70, &["Anna Gluehbirne", "B ", " \t"]),
         (Kind::Text140, &["Rent November 2026, flat 4B, Kabelweg 12"]),
     ];
 
@@ -415,12 +453,28 @@ mod tests {
         assert_eq!(told(Kind::Bic, "BANKDEFFXX"), "10 characters, 8 or 11 are allowed");
         assert_eq!(told(Kind::ItemAmount, "12.345"), "3 digits after the point, at most 2");
         assert_eq!(told(Kind::Date, "31.12.2026"), "expected: YYYY-MM-DD");
+        assert_eq!(told(Kind::Reference, "RENT 2023 04"), "character 5, “ ”, is not allowed");
+        assert_eq!(told(Kind::EndToEnd, "\tRENT_2023 04"), "character 6, “_”, is not allowed");
+        assert_eq!(told(Kind::EndToEnd, "RENT 2023/ "), "it ends with a slash");
+        assert_eq!(told(Kind::EndToEnd, " / A"), "it begins with a slash");
+        assert_eq!(told(Kind::EndToEnd, &"A".repeat(36)), "36 characters, at most 35");
+        let wide = format!("{}  {}", "A".repeat(18), "B".repeat(17));
+        assert_eq!(
+            told(Kind::EndToEnd, &wide),
+            "36 characters without needless white space, at most 35"
+        );
+        assert_eq!(told(Kind::Text70, " \t\r\n"), "nothing but white space");
         let german = |kind, value: &[u8]| why(kind, value).unwrap().words(Language::German);
         assert_eq!(
             german(Kind::Text70, b"M\xfcller"),
             "das 2. Zeichen, „\\xfc“, ist nicht zulässig"
         );
         assert_eq!(german(Kind::Count, &[b'1'; 16]), "16 Zeichen, höchstens 15");
+        assert_eq!(german(Kind::Text140, b"\n"), "nur Leerraum");
+        assert_eq!(
+            german(Kind::EndToEnd, format!("{wide}\n").as_bytes()),
+            "36 Zeichen ohne überflüssigen Leerraum, höchstens 35"
+        );
         assert_eq!(german(Kind::Date, b"2026-02-29"), "diesen Tag gibt es nicht");
     }
 }

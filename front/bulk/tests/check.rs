@@ -48,6 +48,42 @@ fn single_values() {
     assert_eq!(bulk(&["--plain", "check", "text140", &text]).done(0), "accepted\n");
 }
 
+/// White space at the ends and in runs does not count where it may stand.
+#[test]
+fn values_that_collapse() {
+    for (kind, value, status) in [
+        ("reference", "RENT 2023 04", 1),
+        ("end-to-end", "RENT 2023 04", 0),
+        ("end-to-end", " RENT \t2023\r\n04\n", 0),
+        ("end-to-end", "RENT/ /04", 0),
+        ("end-to-end", "RENT 2023/ ", 1),
+        ("end-to-end", "/ /", 1),
+        ("end-to-end", " \n", 1),
+        ("text70", " Erika\t", 0),
+        ("text70", "\t", 1),
+    ] {
+        let answer = ["accepted\n", "refused 7 0\n"][status];
+        let said = bulk(&["--plain", "check", kind, value]).done(status as i32);
+        assert_eq!(said, answer, "{kind} {value:?}");
+    }
+    let said = bulk(&["check", "end-to-end", "RENT\t2023 04 "]).done(0);
+    assert_eq!(said, "end-to-end “RENT\\t2023 04 ”: accepted\n");
+    let said = bulk(&["check", "end-to-end", "RENT 2023/\n"]).done(1);
+    assert_eq!(
+        said,
+        "end-to-end “RENT 2023/\\n” (it ends with a slash): refused 7: The value is not in the \
+         required format.\n"
+    );
+    let wide = format!("{}  {}", "A".repeat(18), "B".repeat(17));
+    let said = bulk(&["--de", "check", "end-to-end", &wide]).done(1);
+    assert!(
+        said.contains(" (36 Zeichen ohne überflüssigen Leerraum, höchstens 35): abgelehnt (Nr. 7)"),
+        "{said}"
+    );
+    let said = bulk(&["--de", "check", "text140", " "]).done(1);
+    assert!(said.starts_with("text140 „ “ (nur Leerraum): abgelehnt (Nr. 7): "), "{said}");
+}
+
 #[test]
 fn single_values_in_words() {
     let said = bulk(&["check", "item-amount", "4049.8"]).done(0);
@@ -88,6 +124,7 @@ fn single_values_in_words() {
         .contains("date “” (the value is empty): refused 7"));
     let said = bulk(&["check", "ibam", "x"]).trouble();
     assert!(said.contains("Unknown kind “ibam”. Kinds: iban, creditor-id, bic,"), "{said}");
+    assert!(said.contains(" reference, end-to-end, text70, text140"), "{said}");
 }
 
 #[test]

@@ -37,9 +37,14 @@ fn alike_under_different_tx_ids_looks_doubled() {
     let said = piped(&["--de", "judge", "-"], &message).done(0);
     assert!(said.contains("  Warnung: sieht doppelt aus: "), "{said}");
     assert!(said.ends_with("845,00 EUR, 2026-10-30: Posten 1, 6\n"), "{said}");
-    // 845 and 845.00 are the same amount.
+    // 845 and 845.00 are the same amount, and two values are equal when their collapsed bytes are.
     let message = message.replacen(">845.00<", ">845<", 1);
-    assert!(piped(&["judge", "-"], message).done(0).contains("looks doubled"));
+    let message = message.replacen(">RENT-2026-11-FLAT-4B<", ">\tRENT-2026-11-FLAT-4B\r\n<", 1);
+    let said = piped(&["judge", "-"], message).done(0);
+    assert!(
+        said.contains("looks doubled") && said.contains("    RENT-2026-11-FLAT-4B, "),
+        "{said}"
+    );
 }
 
 #[test]

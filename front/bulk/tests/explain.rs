@@ -95,7 +95,7 @@ fn the_texts_as_an_office_writes_them() {
     }
     for (number, words) in [
         (2, &["Byte Order Mark (BOM)"][..]),
-        (7, &["Mandatsreferenz (MndtId)"]),
+        (7, &["Mandatsreferenz (MndtId)", "counts as one space", "gelten als ein Leerzeichen"]),
         (8, &["Tippfehler", "Zahlendreher", "typing error"]),
         (11, &["Basis- (CORE) und Firmenlastschriften (B2B)"]),
         (1, &["A plain form over that limit", "Auch eine Normalform über dieser Grenze"]),

@@ -40,6 +40,29 @@ fn plain_items_are_as_they_were() {
     assert_eq!((said.status, said.out.as_str(), said.err.as_str()), (1, "", "refused 14 252\n"));
 }
 
+/// An EndToEndId and a name that collapse are shown collapsed, so that no tab and no line break is in
+/// a row.
+#[test]
+fn collapsed_values_are_shown() {
+    let [rents, wrapped] = ["rents.xml", "rents-wrapped.xml"].map(sample);
+    // All but the place, which is that of the item in its own file.
+    let rows = |form: &str, file: &str, place: usize, between: char| -> Vec<String> {
+        let said = bulk(&["items", form, file]).done(0);
+        let row = |line: &str| {
+            let cells = line.split(between).enumerate().filter(|(at, _)| *at != place);
+            cells.map(|(_, cell)| cell.to_string()).collect::<Vec<_>>().join("|")
+        };
+        said.lines().map(row).collect()
+    };
+    for (form, place, between) in [("--plain", 1, '\t'), ("--csv", 1, ';'), ("--json", 1, ',')] {
+        let due = rows(form, text(&rents), place, between);
+        assert!(due.iter().filter(|row| row.contains("RENT 2023 04")).count() == 2, "{due:?}");
+        assert_eq!(rows(form, text(&wrapped), place, between), due, "{form}");
+    }
+    let said = bulk(&["items", text(&wrapped)]).done(0);
+    assert!(said.contains("  TX-20230330-0003  BUSY 2023 03 LP017  DE11700997001203344556  "));
+}
+
 #[test]
 fn a_wrong_count_leaves_the_table_with_doubled_ones_marked() {
     let october = sample("october.xml");

@@ -19,6 +19,10 @@ fn the_samples() {
         assert_eq!(said, line);
         assert_eq!(bulk(&["judge", "--plain", text(&file)]).done(0), "accepted 5 202490\n");
     }
+    for name in ["rents.xml", "rents-wrapped.xml"] {
+        let said = bulk(&["judge", "--plain", text(&sample(name))]).done(0);
+        assert_eq!(said, "accepted 3 200330\n");
+    }
     let october = sample("october.xml");
     assert_eq!(bulk(&["--plain", "judge", text(&october)]).done(1), "refused 14 252\n");
     let said = bulk(&["judge", text(&october)]).done(1);
@@ -117,7 +121,7 @@ fn money_is_grouped_for_the_eye_alone() {
 type Damage = (&'static str, &'static str, u64, &'static str, &'static str);
 
 /// Each first one of its text in the indented evening is damaged.
-const DAMAGES: [Damage; 24] = [
+const DAMAGES: [Damage; 27] = [
     ("<?xml", "\u{feff}<?xml", 2, "", "found “\\u{feff}” (a byte order mark (BOM)): The beginning"),
     ("001.02", "001.08", 2, "", "pacs.003.001.08\">”: "),
     (
@@ -170,6 +174,27 @@ const DAMAGES: [Damage; 24] = [
         7,
         "/DrctDbtTxInf[3]/PmtId/TxId (EndToEndId RENT-2026-11-FLAT-2A), ",
         "the value is empty: The value is not in the required format.",
+    ),
+    (
+        "RENT-2026-11-FLAT-2A",
+        "RENT 2026 11/\n",
+        7,
+        "/DrctDbtTxInf[3]/PmtId/EndToEndId, ",
+        "found “RENT 2026 11/\\n” (it ends with a slash): The value is not in the required format.",
+    ),
+    (
+        "TX-20261028-0003",
+        "TX 20261028 0003",
+        7,
+        "/DrctDbtTxInf[3]/PmtId/TxId (EndToEndId RENT-2026-11-FLAT-2A), ",
+        "found “TX 20261028 0003” (character 3, “ ”, is not allowed): ",
+    ),
+    (
+        "Anna Gluehbirne",
+        "\n\t",
+        7,
+        "/DrctDbtTxInf[1]/Dbtr/Nm (TxId TX-20261028-0001, 845.00 EUR)",
+        "found “\\n\\t” (nothing but white space): ",
     ),
     (
         "2026-10-30",

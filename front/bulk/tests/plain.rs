@@ -29,6 +29,16 @@ fn one_plain_form_of_every_spelling() {
     assert_eq!((said.out, said.err.as_str()), (plain_evening(), "accepted 5 202490\n"));
 }
 
+/// It holds the collapsed EndToEndId, names and remittance texts.
+#[test]
+fn white_space_in_values_collapses() {
+    let rents = fs::read_to_string(sample("rents.xml")).unwrap();
+    for name in ["rents.xml", "rents-wrapped.xml"] {
+        let said = bulk(&["plain", text(&sample(name))]);
+        assert_eq!((said.status, said.out.as_str()), (0, rents.trim_end()), "{name}");
+    }
+}
+
 /// As much longer than the message as it can be: a declaration, and `.00` for each amount.
 #[test]
 fn a_plain_form_may_be_longer_than_the_message() {

@@ -153,6 +153,17 @@ fn records_to_standard_output() {
     assert!(said.err.contains("refused 14 "), "{}", said.err);
 }
 
+/// They hold the collapsed EndToEndId.
+#[test]
+fn collapsed_values_in_records() {
+    let [rents, wrapped] =
+        ["rents.xml", "rents-wrapped.xml"].map(|name| bulk(&["records", text(&sample(name)), "-"]));
+    assert_eq!((rents.status, wrapped.status), (0, 0));
+    assert_eq!(rents.out, wrapped.out);
+    let ids: Vec<&str> = rents.out.lines().map(|record| record[35..70].trim_end()).collect();
+    assert_eq!(ids, ["RENT 2023 04", "RENT 2023 04", "BUSY 2023 03 LP017"]);
+}
+
 #[test]
 fn records_that_nobody_takes_are_told() {
     let file = sample("evening.xml");

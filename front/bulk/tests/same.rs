@@ -94,7 +94,7 @@ fn the_header_and_the_first_item_that_differ() {
     assert!(below(&["--de"], &replaced).starts_with("  Kopf: CreDtTm hier „2026-10-28T18:42:07"));
 }
 
-/// What looks the same and is not: a zero, a space, a letter of another case.
+/// What looks the same and is not: a zero, a word parted by a space, a letter of another case.
 #[test]
 fn other_values_are_told_apart_by_bytes() {
     for (old, new, line) in [
@@ -105,8 +105,8 @@ fn other_values_are_told_apart_by_bytes() {
         ),
         (
             ">Anna Gluehbirne<",
-            ">Anna Gluehbirne <",
-            "item 1, TxId TX-20261028-0001: Dbtr/Nm “Anna Gluehbirne” here, “Anna Gluehbirne ” there",
+            ">Anna\r\n\tGlueh birne <",
+            "item 1, TxId TX-20261028-0001: Dbtr/Nm “Anna Gluehbirne” here, “Anna Glueh birne” there",
         ),
         (
             ">RENT-2026-11-FLAT-4B<",
@@ -117,6 +117,36 @@ fn other_values_are_told_apart_by_bytes() {
     ] {
         assert_eq!(below(&[], &[(old, new)]), format!("  {line}\n"));
     }
+}
+
+/// White space at the ends and in runs does not count in an EndToEndId, a name or a remittance text.
+#[test]
+fn values_that_collapse_alike_are_the_same() {
+    let [rents, wrapped] = ["rents.xml", "rents-wrapped.xml"].map(sample);
+    for (one, other) in [(&rents, &wrapped), (&wrapped, &rents)] {
+        let said = bulk(&["--plain", "same", text(one), text(other)]).done(0);
+        assert_eq!(said, "same 3 200330\n");
+    }
+    let said = bulk(&["same", text(&rents), text(&wrapped)]).done(0);
+    assert!(
+        said.contains(": the same plain form, 3 items, 2,003.30 EUR (200330 cents), "),
+        "{said}"
+    );
+    for (old, new) in [
+        (">Anna Gluehbirne<", "> Anna\t Gluehbirne\n<"),
+        (">RENT-2026-11-FLAT-4B<", ">\r\n\tRENT-2026-11-FLAT-4B <"),
+        (", flat 4B, ", ",\nflat  4B, "),
+    ] {
+        compared(&[], &[(old, new)]).done(0);
+    }
+    // Where one counts, the values are shown collapsed.
+    let message =
+        std::fs::read_to_string(&wrapped).unwrap().replacen("RENT  2023", "RENT20\t23", 1);
+    let said = piped(&["same", text(&rents), "-"], message).done(1);
+    let line =
+        "  item 2, TxId TX-20230330-0002: PmtId/EndToEndId “RENT 2023 04” here, “RENT20 23 04” \
+                there\n";
+    assert!(said.ends_with(line), "{said}");
 }
 
 #[test]

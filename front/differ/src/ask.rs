@@ -1,6 +1,7 @@
 //! The questions: the library, the plain judge, the slow judge and what is known of a case are held
 //! against each other, and the laws that the library's proofs state are tried on the compiled code.
 
+use crate::collapse;
 use crate::damage::{Case, Known};
 use crate::face::{self, Words, RECORD};
 use crate::kind::Kind;
@@ -35,6 +36,7 @@ pub fn plain_check(kind: Kind, value: &[u8]) -> Result<u64, u8> {
         Kind::Date => plain::date(value),
         Kind::Time => plain::time(value),
         Kind::Reference => plain::reference(value),
+        Kind::EndToEnd => plain::end_to_end(value),
         Kind::Text70 => plain::text70(value),
         Kind::Text140 => plain::text140(value),
         Kind::Count => plain::count(value),
@@ -185,7 +187,8 @@ impl Asker {
     }
 
     /// "A legal Nm or Ustrd replaced by another legal one of equal length alters no answer and no
-    /// record byte", in refused messages too.
+    /// record byte", in refused messages too. Since request 4 it "speaks of raw length and leaves out
+    /// the plain form".
     fn names(&mut self, name: &Name, case: &Case, library: Words) {
         let random = &mut Random::new(name.seed ^ 0x4E6D, name.number);
         let Some(other) = other_names(&case.bytes, random) else { return };
@@ -213,11 +216,12 @@ impl Asker {
     /// The records into areas of all sizes, each between bytes that must stay.
     pub fn records(&mut self, name: &Name, case: &Case, lengths: &[usize]) {
         let bytes = &case.bytes;
-        let verdict = plain::judge(bytes);
+        let verdict = verdict_words(plain::judge(bytes));
+        let records = self.known_records(case, verdict);
         let before = bytes.clone();
         for &length in lengths {
             let lent = Area::new(length, name.number);
-            let (words, written) = self.expected(name, case, verdict, &lent);
+            let (words, written) = self.expected(name, case, verdict, &records, &lent);
             let mut area = lent.clone();
             let library = face::records(bytes, area.area());
             let question = || format!("records, area of {length}");
@@ -230,31 +234,36 @@ impl Asker {
         self.tally.hold_areas(name, &question, bytes, ("after", bytes), ("before", &before));
     }
 
-    /// What the records must answer and leave in a lent area: by the plain judge, which is itself
-    /// held against the records that are known of the message, and against a refusal's "as lent".
+    /// The records that are known of a message from its making, or else those of the slow judge.
+    fn known_records(&self, case: &Case, verdict: Words) -> Vec<u8> {
+        if verdict[0] != 0 || !case.records.is_empty() {
+            return case.records.clone();
+        }
+        let read = self.slow.judge(&case.bytes);
+        read.map_or(Vec::new(), |message| self.slow.records(&message.said))
+    }
+
+    /// What the records must answer and leave in a lent area: by what is known, and the plain judge is
+    /// itself held against it.
     fn expected(
         &mut self,
         name: &Name,
         case: &Case,
-        verdict: Verdict,
+        verdict: Words,
+        records: &[u8],
         lent: &Area,
     ) -> (Words, Area) {
-        let mut area = lent.clone();
+        let (mut area, mut known) = (lent.clone(), lent.clone());
         let length = area.area().len();
         let plain = verdict_words(plain::records(&case.bytes, area.area()));
-        let mut known = lent.clone();
         let words = match verdict {
-            Verdict::Accepted { count, .. } if (length as u64) < RECORD as u64 * count => {
-                [17, 0, 0]
-            }
-            verdict => verdict_words(verdict),
+            [0, count, _] if (length as u64) < RECORD as u64 * count => [17, 0, 0],
+            verdict => verdict,
         };
         if words[0] == 0 {
-            let records = match case.records.is_empty() {
-                true => area.area()[..RECORD * words[1] as usize].to_vec(),
-                false => case.records.clone(),
-            };
-            known.area()[..records.len()].copy_from_slice(&records);
+            // Where the judges differ in the count, the area differs too.
+            let written = records.len().min(length);
+            known.area()[..written].copy_from_slice(&records[..written]);
         }
         let bytes = &case.bytes;
         let question = || format!("records, area of {length}");
@@ -265,7 +274,7 @@ impl Asker {
     }
 }
 
-/// The message with each legal Nm and Ustrd replaced by another of equal length, if it has one.
+/// The message with each legal Nm and Ustrd replaced by another of equal raw length, if it has one.
 pub fn other_names(bytes: &[u8], random: &mut Random) -> Option<Vec<u8>> {
     let mut other = bytes.to_vec();
     for (tag, kind) in [(b"<Nm>".as_slice(), Kind::Text70), (b"<Ustrd>".as_slice(), Kind::Text140)]
@@ -275,7 +284,7 @@ pub fn other_names(bytes: &[u8], random: &mut Random) -> Option<Vec<u8>> {
             at += found + tag.len();
             let Some(length) = bytes[at..].iter().position(|&b| b == b'<') else { break };
             if slow::check(kind, &bytes[at..at + length]).is_ok() {
-                let text = value::text_of_length(random, length);
+                let text = collapse::text_of_raw_length(kind, length, random);
                 other[at..at + length].copy_from_slice(&text);
             }
         }

@@ -1,5 +1,6 @@
 //! Damaged messages, with what is known of their refusal.
 
+use crate::collapse;
 use crate::kind::Kind;
 use crate::message::{accepted, concat, Message, Part, Plan, What, DECLARATION, INSTRUMENTS};
 use crate::random::Random;
@@ -90,6 +91,8 @@ const DAMAGES: &[(&str, Damage)] = &[
     ("white space before the declaration", white_before_declaration),
     ("white space before a value", white_before_value),
     ("white space behind a value", white_behind_value),
+    ("white space in a value", white_in_value),
+    ("white space for a value", white_for_value),
     ("foreign byte set", foreign_set),
     ("foreign byte inserted", foreign_inserted),
     ("currency changed", currency),
@@ -616,27 +619,53 @@ fn white_before_declaration(message: Message, random: &mut Random) -> Option<(Ve
     Some((bytes, Known::Refused { number: 2, place }))
 }
 
-/// White space before a value.
-fn white_before_value(mut message: Message, random: &mut Random) -> Option<(Vec<u8>, Known)> {
-    let part = pick(&message.parts_that(is_value), random)?;
-    message.parts[part].bytes.insert(0, random.of(WHITE));
-    let number = form_number(kind_of(&message.parts[part]));
-    Some((message.bytes(), Known::Refused { number, place: message.place(part) }))
+/// What is known when white space is put into a value before its byte `at`: the kinds that collapse
+/// may have it.
+pub(crate) fn known_with_white(message: &Message, part: usize, at: usize) -> Known {
+    let Part { bytes, meant, .. } = &message.parts[part];
+    let kind = kind_of(&message.parts[part]);
+    match collapse::known_with_white(kind, bytes, meant, at) {
+        Ok(_) => fine(message),
+        Err(_) => Known::Refused { number: form_number(kind), place: message.place(part) },
+    }
 }
 
-/// White space behind a value; a text may end with a space.
-fn white_behind_value(mut message: Message, random: &mut Random) -> Option<(Vec<u8>, Known)> {
+/// White space put into a value, at a place of its length that is chosen.
+fn white_at(
+    mut message: Message,
+    random: &mut Random,
+    choose: fn(usize, &mut Random) -> usize,
+) -> Option<(Vec<u8>, Known)> {
     let part = pick(&message.parts_that(is_value), random)?;
-    let white = random.of(WHITE);
-    message.parts[part].bytes.push(white);
-    let kind = kind_of(&message.parts[part]);
-    let length = message.parts[part].bytes.len();
-    let known = match kind {
-        Kind::Text70 if white == b' ' && length <= 70 => fine(&message),
-        Kind::Text140 if white == b' ' && length <= 140 => fine(&message),
-        _ => Known::Refused { number: form_number(kind), place: message.place(part) },
-    };
+    let at = choose(message.parts[part].bytes.len(), random);
+    let known = known_with_white(&message, part, at);
+    let length = random.length(1, 5);
+    message.parts[part].bytes.splice(at..at, random.bytes(WHITE, length));
     Some((message.bytes(), known))
+}
+
+/// White space before a value.
+fn white_before_value(message: Message, random: &mut Random) -> Option<(Vec<u8>, Known)> {
+    white_at(message, random, |_, _| 0)
+}
+
+/// White space behind a value.
+fn white_behind_value(message: Message, random: &mut Random) -> Option<(Vec<u8>, Known)> {
+    white_at(message, random, |length, _| length)
+}
+
+/// White space anywhere in a value.
+fn white_in_value(message: Message, random: &mut Random) -> Option<(Vec<u8>, Known)> {
+    white_at(message, random, |length, random| random.between(0, length))
+}
+
+/// White space for a value: collapsed, nothing is left.
+fn white_for_value(mut message: Message, random: &mut Random) -> Option<(Vec<u8>, Known)> {
+    let part = pick(&message.parts_that(is_value), random)?;
+    let length = random.length(1, 50);
+    message.parts[part].bytes = random.bytes(WHITE, length);
+    let number = form_number(kind_of(&message.parts[part]));
+    Some((message.bytes(), Known::Refused { number, place: message.place(part) }))
 }
 
 /// A byte that may stand nowhere.
@@ -745,11 +774,12 @@ fn near_value_cut(message: Message, random: &mut Random) -> Option<(Vec<u8>, Kno
     Some((bytes, Known::Nothing))
 }
 
-/// "A legal Nm or Ustrd replaced by another legal one of equal length alters no answer".
+/// "A legal Nm or Ustrd replaced by another legal one of equal length alters no answer", of equal raw
+/// length since request 4.
 fn texts_replaced(mut message: Message, random: &mut Random) -> Option<(Vec<u8>, Known)> {
     for part in &mut message.parts {
-        if let What::Value(Kind::Text70 | Kind::Text140) = part.what {
-            part.bytes = value::text_of_length(random, part.bytes.len());
+        if let What::Value(kind @ (Kind::Text70 | Kind::Text140)) = part.what {
+            part.bytes = collapse::text_of_raw_length(kind, part.bytes.len(), random);
         }
     }
     Some((message.bytes(), fine(&message)))

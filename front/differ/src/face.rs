@@ -12,6 +12,7 @@ pub fn check(kind: Kind, value: &[u8]) -> Words {
         Kind::Date => face::Kind::Date,
         Kind::Time => face::Kind::Time,
         Kind::Reference => face::Kind::Reference,
+        Kind::EndToEnd => face::Kind::EndToEnd,
         Kind::Text70 => face::Kind::Text70,
         Kind::Text140 => face::Kind::Text140,
         Kind::Count => face::Kind::Count,

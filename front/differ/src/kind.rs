@@ -9,6 +9,7 @@ pub enum Kind {
     Date,
     Time,
     Reference,
+    EndToEnd,
     Text70,
     Text140,
     Count,
@@ -18,14 +19,27 @@ pub enum Kind {
     Code(&'static [&'static str]),
 }
 
+impl Kind {
+    /// Of a kind that collapses, the most bytes of a collapsed value. No other kind has white space.
+    pub fn longest_collapsed(self) -> Option<usize> {
+        match self {
+            Kind::EndToEnd => Some(35),
+            Kind::Text70 => Some(70),
+            Kind::Text140 => Some(140),
+            _ => None,
+        }
+    }
+}
+
 /// The kinds that have a single checker.
-pub const CHECKED: [Kind; 11] = [
+pub const CHECKED: [Kind; 12] = [
     Kind::Iban,
     Kind::CreditorId,
     Kind::Bic,
     Kind::Date,
     Kind::Time,
     Kind::Reference,
+    Kind::EndToEnd,
     Kind::Text70,
     Kind::Text140,
     Kind::Count,

@@ -3,6 +3,7 @@
 //! - [`random`]: a seeded generator of numbers.
 //! - [`kind`]: the kinds of value.
 //! - [`value`], [`handmade`]: values of each kind: valid, nearly valid, damaged, random.
+//! - [`collapse`]: values that collapse, and white space in values of every kind.
 //! - [`message`]: accepted messages, with what is known of them.
 //! - [`damage`]: damaged messages, with what is known of their refusal.
 //! - [`sweep`]: every byte and every part of small messages damaged; messages at the limits.
@@ -21,6 +22,7 @@
 
 pub mod ask;
 pub mod bench;
+pub mod collapse;
 pub mod damage;
 pub mod daybook;
 pub mod days;

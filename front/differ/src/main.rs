@@ -21,7 +21,7 @@ differ slips N SEED           every slip of N messages
 differ records N SEED         N messages with record areas of all sizes
 differ plain N SEED           N messages with areas of all sizes for the plain form
 differ twins N SEED           N pairs of messages, of the same plain form or not
-differ spellings SEED         every spelling of small messages: the plain form
+differ spellings SEED         every spelling of small messages: plain form, records
 differ days N SEED            N days of the day book, call by call
 differ limits                 messages at the limits of length and of items
 differ large N SEED           N messages of up to 10,000 items
@@ -225,7 +225,8 @@ fn twinned(n: u64, seed: u64) -> ExitCode {
     asker.tally.end()
 }
 
-/// Every spelling of small messages; the first of them with areas of every size.
+/// Every spelling of small messages; the first of them with areas of every size. The records of those
+/// of which they are known.
 fn spelled(seed: u64) -> ExitCode {
     let mut asker = Asker::new(format!("spellings {seed}"));
     spellings::spellings(seed, |number, case| {
@@ -235,6 +236,9 @@ fn spelled(seed: u64) -> ExitCode {
         match number {
             0 => asker.plain(&name, &case, &(0..=exact + 3).collect::<Vec<usize>>()),
             _ => asker.plain(&name, &case, &[exact]),
+        }
+        if !case.records.is_empty() {
+            asker.records(&name, &case, &[case.records.len()]);
         }
     });
     asker.tally.end()
@@ -282,31 +286,43 @@ fn large(n: u64, seed: u64) -> ExitCode {
 }
 
 /// A sample, and what its verdict must be.
-const SAMPLES: [(&str, Known); 7] = [
+const SAMPLES: [(&str, Known); 9] = [
     ("evening.xml", Known::Accepted { count: 5, cents: 202_490 }),
     ("evening-indented.xml", Known::Accepted { count: 5, cents: 202_490 }),
     ("evening-padded.xml", Known::Accepted { count: 5, cents: 202_490 }),
+    ("rents.xml", Known::Accepted { count: 3, cents: 200_330 }),
+    ("rents-wrapped.xml", Known::Accepted { count: 3, cents: 200_330 }),
     ("october.xml", Known::Refused { number: 14, place: 252 }),
     ("doubled.xml", Known::Accepted { count: 6, cents: 286_990 }),
     ("example.xml", Known::Accepted { count: 1, cents: 1234 }),
     ("digit-too-many.xml", Known::Refused { number: 19, place: 1134 }),
 ];
 
+/// The first word of a sample's name. Samples of one word have one plain form, and no others have it.
+fn word(file: &str) -> &str {
+    file.split(['-', '.']).next().unwrap_or(file)
+}
+
 /// The samples. The October day: refused with 14; accepted as soon as the count is that of its
-/// items, so nothing but the count tells it. The three evenings have one plain form, and no other
-/// sample has it.
+/// items, so nothing but the count tells it.
 fn samples(folder: &str) -> ExitCode {
     let mut asker = Asker::new("samples".into());
-    let Some(evening) = read(&format!("{folder}/evening.xml")) else { return ExitCode::from(2) };
+    let mut firsts = Vec::new();
+    for file in ["evening.xml", "rents.xml"] {
+        let Some(bytes) = read(&format!("{folder}/{file}")) else { return ExitCode::from(2) };
+        firsts.push((file, bytes));
+    }
     let mut ask = |number: u64, sort: &'static str, bytes: Vec<u8>, known: Known| {
         let name = Name { run: "file", seed: 0, number, sort };
         let is_accepted = matches!(known, Known::Accepted { .. });
-        let is_same = sort.starts_with("evening");
-        let twin = is_accepted.then(|| Twin { bytes: evening.clone(), is_same });
-        let case = Case { twin, ..Case::new(bytes, sort, known) };
+        let mut case = Case::new(bytes, sort, known);
         asker.message(&name, &case);
         asker.records(&name, &case, &areas(0, number, &case));
-        asker.plain(&name, &case, &form_areas(0, number, &case));
+        for (file, bytes) in &firsts {
+            let is_same = word(file) == word(sort);
+            case.twin = is_accepted.then(|| Twin { bytes: bytes.clone(), is_same });
+            asker.plain(&name, &case, &form_areas(0, number, &case));
+        }
     };
     for (number, (file, known)) in SAMPLES.into_iter().enumerate() {
         let Some(bytes) = read(&format!("{folder}/{file}")) else { return ExitCode::from(2) };

@@ -3,7 +3,7 @@
 use crate::face::RECORD;
 use crate::kind::Kind;
 use crate::random::Random;
-use crate::value::{self, WHITE};
+use crate::value::{self, Valid, WHITE};
 
 #[derive(Clone, Copy, Debug, PartialEq, Eq)]
 pub enum What {
@@ -21,6 +21,20 @@ pub struct Part {
     /// The element's name, for a tag and for a value.
     pub name: &'static str,
     pub bytes: Vec<u8>,
+    /// Of a value that collapses, the collapsed one; else the same bytes. A damage leaves it.
+    pub meant: Vec<u8>,
+}
+
+impl Part {
+    /// A part that stands for its own bytes.
+    pub fn new(what: What, name: &'static str, bytes: Vec<u8>) -> Part {
+        Part { what, name, meant: bytes.clone(), bytes }
+    }
+
+    /// Gives it another value.
+    pub fn say(&mut self, value: Valid) {
+        (self.bytes, self.meant) = (value.bytes, value.meant);
+    }
 }
 
 /// An accepted message.
@@ -97,7 +111,7 @@ struct Writer<'r> {
 impl Writer<'_> {
     /// Adds a part.
     fn part(&mut self, what: What, name: &'static str, bytes: Vec<u8>) {
-        self.parts.push(Part { what, name, bytes });
+        self.parts.push(Part::new(what, name, bytes));
     }
 
     /// White space, as the plan has it.
@@ -135,26 +149,34 @@ impl Writer<'_> {
         self.close(name);
     }
 
-    /// An element with these bytes as its value.
+    /// An element with these bytes as its value, for which they stand.
     fn given(&mut self, name: &'static str, kind: Kind, bytes: &[u8]) {
+        self.valued(name, kind, Valid::new(bytes.to_vec(), 0));
+    }
+
+    /// An element with this value.
+    fn valued(&mut self, name: &'static str, kind: Kind, value: Valid) {
         self.white();
         let start = match kind {
             Kind::ItemAmount | Kind::HeaderAmount => format!("<{name} Ccy=\"EUR\">"),
             _ => format!("<{name}>"),
         };
         self.part(What::Start, name, start.into_bytes());
-        self.part(What::Value(kind), name, bytes.to_vec());
+        let mut part = Part::new(What::Value(kind), name, Vec::new());
+        part.say(value);
+        self.parts.push(part);
         self.part(What::End, name, format!("</{name}>").into_bytes());
     }
 
-    /// An element with a value of this kind, which is answered.
+    /// An element with a value of this kind; answers what it means.
     fn element(&mut self, name: &'static str, kind: Kind) -> Vec<u8> {
-        let mut bytes = value::valid(kind, self.random).bytes;
-        while self.small && bytes.len() > short(kind) {
-            bytes = value::valid(kind, self.random).bytes;
+        let mut value = value::valid(kind, self.random);
+        while self.small && value.bytes.len() > short(kind) {
+            value = value::valid(kind, self.random);
         }
-        self.given(name, kind, &bytes);
-        bytes
+        let meant = value.meant.clone();
+        self.valued(name, kind, value);
+        meant
     }
 
     /// An agent; answers its BIC.
@@ -226,7 +248,7 @@ impl Writer<'_> {
         if instruction {
             self.element("InstrId", Kind::Reference);
         }
-        let end_to_end = self.element("EndToEndId", Kind::Reference);
+        let end_to_end = self.element("EndToEndId", Kind::EndToEnd);
         let transaction = self.element("TxId", Kind::Reference);
         self.close("PmtId");
         (end_to_end, transaction)
@@ -348,7 +370,8 @@ impl Message {
     }
 
     /// The plain form, made from the parts: "declaration, no white space between tags, count without
-    /// leading zeros, amounts with two decimals and no needless zeros, all other values as read".
+    /// leading zeros, amounts with two decimals and no needless zeros, all other values as read", or
+    /// collapsed.
     pub fn plain(&self) -> Vec<u8> {
         let mut form = DECLARATION.as_bytes().to_vec();
         for part in &self.parts {
@@ -359,7 +382,8 @@ impl Message {
                 What::Value(Kind::ItemAmount) => {
                     form.extend(value::euros(value::cents_of(&part.bytes)).bytes());
                 }
-                What::Start | What::End | What::Value(_) => form.extend(&part.bytes),
+                What::Value(_) => form.extend(&part.meant),
+                What::Start | What::End => form.extend(&part.bytes),
             }
         }
         form

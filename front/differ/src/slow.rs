@@ -3,6 +3,7 @@
 //! `plain` is held against it.
 
 use crate::kind::Kind;
+use std::borrow::Cow;
 
 const DECLARATION: &str = "<?xml version=\"1.0\" encoding=\"UTF-8\"?>";
 const ROOT: &str = "<Document xmlns=\"urn:iso:std:iso:20022:tech:xsd:pacs.003.001.02\">";
@@ -24,7 +25,7 @@ FIToFICstmrDrctDbt
   DrctDbtTxInf +
     PmtId
       InstrId ? = reference
-      EndToEndId = reference
+      EndToEndId = end-to-end
       TxId = reference
     PmtTpInf
       SvcLvl
@@ -141,16 +142,17 @@ fn fits(pattern: &str, byte: u8, at: usize) -> bool {
     }
 }
 
-/// What a value means: "count and amounts as numbers, others by bytes".
-#[derive(Clone, Copy, Debug, PartialEq, Eq)]
+/// What a value means: "count and amounts as numbers, others by bytes"; since request 4 "two values
+/// are equal when their collapsed bytes are", of the kinds that collapse.
+#[derive(Clone, Debug, PartialEq, Eq)]
 pub enum Meaning<'m> {
     Count(u64),
     Cents(u64),
-    Bytes(&'m [u8]),
+    Bytes(Cow<'m, [u8]>),
 }
 
 /// A value that was read: the element's name, the items that were closed before it, what it means.
-#[derive(Clone, Copy, Debug, PartialEq, Eq)]
+#[derive(Clone, Debug, PartialEq, Eq)]
 pub struct Said<'m> {
     name: &'static str,
     items: usize,
@@ -285,7 +287,8 @@ impl<'m> Run<'m> {
         let meaning = match kind {
             "count" => Meaning::Count(worth),
             "item-amount" | "header-amount" => Meaning::Cents(worth),
-            _ => Meaning::Bytes(bytes),
+            "end-to-end" | "text70" | "text140" => Meaning::Bytes(collapsed(bytes).into()),
+            _ => Meaning::Bytes(bytes.into()),
         };
         self.said.push(Said { name: node.name, items: self.items.len(), meaning });
         self.at = place + length;
@@ -362,6 +365,16 @@ impl Slow {
         Ok(Accepted { count: items.len() as u64, cents: total.0, items, said })
     }
 
+    /// The records of a message that says this, item by item.
+    pub fn records(&self, said: &[Said]) -> Vec<u8> {
+        let record = |item: &[Said]| {
+            let fields = FIELDS.iter().map(|&(name, which, width)| field(item, name, which, width));
+            format!("{}\n", fields.collect::<String>())
+        };
+        let items = said.chunk_by(|one, other| one.items == other.items);
+        items.map(record).collect::<String>().into_bytes()
+    }
+
     /// The plain form of a message that says this: the table written out, with these values.
     pub fn plain(&self, said: &[Said]) -> Vec<u8> {
         let mut form = [DECLARATION, ROOT].concat().into_bytes();
@@ -371,6 +384,32 @@ impl Slow {
         }
         form.extend(b"</Document>");
         form
+    }
+}
+
+/// The fields of a record: the element's name, which of that name it is from the item's end, and the
+/// width. (The header has a BIC too, so they are counted from the end.)
+const FIELDS: [(&str, usize, usize); 11] = [
+    ("TxId", 0, 35),
+    ("EndToEndId", 0, 35),
+    ("MndtId", 0, 35),
+    ("IBAN", 0, 34),
+    ("IBAN", 1, 34),
+    ("BIC", 0, 11),
+    ("IntrBkSttlmAmt", 0, 11),
+    ("ReqdColltnDt", 0, 10),
+    ("SeqTp", 0, 4),
+    ("Id", 0, 35),
+    ("BIC", 1, 11),
+];
+
+/// One field of a record, from what is said up to the item's end.
+fn field(said: &[Said], name: &str, which: usize, width: usize) -> String {
+    let value = said.iter().rev().filter(|value| value.name == name).nth(which);
+    match value.map(|value| &value.meaning) {
+        Some(Meaning::Cents(cents)) => format!("{cents:0width$}"),
+        Some(Meaning::Bytes(bytes)) => format!("{:width$}", String::from_utf8_lossy(bytes)),
+        _ => panic!("each item says {name}"),
     }
 }
 
@@ -394,12 +433,12 @@ fn write(node: &Node, left: &mut &[Said], form: &mut Vec<u8>) {
 /// Writes the next value that is said as it is meant.
 fn write_next(left: &mut &[Said], form: &mut Vec<u8>) {
     let Some((first, rest)) = left.split_first() else { return };
-    match first.meaning {
+    match &first.meaning {
         Meaning::Count(count) => form.extend(count.to_string().bytes()),
         Meaning::Cents(cents) => {
             form.extend(format!("{}.{:02}", cents / 100, cents % 100).bytes());
         }
-        Meaning::Bytes(bytes) => form.extend(bytes),
+        Meaning::Bytes(bytes) => form.extend(bytes.iter()),
     }
     *left = rest;
 }
@@ -410,6 +449,7 @@ type Checker = fn(&[u8]) -> Result<u64, u8>;
 fn checker(kind: &str) -> Option<Checker> {
     Some(match kind {
         "reference" => reference,
+        "end-to-end" => end_to_end,
         "text70" => |v| text(v, 70),
         "text140" => |v| text(v, 140),
         "date" => |v| date(v).then_some(0).ok_or(7),
@@ -433,6 +473,7 @@ pub fn check(kind: Kind, value: &[u8]) -> Result<u64, u8> {
         Kind::Date => "date",
         Kind::Time => "time",
         Kind::Reference => "reference",
+        Kind::EndToEnd => "end-to-end",
         Kind::Text70 => "text70",
         Kind::Text140 => "text140",
         Kind::Count => "count",
@@ -480,23 +521,40 @@ fn number(digits: &[u8]) -> u128 {
     std::str::from_utf8(digits).unwrap().parse().unwrap()
 }
 
-/// 1 to 35 of the set, no `/` first or last, no `//`.
+/// "Tab, CR and LF count as space; runs become one; ends are stripped", one after the other.
+fn collapsed(value: &[u8]) -> Vec<u8> {
+    let mut copy = value.to_vec();
+    copy.iter_mut().filter(|byte| matches!(byte, 9 | 13 | 10)).for_each(|byte| *byte = 32);
+    copy.dedup_by(|one, before| *one == 32 && *before == 32);
+    let copy = copy.strip_prefix(b" ").unwrap_or(&copy);
+    copy.strip_suffix(b" ").unwrap_or(copy).to_vec()
+}
+
+/// No `/` first or last, no `//`.
+fn slashes_hold(value: &[u8]) -> bool {
+    !value.starts_with(b"/") && !value.ends_with(b"/") && !value.windows(2).any(|two| two == b"//")
+}
+
+/// 1 to 35 of the set, and the slash rule.
 fn reference(value: &[u8]) -> Result<u64, u8> {
     let holds = (1..=35).contains(&value.len())
         && like(value, &"r".repeat(value.len()))
-        && value[0] != b'/'
-        && value[value.len() - 1] != b'/'
-        && !value.windows(2).any(|two| two == b"//");
+        && slashes_hold(value);
     holds.then_some(0).ok_or(7)
 }
 
-/// The set and spaces, but no space first.
+/// Collapsed: a text of up to 35, and the slash rule.
+fn end_to_end(value: &[u8]) -> Result<u64, u8> {
+    let is_text = text(value, 35).is_ok();
+    (is_text && slashes_hold(&collapsed(value))).then_some(0).ok_or(7)
+}
+
+/// Collapsed: the set and spaces.
 fn text(value: &[u8], longest: usize) -> Result<u64, u8> {
-    if value.is_empty() || value.len() > longest || value[0] == 32 {
-        return Err(7);
-    }
+    let value = collapsed(value);
     let without: Vec<u8> = value.iter().copied().filter(|&b| b != 32).collect();
-    like(&without, &"r".repeat(without.len())).then_some(0).ok_or(7)
+    let holds = (1..=longest).contains(&value.len()) && like(&without, &"r".repeat(without.len()));
+    holds.then_some(0).ok_or(7)
 }
 
 /// The day's number, and back: only a real day comes back as itself.

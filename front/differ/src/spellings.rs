@@ -1,14 +1,15 @@
 //! Messages spelled in every way: each amount and each count, white space at each place where it may
-//! stand; and messages whose plain form is as long as it can be, or longer than they are. Of each the
-//! plain form is known from its making.
+//! stand, between tags and in the values that collapse; and messages whose plain form is as long as it
+//! can be, or longer than they are. Of each the plain form is known from its making.
 
-use crate::damage::{fine, values_of, Case, MOST_ITEMS};
+use crate::collapse::{spelled_to, white_runs, words};
+use crate::damage::{fine, kind_of, values_of, Case, MOST_ITEMS};
 use crate::handmade::EXAMPLES;
 use crate::kind::Kind;
 use crate::message::{accepted, Message, Part, Plan, Spacing, What};
 use crate::random::Random;
-use crate::twins::{may_have_white, with_header};
-use crate::value::{self, ITEM_MOST, WHITE};
+use crate::twins::{collapses, may_have_white, with_header};
+use crate::value::{self, Valid, ITEM_MOST, WHITE};
 
 type Give<'a> = &'a mut dyn FnMut(Case);
 
@@ -32,6 +33,7 @@ pub fn spellings(seed: u64, mut each: impl FnMut(u64, Case)) {
     for declaration in [true, false] {
         let message = accepted(&compact(1, declaration), random);
         white_space(&message, &mut give);
+        collapsing(&message, random, &mut give);
         amounts(&message, &mut give);
         counts(&message, &mut give);
         counts(&accepted(&compact(12, declaration), random), &mut give);
@@ -47,7 +49,7 @@ fn made(message: &Message, way: &'static str) -> Case {
 fn white_space(message: &Message, give: Give) {
     give(made(message, "white space nowhere"));
     for white in WHITE.chunks(1).chain([WHITE]) {
-        let part = || Part { what: What::White, name: "", bytes: white.to_vec() };
+        let part = || Part::new(What::White, "", white.to_vec());
         for at in 0..=message.parts.len() {
             if at == message.parts.len() || may_have_white(&message.parts, at) {
                 let mut other = message.clone();
@@ -56,6 +58,52 @@ fn white_space(message: &Message, give: Give) {
             }
         }
     }
+}
+
+/// White space in each value that collapses: each run at each place, and beside the longest value. The
+/// records are known too.
+fn collapsing(message: &Message, random: &mut Random, give: Give) {
+    for at in message.parts_that(collapses) {
+        let (kind, meant) = (kind_of(&message.parts[at]), message.parts[at].meant.clone());
+        for run in white_runs() {
+            for place in 0..=meant.len() {
+                let (before, after) = meant.split_at(place);
+                let bytes = [before, &run, after].concat();
+                let meant = with_space(&meant, place);
+                give(with_value(message, at, Valid { bytes, meant, worth: 0 }));
+            }
+        }
+        let longest = kind.longest_collapsed().unwrap_or(0);
+        for meant in [words(longest), vec![b'A'; longest], words(longest - 1)] {
+            for more in 0..40 {
+                let bytes = spelled_to(&meant, meant.len() + more, random);
+                give(with_value(message, at, Valid { bytes, meant: meant.clone(), worth: 0 }));
+            }
+        }
+    }
+}
+
+/// A collapsed value with a space put in before a byte of it: none where white space stands already,
+/// nor at the ends.
+fn with_space(meant: &[u8], at: usize) -> Vec<u8> {
+    match meant.split_at(at) {
+        ([], _) | (_, []) | ([.., b' '], _) | (_, [b' ', ..]) => meant.to_vec(),
+        (before, after) => [before, b" ", after].concat(),
+    }
+}
+
+/// The message of one item with this value for that of a part, as a case with its plain form and its
+/// record.
+fn with_value(message: &Message, at: usize, value: Valid) -> Case {
+    let mut other = message.clone();
+    let mut records = other.records.concat();
+    if kind_of(&other.parts[at]) == Kind::EndToEnd {
+        let field = &mut records[35..70];
+        field.fill(b' ');
+        field[..value.meant.len()].copy_from_slice(&value.meant);
+    }
+    other.parts[at].say(value);
+    Case { records, ..made(&other, "white space in a value") }
 }
 
 /// Each way to write an item's amount with each way to write the total.
@@ -93,15 +141,19 @@ pub fn limits(give: Give) {
     let mut longest = accepted(&plan, random);
     for part in &mut longest.parts {
         if let What::Value(kind) = part.what {
-            part.bytes = longest_value(kind);
+            part.say(Valid::new(longest_value(kind), 0));
         }
     }
     let items = MOST_ITEMS as u64;
     give(made(&with_header(longest, items, items * ITEM_MOST), "longest plain form"));
 
     let mut growing = accepted(&compact(MOST_ITEMS, false), random);
-    for at in values_of(&growing, Kind::ItemAmount) {
-        growing.parts[at].bytes = b"5".to_vec();
+    for part in &mut growing.parts {
+        // White space that does not count would make the form shorter.
+        part.bytes = match part.what {
+            What::Value(Kind::ItemAmount) => b"5".to_vec(),
+            _ => part.meant.clone(),
+        };
     }
     let mut growing = with_header(growing, items, items * 500);
     let total = growing.header_value("TtlIntrBkSttlmAmt");
@@ -112,7 +164,7 @@ pub fn limits(give: Give) {
 /// A value of a kind that is as long in the plain form as one can be.
 fn longest_value(kind: Kind) -> Vec<u8> {
     match kind {
-        Kind::Reference => vec![b'A'; 35],
+        Kind::Reference | Kind::EndToEnd => vec![b'A'; 35],
         Kind::Text70 => vec![b'A'; 70],
         Kind::Text140 => vec![b'A'; 140],
         Kind::CreditorId => [b"DE98ZZZ09999999999".as_slice(), &[b'+'; 17]].concat(),

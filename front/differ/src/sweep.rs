@@ -1,9 +1,10 @@
 //! Every byte and every part of small messages damaged, and messages at the limits. Each case has
 //! its number, so that it can be made again.
 
+use crate::collapse::{self, white_runs};
 use crate::damage::{
-    cut_to, element_at, fine, form_number, is_tag, is_value, kind_of, malform, values_of, whole,
-    Case, Known, LONGEST, MALFORMED, MOST_ITEMS,
+    cut_to, element_at, fine, form_number, is_tag, is_value, kind_of, known_with_white, malform,
+    values_of, whole, Case, Known, LONGEST, MALFORMED, MOST_ITEMS,
 };
 use crate::handmade::{handmade, EXAMPLES, UNLISTED};
 use crate::kind::Kind;
@@ -106,7 +107,7 @@ fn bytes_moved(message: &Message, give: Give) {
 
 /// What is known when white space is put in before byte `at` of a part.
 fn with_white(message: &Message, part: usize, at: usize, white: &[u8]) -> Known {
-    let Part { what, name, bytes } = &message.parts[part];
+    let Part { what, name, bytes, .. } = &message.parts[part];
     let last = part.checked_sub(1).map(|last| message.parts[last].what);
     let place = message.place(part);
     match what {
@@ -116,29 +117,14 @@ fn with_white(message: &Message, part: usize, at: usize, white: &[u8]) -> Known 
         What::Start if *name == "Document" && at > 0 => Known::Refused { number: 2, place },
         What::Start | What::End if at > 0 => Known::Refused { number: 4, place },
         What::End if matches!(last, Some(What::Value(_))) => {
-            in_value(message, part - 1, message.parts[part - 1].bytes.len(), white)
+            known_with_white(message, part - 1, message.parts[part - 1].bytes.len())
         }
         What::Start | What::End => fine(message),
         What::Value(_) => {
             debug_assert!(at < bytes.len());
-            in_value(message, part, at, white)
+            known_with_white(message, part, at)
         }
     }
-}
-
-/// White space in a value, before its byte `at`: a text may have spaces behind its first byte.
-fn in_value(message: &Message, part: usize, at: usize, white: &[u8]) -> Known {
-    let kind = kind_of(&message.parts[part]);
-    let length = message.parts[part].bytes.len() + white.len();
-    let longest = match kind {
-        Kind::Text70 => 70,
-        Kind::Text140 => 140,
-        _ => 0,
-    };
-    if at > 0 && length <= longest && white.iter().all(|&b| b == b' ') {
-        return fine(message);
-    }
-    Known::Refused { number: form_number(kind), place: message.place(part) }
 }
 
 /// White space before each byte and at the end: where it may stand and where not.
@@ -227,7 +213,8 @@ fn elements(message: &Message, give: Give) {
     }
 }
 
-/// Each value empty, and each of the values that were made by hand for its kind.
+/// Each value empty, each run of white space alone, and each of the values that were made by hand for
+/// its kind.
 fn values(message: &Message, give: Give) {
     for at in message.parts_that(is_value) {
         let kind = kind_of(&message.parts[at]);
@@ -235,6 +222,10 @@ fn values(message: &Message, give: Give) {
         other.parts[at].bytes.clear();
         let known = Known::Refused { number: form_number(kind), place: message.place(at) };
         give(other.bytes(), "value empty", known);
+        for white in white_runs() {
+            other.parts[at].bytes = white;
+            give(other.bytes(), "white space for a value", known);
+        }
         for value in handmade(kind) {
             other.parts[at].bytes = value.as_bytes().to_vec();
             give(other.bytes(), "value made by hand", Known::Nothing);
@@ -305,6 +296,30 @@ pub fn limits(mut each: impl FnMut(u64, Case)) {
     give(whole(most.clone()));
     most_items(&most, &mut |bytes, damage, known| give(Case::new(bytes, damage, known)));
     spellings::limits(&mut give);
+    long_values(&mut give);
+}
+
+/// Values of as many bytes as a message can have. The raw length of those that collapse is free; what
+/// they mean, their records and their plain form are known.
+fn long_values(give: &mut dyn FnMut(Case)) {
+    let random = &mut Random::new(1, 5);
+    let plan = Plan { optional: Some(true), ..compact(1) };
+    let message = accepted(&plan, random);
+    for kind in [Kind::EndToEnd, Kind::Text70, Kind::Text140, Kind::Reference] {
+        let part = values_of(&message, kind)[0];
+        let room = LONGEST - message.bytes().len() + message.parts[part].bytes.len();
+        let mut other = message.clone();
+        other.parts[part].bytes = random.bytes(WHITE, room);
+        let refused = Known::Refused { number: 7, place: message.place(part) };
+        give(Case::new(other.bytes(), "white space of 16 million bytes", refused));
+        let bytes = collapse::spelled_to(&message.parts[part].meant, room, random);
+        other.parts[part].bytes = bytes;
+        let known = match kind.longest_collapsed() {
+            Some(_) => whole(other),
+            None => Case::new(other.bytes(), "none", refused),
+        };
+        give(Case { damage: "a value of 16 million bytes", ..known });
+    }
 }
 
 /// A plan for so many short items.

@@ -1,11 +1,12 @@
 //! Accepted messages in pairs. The one is written otherwise and means the same, so both have one
 //! plain form; or it means something else, however little, and the plain forms differ.
 
+use crate::collapse;
 use crate::damage::{self, element_at, fine, kind_of, values_of, Case, Twin};
 use crate::kind::Kind;
 use crate::message::{Message, Part, What, DECLARATION, INSTRUMENTS};
 use crate::random::Random;
-use crate::value::{self, WHITE};
+use crate::value::{self, Valid, WHITE};
 
 /// A way to make another message; nothing where it does not fit.
 type Way = fn(Message, &mut Random) -> Option<Message>;
@@ -17,6 +18,7 @@ const SAME: &[(&str, Way)] = &[
     ("declaration otherwise", declaration_otherwise),
     ("count otherwise written", count_otherwise),
     ("amounts otherwise written", amounts_otherwise),
+    ("collapsing values otherwise written", values_otherwise),
     ("all otherwise written", all_otherwise),
 ];
 
@@ -76,7 +78,7 @@ fn white_otherwise(mut message: Message, random: &mut Random) -> Option<Message>
         if may && seldom > 0 && random.once_in(seldom) {
             let length = random.length(1, 5);
             let bytes = random.bytes(WHITE, length);
-            parts.push(Part { what: What::White, name: "", bytes });
+            parts.push(Part::new(What::White, "", bytes));
         }
         parts.extend(message.parts.get(at).cloned());
     }
@@ -90,7 +92,7 @@ fn declaration_otherwise(mut message: Message, _: &mut Random) -> Option<Message
         message.parts.remove(0);
     } else {
         let bytes = DECLARATION.as_bytes().to_vec();
-        message.parts.insert(0, Part { what: What::Declaration, name: "", bytes });
+        message.parts.insert(0, Part::new(What::Declaration, "", bytes));
     }
     Some(message)
 }
@@ -112,14 +114,30 @@ fn amounts_otherwise(mut message: Message, random: &mut Random) -> Option<Messag
     Some(message)
 }
 
-/// White space, declaration, count and amounts otherwise.
+/// Each EndToEndId, Nm and Ustrd with any white space that does not count.
+fn values_otherwise(mut message: Message, random: &mut Random) -> Option<Message> {
+    for part in &mut message.parts {
+        if collapses(part) {
+            part.bytes = collapse::spelled(&part.meant, random);
+        }
+    }
+    Some(message)
+}
+
+/// Whether a part is a value that collapses.
+pub(crate) fn collapses(part: &Part) -> bool {
+    matches!(part.what, What::Value(kind) if kind.longest_collapsed().is_some())
+}
+
+/// White space, declaration, count, amounts and the values that collapse otherwise.
 fn all_otherwise(message: Message, random: &mut Random) -> Option<Message> {
     let message = white_otherwise(message, random)?;
     let message = match random.once_in(2) {
         true => declaration_otherwise(message, random)?,
         false => message,
     };
-    amounts_otherwise(count_otherwise(message, random)?, random)
+    let message = values_otherwise(count_otherwise(message, random)?, random)?;
+    amounts_otherwise(message, random)
 }
 
 /// Whether a value is one that stands for its own bytes and has another to be replaced by, alone.
@@ -136,23 +154,25 @@ fn stands_for_itself(part: &Part) -> bool {
 fn another_value(mut message: Message, random: &mut Random) -> Option<Message> {
     let values = message.parts_that(stands_for_itself);
     let part = &mut message.parts[values[random.below(values.len())]];
-    let old = part.bytes.clone();
-    while part.bytes == old {
-        part.bytes = value::valid(kind_of(part), random).bytes;
+    let old = part.meant.clone();
+    while part.meant == old {
+        part.say(value::valid(kind_of(part), random));
     }
     Some(message)
 }
 
-/// One value replaced by one that a reader might take for the same: a zero more before it, a space
-/// more behind it, the branch of a BIC, another sign of the same time, another case of a letter.
+/// One value replaced by one that a reader might take for the same: a zero more before it, a word
+/// parted by white space, the branch of a BIC, another sign of the same time, another case of a letter.
 fn nearly_the_same(mut message: Message, random: &mut Random) -> Option<Message> {
     let values = message.parts_that(stands_for_itself);
     let part = &mut message.parts[values[random.below(values.len())]];
     let old = part.bytes.as_slice();
     let new = match kind_of(part) {
         Kind::Reference if old.len() < 35 => [b"0", old].concat(),
-        Kind::Text70 if old.len() < 70 => [old, b" "].concat(),
-        Kind::Text140 if old.len() < 140 => [old, b" "].concat(),
+        kind @ (Kind::EndToEnd | Kind::Text70 | Kind::Text140) => {
+            part.say(parted(kind, &part.meant, random)?);
+            return Some(message);
+        }
         Kind::Bic if old.len() == 8 => [old, b"XXX"].concat(),
         Kind::CreditorId if old.len() < 35 => [old, b"/"].concat(),
         Kind::CreditorId => other_case(old)?,
@@ -161,8 +181,19 @@ fn nearly_the_same(mut message: Message, random: &mut Random) -> Option<Message>
         Kind::Time if old.len() == 19 => [old, b".000"].concat(),
         _ => return None,
     };
-    part.bytes = new;
+    part.say(Valid::new(new, 0));
     Some(message)
+}
+
+/// A collapsed value with a space more, in the midst of a word and written in any way; nothing where
+/// no word has two bytes, or the value is too long then.
+fn parted(kind: Kind, meant: &[u8], random: &mut Random) -> Option<Valid> {
+    let inside = |at: &usize| meant[at - 1] != b' ' && meant[*at] != b' ';
+    let places: Vec<usize> = (1..meant.len()).filter(inside).collect();
+    let &at = places.get(random.below(places.len().max(1)))?;
+    let meant = [&meant[..at], b" ", &meant[at..]].concat();
+    let fits = meant.len() <= kind.longest_collapsed()?;
+    fits.then(|| Valid { bytes: collapse::spelled(&meant, random), meant, worth: 0 })
 }
 
 /// The letters of positions 5 to 7 in the other case, if there is one.
@@ -178,7 +209,8 @@ fn other_case(identifier: &[u8]) -> Option<Vec<u8>> {
 fn other_instrument(mut message: Message, _: &mut Random) -> Option<Message> {
     for at in values_of(&message, INSTRUMENTS) {
         let part = &mut message.parts[at];
-        part.bytes = if part.bytes == b"CORE" { b"B2B".to_vec() } else { b"CORE".to_vec() };
+        let other = if part.bytes == b"CORE" { b"B2B".to_vec() } else { b"CORE".to_vec() };
+        part.say(Valid::new(other, 0));
     }
     Some(message)
 }
@@ -246,7 +278,7 @@ fn put_in(mut message: Message, random: &mut Random) -> Option<Message> {
         return None;
     }
     let at = first + item.iter().position(|part| part.bytes == before.as_bytes())?;
-    let tag = |what, name, text: String| Part { what, name, bytes: text.into_bytes() };
+    let tag = |what, name, text: String| Part::new(what, name, text.into_bytes());
     let starts = names.iter().map(|name| tag(What::Start, *name, format!("<{name}>")));
     let ends = names.iter().rev().map(|name| tag(What::End, *name, format!("</{name}>")));
     let value = [tag(What::Value(kind), names[names.len() - 1], "A1".into())];
@@ -290,7 +322,7 @@ fn items_exchanged(mut message: Message, random: &mut Random) -> Option<Message>
     let (one, other) = (&message.parts[first..middle], &message.parts[next..after]);
     let said = |parts: &[Part]| -> Vec<Vec<u8>> {
         let values = parts.iter().filter(|part| stands_for_itself(part));
-        values.map(|part| part.bytes.clone()).collect()
+        values.map(|part| part.meant.clone()).collect()
     };
     if said(one) == said(other) {
         return None;

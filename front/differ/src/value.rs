@@ -1,5 +1,6 @@
 //! Values of each kind.
 
+use crate::collapse;
 use crate::handmade::{handmade, EXAMPLES, UNLISTED};
 use crate::kind::{Kind, CHECKED};
 use crate::random::Random;
@@ -17,15 +18,24 @@ pub const WHITE: &[u8] = b" \t\r\n";
 pub const ITEM_MOST: u64 = 99_999_999_999;
 pub const HEADER_MOST: u64 = 99_999_999_999_999_999;
 
-/// A value and what its checker answers: the number, the cents, or 0.
+/// A value, what it means, and what its checker answers: the number, the cents, or 0.
 pub struct Valid {
     pub bytes: Vec<u8>,
+    /// The collapsed value, of a kind that collapses; else the same bytes.
+    pub meant: Vec<u8>,
     pub worth: u64,
+}
+
+impl Valid {
+    /// A value that stands for its own bytes.
+    pub fn new(bytes: Vec<u8>, worth: u64) -> Valid {
+        Valid { meant: bytes.clone(), bytes, worth }
+    }
 }
 
 /// A valid value that is worth no number.
 fn yes(bytes: Vec<u8>) -> Valid {
-    Valid { bytes, worth: 0 }
+    Valid::new(bytes, 0)
 }
 
 /// A valid value of this kind.
@@ -37,15 +47,14 @@ pub fn valid(kind: Kind, random: &mut Random) -> Valid {
         Kind::Date => yes(date(random)),
         Kind::Time => yes(time(random)),
         Kind::Reference => yes(reference(random)),
-        Kind::Text70 => yes(text(random, 70)),
-        Kind::Text140 => yes(text(random, 140)),
+        Kind::EndToEnd | Kind::Text70 | Kind::Text140 => collapse::valid(kind, random),
         Kind::Count => {
             let worth = random.worth(0, 999_999_999_999_999);
-            Valid { bytes: with_zeros(worth, random), worth }
+            Valid::new(with_zeros(worth, random), worth)
         }
         Kind::ItemAmount => {
             let worth = item_cents(random);
-            Valid { bytes: amount(worth, random), worth }
+            Valid::new(amount(worth, random), worth)
         }
         Kind::HeaderAmount => {
             let worth = match random.below(8) {
@@ -54,7 +63,7 @@ pub fn valid(kind: Kind, random: &mut Random) -> Valid {
                 2 => HEADER_MOST / 100 * 100,
                 _ => random.worth(1, HEADER_MOST),
             };
-            Valid { bytes: amount(worth, random), worth }
+            Valid::new(amount(worth, random), worth)
         }
         Kind::Code(list) => yes(random.pick(list).as_bytes().to_vec()),
     }
@@ -290,34 +299,23 @@ fn time(random: &mut Random) -> Vec<u8> {
 }
 
 /// A reference, often full of signs and slashes.
-fn reference(random: &mut Random) -> Vec<u8> {
+pub fn reference(random: &mut Random) -> Vec<u8> {
     let length = random.length(1, 35);
     let set =
         random.pick(&[REFERENCE_SET, CAPITALS_DIGITS, b"/-?:().,'+".as_slice(), b"A/".as_slice()]);
     let mut bytes = random.bytes(set, length);
-    for at in 0..length {
-        if bytes[at] == b'/' && (at == 0 || at + 1 == length || bytes[at - 1] == b'/') {
+    alone_and_inside(&mut bytes, b'/', random);
+    bytes
+}
+
+/// Replaces this byte where it stands first, last or behind itself.
+pub fn alone_and_inside(bytes: &mut [u8], byte: u8, random: &mut Random) {
+    for at in 0..bytes.len() {
+        let is_end = at == 0 || at + 1 == bytes.len();
+        if bytes[at] == byte && (is_end || bytes[at - 1] == byte) {
             bytes[at] = random.of(PLAIN_SET);
         }
     }
-    bytes
-}
-
-/// A text of up to this length.
-fn text(random: &mut Random, longest: usize) -> Vec<u8> {
-    let length = random.length(1, longest);
-    text_of_length(random, length)
-}
-
-/// A text of just this length.
-pub fn text_of_length(random: &mut Random, length: usize) -> Vec<u8> {
-    let mut bytes = random.bytes(REFERENCE_SET, length);
-    for byte in bytes.iter_mut().skip(1) {
-        if random.once_in(5) {
-            *byte = b' ';
-        }
-    }
-    bytes
 }
 
 /// A value that is nearly of its kind, or just so.
@@ -329,8 +327,7 @@ pub fn near(kind: Kind, random: &mut Random) -> Vec<u8> {
         (Kind::Iban | Kind::CreditorId, 3) => near_letters(kind, random),
         (Kind::Iban | Kind::CreditorId, 4) => alias(kind, random),
         (Kind::Reference, 2) => edge(random, b"A/", 33, 37),
-        (Kind::Text70, 2) => edge(random, b"A /", 68, 72),
-        (Kind::Text140, 2) => edge(random, b"A /", 138, 142),
+        (Kind::EndToEnd | Kind::Text70 | Kind::Text140, 2) => collapse::near(kind, random),
         (Kind::Count, 2) => edge(random, b"019", 13, 17),
         (Kind::ItemAmount, 2) => {
             let cents = ITEM_MOST - 2 + random.below(5) as u64;
@@ -383,7 +380,7 @@ fn near_letters(kind: Kind, random: &mut Random) -> Vec<u8> {
 }
 
 /// Bytes of a set, of a length within these.
-fn edge(random: &mut Random, set: &[u8], least: usize, most: usize) -> Vec<u8> {
+pub fn edge(random: &mut Random, set: &[u8], least: usize, most: usize) -> Vec<u8> {
     let length = random.between(least, most);
     random.bytes(set, length)
 }
@@ -458,8 +455,9 @@ pub fn random(kind: Kind, random: &mut Random) -> Vec<u8> {
             template(&format!("{start}{fraction}{zone}"), random)
         }
         Kind::Reference => edge(random, b"A/-", 0, 37),
-        Kind::Text70 => edge(random, b"A /", 0, 72),
-        Kind::Text140 => edge(random, b"A /", 0, 142),
+        Kind::EndToEnd => edge(random, b"AAAAAAA-/ \t\r\n", 0, 45),
+        Kind::Text70 => edge(random, b"AAAAAAAAA/ \t\r\n", 0, 90),
+        Kind::Text140 => edge(random, b"AAAAAAAAA/ \t\r\n", 0, 180),
         Kind::Count => edge(random, b"0123456789", 0, 17),
         Kind::ItemAmount | Kind::HeaderAmount => edge(random, b"0019.", 0, 18),
         Kind::Code(_) => edge(random, b"CORE2BSPA", 0, 5),
@@ -507,7 +505,7 @@ pub fn case(seed: u64, case: u64) -> Case {
     let mut random = Random::new(seed, case);
     let random = &mut random;
     let kind = CHECKED[random.below(CHECKED.len())];
-    let (sort, bytes, known) = match random.below(11) {
+    let (sort, bytes, known) = match random.below(12) {
         0..=2 => {
             let valid = valid(kind, random);
             ("valid", valid.bytes, Some(Ok(valid.worth)))
@@ -515,6 +513,10 @@ pub fn case(seed: u64, case: u64) -> Case {
         3..=5 => ("damaged", damaged(kind, random), None),
         6 | 7 => ("near", near(kind, random), None),
         8 | 9 => ("random", self::random(kind, random), None),
+        10 => {
+            let (bytes, known) = collapse::with_white(kind, random);
+            ("white space put in", bytes, Some(known))
+        }
         _ => {
             let mut bytes = valid(kind, random).bytes;
             match kind {
@@ -534,8 +536,8 @@ pub fn case(seed: u64, case: u64) -> Case {
 
 /// Values beside each other, for every kind: each place of a valid value set to each byte, each byte
 /// put in at each place, each place left out; each length of one byte; IBANs of every pair of
-/// capitals and every length; the days of many months, all hours, minutes, seconds and zones. `each`
-/// gets the number of the case too.
+/// capitals and every length; white space at each place; the days of many months, all hours,
+/// minutes, seconds and zones. `each` gets the number of the case too.
 pub fn sweep(seed: u64, mut each: impl FnMut(u64, Case)) {
     let mut number = 0;
     let mut give_known = |kind: Kind, bytes: Vec<u8>, sort: &'static str, known| {
@@ -544,6 +546,9 @@ pub fn sweep(seed: u64, mut each: impl FnMut(u64, Case)) {
     };
     sweep_countries(&mut Random::new(seed, 0x1BA4), |bytes, known| {
         give_known(Kind::Iban, bytes, "sweep: countries", Some(known));
+    });
+    collapse::sweep(&mut Random::new(seed, 0x517E), &mut |kind, bytes, sort, known| {
+        give_known(kind, bytes, sort, Some(known));
     });
     let mut give = |kind: Kind, bytes: Vec<u8>, sort: &'static str| {
         give_known(kind, bytes, sort, None);

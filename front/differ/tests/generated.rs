@@ -1,9 +1,11 @@
 //! The generator makes what it promises: without these a run without differences would say little.
 
+use differ::ask::other_names;
 use differ::damage::{self, Known};
-use differ::kind::Kind;
+use differ::kind::{Kind, CHECKED};
 use differ::message::{Message, What};
-use differ::value::WHITE;
+use differ::random::Random;
+use differ::value::{self, WHITE};
 use differ::{slips, spellings, sweep, twins};
 use std::collections::{BTreeMap, BTreeSet};
 
@@ -12,7 +14,8 @@ fn messages() -> impl Iterator<Item = Message> {
     (0..6_000).map(|case| damage::message(1, case).0)
 }
 
-/// Every element with a value, and the shortest and longest value that the paper allows there.
+/// Every element with a value, and the shortest and longest value that the paper allows there, of the
+/// three that collapse by the collapsed value.
 const LENGTHS: [(&str, usize, usize); 22] = [
     ("MsgId", 1, 35),
     ("CreDtTm", 19, 29),
@@ -45,13 +48,113 @@ fn shortest_and_longest_values_of_every_element() {
         for part in &message.parts {
             if let What::Value(_) = part.what {
                 let seen = lengths.entry(part.name).or_insert((usize::MAX, 0));
-                *seen = (seen.0.min(part.bytes.len()), seen.1.max(part.bytes.len()));
+                *seen = (seen.0.min(part.meant.len()), seen.1.max(part.meant.len()));
             }
         }
     }
     let promised: BTreeMap<&str, (usize, usize)> =
         LENGTHS.into_iter().map(|(name, least, most)| (name, (least, most))).collect();
     assert_eq!(lengths, promised);
+}
+
+/// The three elements that collapse.
+const COLLAPSING: [&str; 3] = ["EndToEndId", "Nm", "Ustrd"];
+
+/// A value collapsed, by its words.
+fn collapsed(value: &str) -> String {
+    value.split_ascii_whitespace().collect::<Vec<&str>>().join(" ")
+}
+
+/// How the values that collapse are written: which white byte stands where, whether there are runs,
+/// whether the raw value is longer than the longest collapsed one, whether it is written as meant.
+#[test]
+fn white_space_in_every_value_that_collapses() {
+    let mut seen = BTreeSet::new();
+    for part in messages().flat_map(|message| message.parts) {
+        if !COLLAPSING.contains(&part.name) || !matches!(part.what, What::Value(_)) {
+            assert!(part.bytes == part.meant, "{}", part.name);
+            continue;
+        }
+        let (raw, meant) = (text(&part.bytes), text(&part.meant));
+        assert_eq!(collapsed(&raw), meant);
+        let mut see = |what: String| {
+            seen.insert((part.name, what));
+        };
+        let inside = raw.trim();
+        for &white in WHITE {
+            let white = char::from(white);
+            if raw.starts_with(white) {
+                see(format!("{white:?} first"));
+            }
+            if raw.ends_with(white) {
+                see(format!("{white:?} last"));
+            }
+            if inside.contains(white) {
+                see(format!("{white:?} inside"));
+            }
+        }
+        if inside.len() > meant.len() {
+            see("a run inside".into());
+        }
+        if raw.len() > 140 {
+            see("long".into());
+        }
+        if raw == meant {
+            see(if raw.contains(' ') { "spaces as meant" } else { "no space" }.into());
+        }
+    }
+    // Four bytes at three places, and four more.
+    let due = COLLAPSING.map(|name| (name, 16));
+    let count = |name: &str| seen.iter().filter(|(of, _)| *of == name).count();
+    assert_eq!(COLLAPSING.map(|name| (name, count(name))), due, "{seen:?}");
+}
+
+/// Of each kind there are values with each white byte put in: those of the kinds that collapse pass
+/// or are too long then, all others are 7.
+#[test]
+fn white_space_in_values_of_every_kind() {
+    let mut seen = BTreeSet::new();
+    value::sweep(1, |_, case| {
+        if case.sort == "sweep: white space put in" {
+            let kind = CHECKED.iter().position(|kind| *kind == case.kind);
+            let white = WHITE.iter().filter(|white| case.bytes.contains(white));
+            seen.extend(white.map(|white| (kind, *white, case.known)));
+        }
+    });
+    for (at, kind) in CHECKED.into_iter().enumerate() {
+        for &white in WHITE {
+            let has = |known| seen.contains(&(Some(at), white, Some(known)));
+            assert!(has(Err(7)), "{kind:?} {white}");
+            assert_eq!(has(Ok(0)), kind.longest_collapsed().is_some(), "{kind:?} {white}");
+        }
+    }
+}
+
+/// Other names have as many bytes as the old ones, and often another plain form, also a longer one
+/// or a shorter.
+#[test]
+fn other_names_are_of_equal_raw_length() {
+    let mut longer = BTreeSet::new();
+    for (case, message) in messages().take(300).enumerate() {
+        let bytes = message.bytes();
+        let other = other_names(&bytes, &mut Random::new(1, case as u64));
+        let other = other.expect("each item has names");
+        assert_eq!(plain::judge(&other), plain::judge(&bytes));
+        for start in ["<Nm>", "<Ustrd>"] {
+            let lengths = |message| values(message, start).iter().map(String::len).collect();
+            let (one, two): (Vec<usize>, Vec<usize>) = (lengths(&bytes), lengths(&other));
+            assert_eq!(one, two);
+        }
+        let mut area = vec![0; 2 * bytes.len()];
+        let mut length = |message| plain::plain_form(message, &mut area).expect("it is accepted");
+        longer.insert(length(&other).cmp(&length(&bytes)));
+    }
+    assert_eq!(longer.len(), 3, "{longer:?}");
+}
+
+/// Bytes as text.
+fn text(bytes: &[u8]) -> String {
+    String::from_utf8(bytes.to_vec()).expect("an accepted message is ASCII")
 }
 
 #[test]
@@ -163,6 +266,29 @@ fn every_way_to_make_a_twin() {
     assert_eq!(met, twins::ways().collect());
 }
 
+/// Values that collapse are among the twins that are the same, each written otherwise.
+#[test]
+fn twins_whose_values_collapse_alike() {
+    let mut seen = BTreeSet::new();
+    for case in (0..10_000).map(|case| twins::case(1, case)) {
+        let twin = case.twin.expect("it is made from another message");
+        if case.damage != "collapsing values otherwise written" {
+            continue;
+        }
+        for element in COLLAPSING {
+            let start = format!("<{element}>");
+            let (one, other) = (values(&twin.bytes, &start), values(&case.bytes, &start));
+            let words = |values: &[String]| values.iter().map(|v| collapsed(v)).collect();
+            let (meant, also): (Vec<String>, Vec<String>) = (words(&one), words(&other));
+            assert_eq!(meant, also);
+            if one != other {
+                seen.insert(element);
+            }
+        }
+    }
+    assert_eq!(seen, COLLAPSING.into_iter().collect());
+}
+
 /// What is told apart by bytes alone is among the twins: a zero, a space, a branch, a sign, a case.
 #[test]
 fn twins_that_are_nearly_the_same() {
@@ -172,11 +298,17 @@ fn twins_that_are_nearly_the_same() {
         if case.damage != "a value nearly the same" {
             continue;
         }
-        for element in ["MsgId", "CreDtTm", "Id", "Nm", "BIC"] {
+        for element in ["MsgId", "CreDtTm", "Id", "EndToEndId", "Nm", "Ustrd", "BIC"] {
             let start = format!("<{element}>");
             let (one, other) = (values(&twin.bytes, &start), values(&case.bytes, &start));
-            for (one, other) in one.iter().zip(&other).filter(|(one, other)| one != other) {
-                let more = other.strip_prefix(one.as_str()).unwrap_or("otherwise");
+            let words =
+                one.iter().zip(&other).map(|(one, other)| (collapsed(one), collapsed(other)));
+            for (one, other) in words.filter(|(one, other)| one != other) {
+                let more = match other.strip_prefix(&one) {
+                    Some(more) => more,
+                    None if other.replace(' ', "") == one.replace(' ', "") => "with a space",
+                    None => "otherwise",
+                };
                 ends.insert(format!("{element} {more}"));
             }
         }
@@ -187,7 +319,9 @@ fn twins_that_are_nearly_the_same() {
         "CreDtTm .000",
         "Id /",
         "Id otherwise",
-        "Nm  ",
+        "EndToEndId with a space",
+        "Nm with a space",
+        "Ustrd with a space",
         "BIC XXX",
     ] {
         assert!(ends.contains(due), "{due}: {ends:?}");
@@ -197,7 +331,7 @@ fn twins_that_are_nearly_the_same() {
 /// The values behind each start tag like this one. White space, which stands behind that of a group,
 /// is none.
 fn values(message: &[u8], start: &str) -> Vec<String> {
-    let text = String::from_utf8(message.to_vec()).expect("an accepted message is ASCII");
+    let text = text(message);
     let value = |piece: &str| piece.split('<').next().unwrap_or("").to_string();
     let values = text.split(start).skip(1).map(value);
     values.filter(|value| !value.trim().is_empty()).collect()
@@ -217,7 +351,9 @@ fn every_spelling() {
             amounts.insert((name, whole.len(), decimals.len()));
         }
         counts.extend(values(&case.bytes, "<NbOfTxs>"));
-        forms.insert(case.plain);
+        if case.damage != "white space in a value" {
+            forms.insert(case.plain);
+        }
     });
     let each = |name| {
         let lengths = (1..=15).flat_map(|whole| [0, 1, 2].map(|decimals| (whole, decimals)));
@@ -230,6 +366,44 @@ fn every_spelling() {
     assert_eq!(counts, [padded("1"), padded("12")].concat().into_iter().collect());
     // Two messages of one item, with an amount of their own and with ten others; two of twelve items.
     assert_eq!(forms.len(), 2 * (1 + 10) + 2);
+}
+
+/// Each white byte in each value that collapses, at its ends and inside, with the record; and values
+/// of the longest collapsed length that are longer as they lie.
+#[test]
+fn every_spelling_of_values_that_collapse() {
+    let mut seen = BTreeSet::new();
+    spellings::spellings(1, |_, case| {
+        if case.damage != "white space in a value" {
+            return;
+        }
+        assert_eq!(case.records.len(), 256);
+        for (element, longest) in [("EndToEndId", 35), ("Nm", 70), ("Ustrd", 140)] {
+            for value in values(&case.bytes, &format!("<{element}>")) {
+                let meant = collapsed(&value);
+                assert!(text(&case.plain).contains(&format!("<{element}>{meant}</{element}>")));
+                if meant.len() == longest && value.len() == longest + 39 {
+                    seen.insert((element, "longest".to_string()));
+                }
+                for white in [' ', '\t', '\r', '\n'] {
+                    let inside = value.trim().contains(white);
+                    let places = [value.starts_with(white), inside, value.ends_with(white)];
+                    seen.insert((element, format!("{white:?} {places:?}")));
+                }
+            }
+        }
+    });
+    for element in COLLAPSING {
+        assert!(seen.contains(&(element, "longest".to_string())), "{element}");
+        for white in [' ', '\t', '\r', '\n'] {
+            for at in 0..3 {
+                let mut places = [false; 3];
+                places[at] = true;
+                let due = (element, format!("{white:?} {places:?}"));
+                assert!(seen.contains(&due), "{due:?}");
+            }
+        }
+    }
 }
 
 /// The longest plain form that there is, and one that is as much longer than its message as can be.

@@ -27,6 +27,7 @@ pub enum Kind {
     Date,
     Time,
     Reference,
+    EndToEnd,
     Text70,
     Text140,
 }
@@ -41,6 +42,7 @@ extern "C" {
     fn bulk_date(value: *const u8, length: usize, answer: *mut u64);
     fn bulk_time(value: *const u8, length: usize, answer: *mut u64);
     fn bulk_reference(value: *const u8, length: usize, answer: *mut u64);
+    fn bulk_end_to_end(value: *const u8, length: usize, answer: *mut u64);
     fn bulk_text70(value: *const u8, length: usize, answer: *mut u64);
     fn bulk_text140(value: *const u8, length: usize, answer: *mut u64);
     fn bulk_count(value: *const u8, length: usize, answer: *mut u64);
@@ -105,6 +107,7 @@ pub fn check(kind: Kind, value: &[u8]) -> Words {
         Kind::Date => bulk_date,
         Kind::Time => bulk_time,
         Kind::Reference => bulk_reference,
+        Kind::EndToEnd => bulk_end_to_end,
         Kind::Text70 => bulk_text70,
         Kind::Text140 => bulk_text140,
     };

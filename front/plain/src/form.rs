@@ -1,11 +1,13 @@
 //! The plain form (document 02, request 2): "declaration, no white space between tags, count without
-//! leading zeros, amounts with two decimals and no needless zeros, all other values as read".
+//! leading zeros, amounts with two decimals and no needless zeros, all other values as read". Since
+//! request 4 it holds the collapsed EndToEndId, Nm and Ustrd.
 //!
 //! The message is accepted, so nothing is judged here. Between a start tag and the end tag that
 //! follows it next stands a value, since no group is empty; between all other tags stands white
 //! space or nothing.
 
 use crate::message::DECLARATION;
+use crate::value::collapsed;
 
 /// Hands the plain form of an accepted message to `put`, part by part.
 pub fn write(message: &[u8], mut put: impl FnMut(&[u8])) {
@@ -35,12 +37,11 @@ fn next_tag<'m>(rest: &mut &'m [u8]) -> Option<&'m [u8]> {
 
 /// A value, as the plain form has it: the two amounts are those whose tag has a currency.
 fn write_value(tag: &[u8], value: &[u8], put: &mut impl FnMut(&[u8])) {
-    if tag == b"<NbOfTxs>" {
-        put(without_zeros(value));
-    } else if tag.ends_with(b" Ccy=\"EUR\">") {
-        write_amount(value, put);
-    } else {
-        put(value);
+    match tag {
+        b"<NbOfTxs>" => put(without_zeros(value)),
+        b"<EndToEndId>" | b"<Nm>" | b"<Ustrd>" => collapsed(value).for_each(|byte| put(&[byte])),
+        _ if tag.ends_with(b" Ccy=\"EUR\">") => write_amount(value, put),
+        _ => put(value),
     }
 }
 

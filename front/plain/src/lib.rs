@@ -13,8 +13,8 @@ mod record;
 mod value;
 
 pub use value::{
-    bic, count, creditor_id, date, header_amount, iban, item_amount, reference, text140, text70,
-    time,
+    bic, count, creditor_id, date, end_to_end, header_amount, iban, item_amount, reference,
+    text140, text70, time,
 };
 
 use message::{read, Refusal, LONGEST};

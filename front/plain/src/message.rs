@@ -1,8 +1,8 @@
 //! The message as bytes: a cursor that takes tags and values, and the elements in their order.
 
 use crate::value::{
-    bic, code, count, creditor_id, date, header_amount, iban, item_amount, number, reference,
-    text140, text70, time, HEADER_MOST,
+    bic, code, count, creditor_id, date, end_to_end, header_amount, iban, item_amount, number,
+    reference, text140, text70, time, HEADER_MOST,
 };
 
 /// A refusal: "Each gives its number and a place".
@@ -33,6 +33,7 @@ pub struct Item<'m> {
     /// The place after the `>` of its end tag.
     pub end: usize,
     pub transaction: &'m [u8],
+    /// As it lies in the message: not collapsed.
     pub end_to_end: &'m [u8],
     pub mandate: &'m [u8],
     pub debtor_iban: &'m [u8],
@@ -355,7 +356,7 @@ impl<'m, const ACCEPTED: bool> Cursor<'m, ACCEPTED> {
             self.value_and_end(reference, b"</InstrId>")?;
             self.tag(b"<EndToEndId>")?;
         }
-        let end_to_end = self.value_and_end(reference, b"</EndToEndId>")?.bytes;
+        let end_to_end = self.value_and_end(end_to_end, b"</EndToEndId>")?.bytes;
         let transaction = self.element(b"<TxId>", reference, b"</TxId>")?.bytes;
         self.tag(b"</PmtId>")?;
         Ok((end_to_end, transaction))

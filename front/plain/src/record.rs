@@ -1,18 +1,20 @@
 //! The posting record: "256 bytes, no file header, every unused byte a space".
 
 use crate::message::Item;
+use crate::value::collapsed;
 
 /// The bytes of one record. The other crates have it from `face`; this one takes nothing from there.
 pub const LENGTH: usize = 256;
 
 /// Writes one record: "TxId 35, EndToEndId 35, MndtId 35, debtor IBAN 34, creditor IBAN 34, debtor
 /// agent BIC 11, item cents as 11 digits, ReqdColltnDt 10, SeqTp 4, creditor identifier 35, creditor
-/// agent BIC 11, then LF (byte 255). Each record is first made as 256 spaces".
+/// agent BIC 11, then LF (byte 255). Each record is first made as 256 spaces". Since request 4 "the
+/// record and the plain form hold the collapsed value".
 #[inline]
 pub fn write(record: &mut [u8], item: &Item) {
     record.fill(b' ');
     put(record, 0, item.transaction);
-    put(record, 35, item.end_to_end);
+    put_collapsed(record, 35, item.end_to_end);
     put(record, 70, item.mandate);
     put(record, 105, item.debtor_iban);
     put(record, 139, item.creditor_iban);
@@ -29,6 +31,14 @@ pub fn write(record: &mut [u8], item: &Item) {
 #[inline]
 fn put(record: &mut [u8], at: usize, value: &[u8]) {
     record[at..at + value.len()].copy_from_slice(value);
+}
+
+/// A field that collapses, from its offset on.
+#[inline]
+fn put_collapsed(record: &mut [u8], at: usize, value: &[u8]) {
+    for (place, byte) in record[at..].iter_mut().zip(collapsed(value)) {
+        *place = byte;
+    }
 }
 
 /// "item cents as 11 digits"

@@ -1,7 +1,8 @@
 //! The paper's cases: "Either side of each line", the whole example, and the readings of the open
-//! points of document 01.
+//! points of documents 01 and 02.
 
 use super::*;
+use crate::value::collapsed;
 
 const DECLARATION: &str = r#"<?xml version="1.0" encoding="UTF-8"?>"#;
 const ROOT: &str = r#"<Document xmlns="urn:iso:std:iso:20022:tech:xsd:pacs.003.001.02">"#;
@@ -362,14 +363,127 @@ fn references_and_texts() {
     ] {
         assert_eq!(reference(no.as_bytes()), Err(7), "{no}");
     }
-    for (longest, text) in [(70, text70 as fn(&[u8]) -> Result<u64, u8>), (140, text140)] {
+    for (longest, text) in [(70, text70 as Checker), (140, text140)] {
         assert_eq!(text(&vec![b'A'; longest]), Ok(0));
         assert_eq!(text(&vec![b'A'; longest + 1]), Err(7));
-        for yes in ["A", "/", "//A//", "A ", "A  B"] {
+        for yes in ["A", "/", "//A//", "A B"] {
             assert_eq!(text(yes.as_bytes()), Ok(0), "{yes}");
         }
-        for no in ["", " ", " A", "A\t", "A\n", "A_", "A&", "\u{e9}"] {
+        for no in ["", "A_", "A&", "\u{e9}", "A\u{b}B", "A\u{c}B", "\u{c}A", "A\u{a0}B", "\0"] {
             assert_eq!(text(no.as_bytes()), Err(7), "{no}");
+        }
+    }
+}
+
+/// A single checker.
+type Checker = fn(&[u8]) -> Result<u64, u8>;
+
+/// The three kinds that collapse, and how long the collapsed value may be.
+const COLLAPSING: [(Checker, usize); 3] = [(end_to_end, 35), (text70, 70), (text140, 140)];
+
+/// The four bytes of white space, and runs of them.
+const WHITE: [&str; 10] =
+    [" ", "\t", "\r", "\n", "  ", "\r\n", "\n\t", " \t\r\n", "\r\r", "\n    \t\t  \r\n \n"];
+
+/// "Tab, CR and LF count as space; runs become one; ends are stripped".
+#[test]
+fn white_space_collapses() {
+    let text = |value: &str| String::from_utf8(collapsed(value.as_bytes()).collect()).unwrap();
+    for white in WHITE {
+        assert_eq!(text(white), "");
+        for value in ["A", "A B", "RENT 2023 04", "/ /", "A-B C/D E"] {
+            let spelled = value.replace(' ', white);
+            assert_eq!(text(&spelled), value, "{spelled:?}");
+            assert_eq!(text(&format!("{white}{spelled}")), value, "{spelled:?}");
+            assert_eq!(text(&format!("{spelled}{white}")), value, "{spelled:?}");
+            assert_eq!(text(&format!("{white}{spelled}{white}")), value, "{spelled:?}");
+        }
+    }
+    assert_eq!(text(""), "");
+    assert_eq!(text("\tRENT \r\n 2023\n\n04  "), "RENT 2023 04");
+    // No other byte is white space, and no other byte is touched.
+    assert_eq!(text("\u{b}A\u{c}B\u{a0}\0"), "\u{b}A\u{c}B\u{a0}\0");
+}
+
+/// "then the reference set with space, length 1 to 35 and the slash rule apply".
+#[test]
+fn end_to_ends_either_side() {
+    for yes in [
+        "RENT 2023 04",
+        "A",
+        " A",
+        "A ",
+        "\tA\r\n",
+        "A\t\rB",
+        "A / B",
+        "A/ B",
+        "A /B",
+        "A/ /B",
+        "A B/C D",
+        "-?: ().,'+",
+    ] {
+        assert_eq!(end_to_end(yes.as_bytes()), Ok(0), "{yes:?}");
+    }
+    for no in [
+        "", "/", "/ /", "/ A", " /A", "A /", "A/ ", "A/\n", "\t/\t", "A //B", "A// B", "A_B",
+        "A\u{e9}", "A\0", "A\u{b}B", "\u{c}A", "A&B",
+    ] {
+        assert_eq!(end_to_end(no.as_bytes()), Err(7), "{no:?}");
+    }
+}
+
+/// The length is that of the collapsed value; that of the raw one is free.
+#[test]
+fn collapsed_lengths_either_side() {
+    for (checker, longest) in COLLAPSING {
+        // A word, white space, a word: so long when it is collapsed.
+        let words = |length: usize, white: &str| {
+            [&vec![b'A'; length - 3], white.as_bytes(), b"BC"].concat()
+        };
+        assert_eq!(words(longest, "  ").len(), longest + 1);
+        for white in WHITE {
+            assert_eq!(checker(white.as_bytes()), Err(7), "{white:?}");
+            assert_eq!(checker(&words(longest - 1, white)), Ok(0), "{white:?}");
+            assert_eq!(checker(&words(longest, white)), Ok(0), "{white:?}");
+            assert_eq!(checker(&words(longest + 1, white)), Err(7), "{white:?}");
+            // Words of one letter: as many as there is room for, and one more.
+            let most = longest.div_ceil(2);
+            assert_eq!(checker(vec!["A"; most].join(white).as_bytes()), Ok(0), "{white:?}");
+            assert_eq!(checker(vec!["A"; most + 1].join(white).as_bytes()), Err(7), "{white:?}");
+            for length in [1, longest, longest + 1] {
+                let beside = [white.as_bytes(), &vec![b'A'; length], white.as_bytes()].concat();
+                let answer = if length <= longest { Ok(0) } else { Err(7) };
+                assert_eq!(checker(&beside), answer, "{white:?}");
+            }
+        }
+        let run = "\r\n\t ".repeat(1000);
+        assert_eq!(checker(run.as_bytes()), Err(7));
+        assert_eq!(checker(format!("{run}A{run}B{run}").as_bytes()), Ok(0));
+        assert_eq!(checker(format!("{run}A{run}_{run}").as_bytes()), Err(7));
+    }
+}
+
+/// Neither a reference (MsgId, InstrId, TxId, MndtId) nor any other kind collapses.
+#[test]
+fn no_other_kind_collapses() {
+    let others: [(Checker, &str); 9] = [
+        (reference, "A-B"),
+        (iban, "DE87200500001234567890"),
+        (creditor_id, "DE98ZZZ09999999999"),
+        (bic, "BANKDEFF"),
+        (count, "12"),
+        (item_amount, "12.34"),
+        (header_amount, "12.34"),
+        (date, "2000-02-29"),
+        (time, "2010-12-01T09:30:00"),
+    ];
+    for (checker, value) in others {
+        assert!(checker(value.as_bytes()).is_ok(), "{value}");
+        for white in WHITE {
+            for at in 0..=value.len() {
+                let spaced = format!("{}{white}{}", &value[..at], &value[at..]);
+                assert_eq!(checker(spaced.as_bytes()), Err(7), "{spaced:?}");
+            }
         }
     }
 }
@@ -487,6 +601,41 @@ fn values_in_place() {
     assert_eq!(refused(&format!("{opened}A<x")), (4, opened.len() + 1));
 }
 
+/// In a message: the place of a refusal is the raw value's first byte.
+#[test]
+fn collapsing_values_in_place() {
+    for white in WHITE {
+        for element in ["EndToEndId", "Nm", "Ustrd"] {
+            let old = format!("<{element}>{}<", value_in(EXAMPLE, element));
+            let with = |value: &str| format!("<{element}>{value}<");
+            accepts(&old, &with(&format!("{white}A{white}B{white}")));
+            refuses(&old, &with(white), 7, element.len() + 2);
+            refuses(&old, &with(&format!("{white}A{white}_")), 7, element.len() + 2);
+        }
+        refuses("<EndToEndId>E1<", &format!("<EndToEndId>{white}/A<"), 7, 12);
+        refuses("<EndToEndId>E1<", &format!("<EndToEndId>A/{white}<"), 7, 12);
+        for (element, value) in [("MsgId", "MSG/1"), ("InstrId", "I1"), ("TxId", "T1")] {
+            let old = format!("<{element}>{value}<");
+            refuses(&old, &format!("<{element}>{white}{value}<"), 7, element.len() + 2);
+            refuses(&old, &format!("<{element}>{value}{white}<"), 7, element.len() + 2);
+        }
+        refuses("<MndtId>M1<", &format!("<MndtId>M{white}1<"), 7, 8);
+        refuses("<SeqTp>RCUR<", &format!("<SeqTp>RCUR{white}<"), 10, 7);
+    }
+    // A value is everything up to the next `<`, however long: its end is read before it is judged.
+    let opened = &EXAMPLE[..place_of(EXAMPLE, "E1</EndToEndId>")];
+    assert_eq!(refused(&format!("{opened} ")), (3, opened.len() + 1));
+    assert_eq!(refused(&format!("{opened} <")), (7, opened.len()));
+    assert_eq!(refused(&format!("{opened} A <")), (3, opened.len() + 4));
+}
+
+/// The value of the first element of this name.
+fn value_in(message: &str, name: &str) -> String {
+    let start = format!("<{name}>");
+    let behind = &message[place_of(message, &start) + start.len()..];
+    behind[..place_of(behind, "<")].to_string()
+}
+
 #[test]
 fn currencies() {
     let tag = "<TtlIntrBkSttlmAmt Ccy=\"";
@@ -551,6 +700,39 @@ fn record_of_the_whole_example() {
     assert_eq!(verdict, Verdict::Accepted { count: 1, cents: 1234 });
     assert_eq!(&area[..256], RECORD.as_bytes());
     assert_eq!(area[256..], [0xAA; 44]);
+}
+
+/// "The record and the plain form hold the collapsed value."
+#[test]
+fn records_and_plain_forms_hold_the_collapsed_value() {
+    let longest = format!("{} {}", "A".repeat(17), "B".repeat(17));
+    assert_eq!(longest.len(), 35);
+    let of = |message: &str| {
+        let mut area = [0xAA; 256];
+        let accepted = Verdict::Accepted { count: 1, cents: 1234 };
+        assert_eq!(records(message.as_bytes(), &mut area), accepted, "{message:?}");
+        area
+    };
+    for meant in ["E1", "RENT 2023 04", "A", &longest] {
+        for white in WHITE {
+            let spelled = format!("{white}{}{white}", meant.replace(' ', white));
+            let message = EXAMPLE.replacen(">E1<", &format!(">{spelled}<"), 1);
+            let due = [&RECORD[..35], &format!("{meant:35}"), &RECORD[70..]].concat();
+            assert_eq!(of(&message), due.as_bytes(), "{message:?}");
+            let due = plain_example().replacen(">E1<", &format!(">{meant}<"), 1);
+            assert_eq!(plain(&message), Ok(due), "{message:?}");
+        }
+    }
+    // Names and remittance text: in the plain form alone.
+    for element in ["Nm", "Ustrd"] {
+        for white in WHITE {
+            let spelled = format!("{white}A{white}B{white}");
+            let message = with_value(EXAMPLE, element, &spelled);
+            assert_eq!(of(&message), RECORD.as_bytes(), "{message:?}");
+            let due = with_value(&plain_example(), element, "A B");
+            assert_eq!(plain(&message), Ok(due), "{message:?}");
+        }
+    }
 }
 
 #[test]
@@ -651,16 +833,17 @@ fn plain_counts_and_amounts() {
     assert_eq!(plain(&whole("0010", "0100", &ten)), Ok(due));
 }
 
-/// "all other values as read": zeros and points in them, spaces in a text, the case of letters.
+/// "all other values as read": zeros and points in them, single spaces, the case of letters.
 #[test]
 fn other_values_stay_as_read() {
     for (old, new) in [
         ("MSG/1", "0001.0"),
         ("<TxId>T1<", "<TxId>007<"),
         ("<EndToEndId>E1<", "<EndToEndId>00.10<"),
+        ("<EndToEndId>E1<", "<EndToEndId>E 1<"),
         ("<MndtId>M1<", "<MndtId>5.3<"),
         ("<InstrId>I1<", "<InstrId>05<"),
-        ("Invoice 1", "000  1.0  "),
+        ("Invoice 1", "000 1.0 /"),
         ("DE98ZZZ09999999999", "DE98zzz/09999999999"),
     ] {
         let message = EXAMPLE.replacen(old, new, 1);

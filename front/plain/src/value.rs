@@ -1,4 +1,5 @@
 //! The value kinds. Each checker is asked for the bytes of one value, as they lie in the message.
+//! Since request 4 three of them (EndToEndId, Nm, Ustrd) judge the collapsed value.
 //!
 //! "Accepting, the amount's answers the cents and the count's the number, the others yes" (here 0).
 //! "A single checker asked alone answers with 7 to 9"; since request 1 that of an IBAN with 19 too.
@@ -89,17 +90,65 @@ fn two_digits(tens: u8, units: u8) -> Option<u32> {
         .then(|| u32::from(tens - b'0') * 10 + u32::from(units - b'0'))
 }
 
+/// The collapsed value, byte by byte: "Tab, CR and LF count as space; runs become one; ends are
+/// stripped".
+#[inline]
+pub fn collapsed(value: &[u8]) -> impl Iterator<Item = u8> + '_ {
+    let mut last = None;
+    stripped(value).iter().filter_map(move |&byte| {
+        let byte = if matches!(byte, b'\t' | b'\r' | b'\n') { b' ' } else { byte };
+        let is_more_of_run = byte == b' ' && last == Some(b' ');
+        last = Some(byte);
+        (!is_more_of_run).then_some(byte)
+    })
+}
+
+/// The value without the white space at its ends.
+#[inline]
+fn stripped(mut value: &[u8]) -> &[u8] {
+    while let [b' ' | b'\t' | b'\r' | b'\n', rest @ ..] = value {
+        value = rest;
+    }
+    while let [rest @ .., b' ' | b'\t' | b'\r' | b'\n'] = value {
+        value = rest;
+    }
+    value
+}
+
 /// Reference: "1 to 35 of `A-Z a-z 0-9 / - ? : ( ) . , ' +`. No `/` first or last, no `//`."
 #[inline]
 pub fn reference(value: &[u8]) -> Result<u64, u8> {
     if value.len() > 35 {
         return Err(FORM);
     }
+    slash_rule(value.iter().copied(), in_reference_set)
+}
+
+/// EndToEndId: collapsed, "then the reference set with space, length 1 to 35 and the slash rule
+/// apply".
+#[inline]
+pub fn end_to_end(value: &[u8]) -> Result<u64, u8> {
+    // The quick way: a reference has no white space, so it is collapsed as it lies.
+    reference(value).or_else(|_| collapsed_end_to_end(value))
+}
+
+/// The same, by collapsing.
+#[cold]
+fn collapsed_end_to_end(value: &[u8]) -> Result<u64, u8> {
+    if collapsed(value).nth(35).is_some() {
+        return Err(FORM);
+    }
+    slash_rule(collapsed(value), in_text_set)
+}
+
+/// One or more bytes of a set. "No `/` first or last, no `//`."
+#[inline]
+fn slash_rule(bytes: impl Iterator<Item = u8>, in_set: fn(u8) -> bool) -> Result<u64, u8> {
     // A slash that is taken to stand before the value makes a first slash the second of two, and
     // an empty value one that ends in a slash.
     let mut last = b'/';
-    for &byte in value {
-        if !in_reference_set(byte) || (byte == b'/' && last == b'/') {
+    for byte in bytes {
+        if !in_set(byte) || (byte == b'/' && last == b'/') {
             return Err(FORM);
         }
         last = byte;
@@ -107,13 +156,27 @@ pub fn reference(value: &[u8]) -> Result<u64, u8> {
     form(last != b'/')
 }
 
-/// Text: "that set and space, first byte not a space. No slash rule."
+/// Text: "that set and space. No slash rule." Nm and Ustrd "collapse likewise before their lengths",
+/// so none begins with a space.
 #[inline]
 fn text(value: &[u8], longest: usize) -> Result<u64, u8> {
+    // The quick way: collapsing only shortens, and makes no byte that is not of the set.
+    if value.len() <= longest
+        && value.first().is_some_and(|&first| first != b' ')
+        && value.iter().all(|&byte| in_text_set(byte))
+    {
+        return Ok(0);
+    }
+    collapsed_text(value, longest)
+}
+
+/// The same, by collapsing.
+#[cold]
+fn collapsed_text(value: &[u8], longest: usize) -> Result<u64, u8> {
     form(
-        value.len() <= longest
-            && value.first().is_some_and(|&first| first != b' ')
-            && value.iter().all(|&byte| in_text_set(byte)),
+        collapsed(value).next().is_some()
+            && collapsed(value).nth(longest).is_none()
+            && collapsed(value).all(in_text_set),
     )
 }
 
