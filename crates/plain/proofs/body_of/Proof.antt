@@ -27,16 +27,26 @@ upto-requires : tie.Need-upto-requires
 upto-requires c κs = search needs
 
 sub-result : tie.Need-sub-result
-sub-result c = body-fits (c .before .before .before .before .before .args .m .now) (c .before .before .before .declared .result) (c .before .before .before .declared .ensures) (c .upto .result) (c .upto .ensures)
+sub-result c =
+    let a = c .before .before .before .before .before .args in
+    let the-declared = c .before .before .before .declared in
+    body-fits (a .m .now) (the-declared .result) (the-declared .ensures) (c .upto .result) (c .upto .ensures)
 
 part-result-start : tie.Need-part-result-start
-part-result-start c = omega (arith, body-fits (c .before .before .before .before .before .args .m .now) (c .before .before .before .declared .result) (c .before .before .before .declared .ensures) (c .upto .result) (c .upto .ensures))
+part-result-start c =
+    let a = c .before .before .before .before .before .args in
+    let the-declared = c .before .before .before .declared in
+    omega (arith, body-fits (a .m .now) (the-declared .result) (the-declared .ensures) (c .upto .result) (c .upto .ensures))
 
 part-result-end : tie.Need-part-result-end
 part-result-end c = search needs
 
 returns-2 : tie.Need-returns-2
-returns-2 c = body-is (c .before .before .before .before .before .before .args .m .now) (c .before .before .before .before .declared .result) (c .before .before .before .before .declared .ensures) (c .before .upto .result) (c .before .upto .ensures)
+returns-2 c =
+    let a = c .before .before .before .before .before .before .args in
+    let the-declared = c .before .before .before .before .declared in
+    let the-upto = c .before .upto in
+    body-is (a .m .now) (the-declared .result) (the-declared .ensures) (the-upto .result) (the-upto .ensures)
 
 pub body-of-spec : {M : Type 1} → statement M
 body-of-spec =

@@ -32,7 +32,13 @@ piece-length-requires : tie.Need-piece-length-requires Inv-loop μ-loop
 piece-length-requires c κs = c .piece-of .ensures
 
 add-to : tie.Need-add-to Inv-loop μ-loop
-add-to c = omega (arith, part-fits (c .before .before .before .before .before .before .before .args .s .now) (c .before .before .before .before .before .before .before .args .area .now) (c .before .before .before .before .before .before .before .pre) (c .before .before .before .before .loop .at) (c .before .before .before .before .loop .n) (c .before .before .before .before .loop .area) (c .before .before .before .before .loop .inv) (c .before .before .before .loop-test .taken) (c .before .piece-of .result) (c .before .piece-of .ensures) (c .piece-length .result) (c .piece-length .ensures))
+add-to c =
+    let a = c .before .before .before .before .before .before .before .args in
+    let the-pre = c .before .before .before .before .before .before .before .pre in
+    let l = c .before .before .before .before .loop in
+    let the-piece-of = c .before .piece-of in
+    omega
+    (arith, part-fits (a .s .now) (a .area .now) the-pre (l .at) (l .n) (l .area) (l .inv) (c .before .before .before .loop-test .taken) (the-piece-of .result) (the-piece-of .ensures) (c .piece-length .result) (c .piece-length .ensures))
 
 sub-lay : tie.Need-sub-lay Inv-loop μ-loop
 sub-lay c = omega arith
@@ -41,25 +47,61 @@ part-lay-start : tie.Need-part-lay-start Inv-loop μ-loop
 part-lay-start c = omega arith
 
 part-lay-end : tie.Need-part-lay-end Inv-loop μ-loop
-part-lay-end c = omega (arith, part-fits (c .before .before .before .before .before .before .before .args .s .now) (c .before .before .before .before .before .before .before .args .area .now) (c .before .before .before .before .before .before .before .pre) (c .before .before .before .before .loop .at) (c .before .before .before .before .loop .n) (c .before .before .before .before .loop .area) (c .before .before .before .before .loop .inv) (c .before .before .before .loop-test .taken) (c .before .piece-of .result) (c .before .piece-of .ensures) (c .piece-length .result) (c .piece-length .ensures))
+part-lay-end c =
+    let a = c .before .before .before .before .before .before .before .args in
+    let the-pre = c .before .before .before .before .before .before .before .pre in
+    let l = c .before .before .before .before .loop in
+    let the-piece-of = c .before .piece-of in
+    omega
+    (arith, part-fits (a .s .now) (a .area .now) the-pre (l .at) (l .n) (l .area) (l .inv) (c .before .before .before .loop-test .taken) (the-piece-of .result) (the-piece-of .ensures) (c .piece-length .result) (c .piece-length .ensures))
 
 lay-requires : tie.Need-lay-requires Inv-loop μ-loop
-lay-requires c κs = (c .before .before .piece-of .ensures, part-room (c .before .before .before .before .before .before .before .before .args .s .now) (c .before .before .before .before .before .before .before .before .args .area .now) (c .before .before .before .before .before .before .before .before .pre) (c .before .before .before .before .before .loop .at) (c .before .before .before .before .before .loop .n) (c .before .before .before .before .before .loop .area) (c .before .before .before .before .before .loop .inv) (c .before .before .before .before .loop-test .taken) (c .before .before .piece-of .result) (c .before .before .piece-of .ensures) (c .before .piece-length .result) (c .before .piece-length .ensures))
+lay-requires c κs =
+    let a = c .before .before .before .before .before .before .before .before .args in
+    let the-pre = c .before .before .before .before .before .before .before .before .pre in
+    let l = c .before .before .before .before .before .loop in
+    let the-loop-test = c .before .before .before .before .loop-test in
+    let the-piece-of = c .before .before .piece-of in
+    let the-piece-length = c .before .piece-length in
+    (the-piece-of .ensures, part-room (a .s .now) (a .area .now) the-pre (l .at) (l .n) (l .area) (l .inv) (the-loop-test .taken) (the-piece-of .result) (the-piece-of .ensures) (the-piece-length .result) (the-piece-length .ensures))
 
 add-at : tie.Need-add-at Inv-loop μ-loop
-add-at c = omega (arith, step-fits (c .before .before .before .before .before .before .before .before .before .before .before .before .args .s .now) (c .before .before .before .before .before .before .before .before .before .loop .at) (c .before .before .before .before .before .before .before .before .loop-test .taken) (c .before .before .before .before .before .before .piece-of .result) (c .before .before .before .before .before .before .piece-of .ensures))
+add-at c =
+    let a = c .before .before .before .before .before .before .before .before .before .before .before .before .args in
+    let l = c .before .before .before .before .before .before .before .before .before .loop in
+    let the-loop-test = c .before .before .before .before .before .before .before .before .loop-test in
+    let the-piece-of = c .before .before .before .before .before .before .piece-of in
+    omega (arith, step-fits (a .s .now) (l .at) (the-loop-test .taken) (the-piece-of .result) (the-piece-of .ensures))
 
 loop-less : tie.Need-loop-less Inv-loop μ-loop
-loop-less c = omega (arith, step-fits (c .before .before .before .before .before .before .before .before .before .before .before .before .args .s .now) (c .before .before .before .before .before .before .before .before .before .loop .at) (c .before .before .before .before .before .before .before .before .loop-test .taken) (c .before .before .before .before .before .before .piece-of .result) (c .before .before .before .before .before .before .piece-of .ensures), step-on (c .before .before .before .before .before .before .before .before .before .before .before .before .args .s .now) (c .before .before .before .before .before .before .before .before .before .loop .at) (c .before .before .before .before .before .before .before .before .loop-test .taken) (c .before .before .before .before .before .before .piece-of .result) (c .before .before .before .before .before .before .piece-of .ensures))
+loop-less c =
+    let a = c .before .before .before .before .before .before .before .before .before .before .before .before .args in
+    let l = c .before .before .before .before .before .before .before .before .before .loop in
+    let the-loop-test = c .before .before .before .before .before .before .before .before .loop-test in
+    let the-piece-of = c .before .before .before .before .before .before .piece-of in
+    omega
+    (arith, step-fits (a .s .now) (l .at) (the-loop-test .taken) (the-piece-of .result) (the-piece-of .ensures), step-on (a .s .now) (l .at) (the-loop-test .taken) (the-piece-of .result) (the-piece-of .ensures))
 
 loop-again : tie.Need-loop-again Inv-loop μ-loop
-loop-again c = laid-on (c .before .before .before .before .before .before .before .before .before .before .before .before .args .s .now) (c .before .before .before .before .before .before .before .before .before .before .before .before .args .area .now) (c .before .before .before .before .before .before .before .before .before .before .before .before .pre) (c .before .before .before .before .before .before .before .before .before .loop .at) (c .before .before .before .before .before .before .before .before .before .loop .n) (c .before .before .before .before .before .before .before .before .before .loop .area) (c .before .before .before .before .before .before .before .before .before .loop .inv) (c .before .before .before .before .before .before .before .before .loop-test .taken) (c .before .before .before .before .before .before .piece-of .result) (c .before .before .before .before .before .before .piece-of .ensures) (c .before .before .before .before .before .piece-length .result) (c .before .before .before .before .before .piece-length .ensures) (c .before .before .before .lay .last .1 .1 .0) (c .before .before .before .lay .ensures)
+loop-again c =
+    let a = c .before .before .before .before .before .before .before .before .before .before .before .before .args in
+    let the-pre = c .before .before .before .before .before .before .before .before .before .before .before .before .pre in
+    let l = c .before .before .before .before .before .before .before .before .before .loop in
+    let the-loop-test = c .before .before .before .before .before .before .before .before .loop-test in
+    let the-piece-of = c .before .before .before .before .before .before .piece-of in
+    let the-piece-length = c .before .before .before .before .before .piece-length in
+    let the-lay = c .before .before .before .lay in
+    laid-on (a .s .now) (a .area .now) the-pre (l .at) (l .n) (l .area) (l .inv) (the-loop-test .taken) (the-piece-of .result) (the-piece-of .ensures)
+    (the-piece-length .result) (the-piece-length .ensures) (the-lay .last .1 .1 .0) (the-lay .ensures)
 
 same-length : tie.Need-same-length Inv-loop μ-loop
 same-length c = c .before .loop .inv .long
 
 returns : tie.Need-returns Inv-loop μ-loop
-returns c = laid-ends (c .before .before .before .before .args .s .now) (c .before .before .before .before .args .area .now) (c .before .before .before .before .pre) (c .before .loop .at) (c .before .loop .n) (c .before .loop .area) (c .before .loop .inv) (c .loop-test .left)
+returns c =
+    let a = c .before .before .before .before .args in
+    let l = c .before .loop in
+    laid-ends (a .s .now) (a .area .now) (c .before .before .before .before .pre) (l .at) (l .n) (l .area) (l .inv) (c .loop-test .left)
 
 pub fill-spec : {M : Type 1} → statement M
 fill-spec =

@@ -13,40 +13,76 @@ slice-aggregate-copy : tie.Need-slice-aggregate-copy
 slice-aggregate-copy c = sym (tag-long (c .before .before .before .args .s .now) (c .before .before .before .args .p) (c .before .before .before .pre .0))
 
 slice-relend-prefix-copy : tie.Need-slice-relend-prefix-copy
-slice-relend-prefix-copy c = omega (arith, part-long (c .before .before .before .args .s .now) (c .before .before .before .args .p) (c .before .before .before .pre .0) (c .before .before .before .args .part .now) (c .before .before .before .pre .1))
+slice-relend-prefix-copy c =
+    let a = c .before .before .before .args in
+    let the-pre = c .before .before .before .pre in
+    omega (arith, part-long (a .s .now) (a .p) (the-pre .0) (a .part .now) (the-pre .1))
 
 slice-aggregate-copy-2 : tie.Need-slice-aggregate-copy-2
-slice-aggregate-copy-2 c = sym (length-take-le _ (c .before .before .before .before .args .part .now) (omega (arith, part-long (c .before .before .before .before .args .s .now) (c .before .before .before .before .args .p) (c .before .before .before .before .pre .0) (c .before .before .before .before .args .part .now) (c .before .before .before .before .pre .1))))
+slice-aggregate-copy-2 c =
+    let a = c .before .before .before .before .args in
+    let the-pre = c .before .before .before .before .pre in
+    sym (length-take-le _ (a .part .now) (omega (arith, part-long (a .s .now) (a .p) (the-pre .0) (a .part .now) (the-pre .1))))
 
 copy-requires : tie.Need-copy-requires
-copy-requires c κs = length-take-le _ (c .before .before .before .before .args .part .now) (omega (arith, part-long (c .before .before .before .before .args .s .now) (c .before .before .before .before .args .p) (c .before .before .before .before .pre .0) (c .before .before .before .before .args .part .now) (c .before .before .before .before .pre .1))) ∙ sym (tag-long (c .before .before .before .before .args .s .now) (c .before .before .before .before .args .p) (c .before .before .before .before .pre .0))
+copy-requires c κs =
+    let a = c .before .before .before .before .args in
+    let the-pre = c .before .before .before .before .pre in
+    length-take-le _ (a .part .now) (omega (arith, part-long (a .s .now) (a .p) (the-pre .0) (a .part .now) (the-pre .1))) ∙ sym
+    (tag-long (a .s .now) (a .p) (the-pre .0))
 
 sub-spell : tie.Need-sub-spell
-sub-spell c = parts-fit (c .before .before .before .before .before .before .before .args .s .now) (c .before .before .before .before .before .before .before .args .p) (c .before .before .before .before .before .before .before .pre .0) .0
+sub-spell c =
+    let a = c .before .before .before .before .before .before .before .args in
+    let the-pre = c .before .before .before .before .before .before .before .pre in
+    parts-fit (a .s .now) (a .p) (the-pre .0) .0
 
 part-spell-start : tie.Need-part-spell-start
-part-spell-start c = omega (arith, parts-fit (c .before .before .before .before .before .before .before .args .s .now) (c .before .before .before .before .before .before .before .args .p) (c .before .before .before .before .before .before .before .pre .0))
+part-spell-start c =
+    let a = c .before .before .before .before .before .before .before .args in
+    let the-pre = c .before .before .before .before .before .before .before .pre in
+    omega (arith, parts-fit (a .s .now) (a .p) (the-pre .0))
 
 part-spell-end : tie.Need-part-spell-end
-part-spell-end c = omega (arith, parts-fit (c .before .before .before .before .before .before .before .args .s .now) (c .before .before .before .before .before .before .before .args .p) (c .before .before .before .before .before .before .before .pre .0))
+part-spell-end c =
+    let a = c .before .before .before .before .before .before .before .args in
+    let the-pre = c .before .before .before .before .before .before .before .pre in
+    omega (arith, parts-fit (a .s .now) (a .p) (the-pre .0))
 
 sub-spell-2 : tie.Need-sub-spell-2
-sub-spell-2 c = half-fits (c .before .before .before .copy .last .1 .0) (c .before .before .before .before .before .before .before .before .args .part .now) _ (ap length (c .before .before .before .copy .ensures) ∙ tag-long (c .before .before .before .before .before .before .before .before .args .s .now) (c .before .before .before .before .before .before .before .before .args .p) (c .before .before .before .before .before .before .before .before .pre .0))
+sub-spell-2 c =
+    let a = c .before .before .before .before .before .before .before .before .args in
+    let the-pre = c .before .before .before .before .before .before .before .before .pre in
+    let the-copy = c .before .before .before .copy in
+    half-fits (the-copy .last .1 .0) (a .part .now) _ (ap length (the-copy .ensures) ∙ tag-long (a .s .now) (a .p) (the-pre .0))
 
 part-spell-start-2 : tie.Need-part-spell-start-2
-part-spell-start-2 c = omega (arith, half-fits (c .before .before .before .copy .last .1 .0) (c .before .before .before .before .before .before .before .before .args .part .now) _ (ap length (c .before .before .before .copy .ensures) ∙ tag-long (c .before .before .before .before .before .before .before .before .args .s .now) (c .before .before .before .before .before .before .before .before .args .p) (c .before .before .before .before .before .before .before .before .pre .0)))
+part-spell-start-2 c =
+    let a = c .before .before .before .before .before .before .before .before .args in
+    let the-pre = c .before .before .before .before .before .before .before .before .pre in
+    let the-copy = c .before .before .before .copy in
+    omega (arith, half-fits (the-copy .last .1 .0) (a .part .now) _ (ap length (the-copy .ensures) ∙ tag-long (a .s .now) (a .p) (the-pre .0)))
 
 part-spell-end-2 : tie.Need-part-spell-end-2
 part-spell-end-2 c = search needs
 
 spell-requires : tie.Need-spell-requires
-spell-requires c κs = value-room (c .before .before .before .before .before .before .before .before .before .args .s .now) (c .before .before .before .before .before .before .before .before .before .args .p) (c .before .before .before .before .before .before .before .before .before .pre .0) (c .before .before .before .before .before .before .before .before .before .args .part .now) (c .before .before .before .before .before .before .before .before .before .pre .1) (c .before .before .before .before .copy .last .1 .0) (c .before .before .before .before .copy .ensures)
+spell-requires c κs =
+    let a = c .before .before .before .before .before .before .before .before .before .args in
+    let the-pre = c .before .before .before .before .before .before .before .before .before .pre in
+    let the-copy = c .before .before .before .before .copy in
+    value-room (a .s .now) (a .p) (the-pre .0) (a .part .now) (the-pre .1) (the-copy .last .1 .0) (the-copy .ensures)
 
 same-length : tie.Need-same-length
 same-length c = search needs
 
 returns : tie.Need-returns
-returns c = piece-laid (c .before .before .before .before .before .before .before .before .before .before .before .before .args .s .now) (c .before .before .before .before .before .before .before .before .before .before .before .before .args .p) (c .before .before .before .before .before .before .before .before .before .before .before .before .pre .0) (c .before .before .before .before .before .before .before .before .before .before .before .before .args .part .now) (c .before .before .before .before .before .before .before .before .before .before .before .before .pre .1) (c .before .before .before .before .before .before .before .copy .last .1 .0) (c .before .before .spell .last .1 .1 .0) (c .before .before .before .before .before .before .before .copy .ensures) (c .before .before .spell .ensures)
+returns c =
+    let a = c .before .before .before .before .before .before .before .before .before .before .before .before .args in
+    let the-pre = c .before .before .before .before .before .before .before .before .before .before .before .before .pre in
+    let the-copy = c .before .before .before .before .before .before .before .copy in
+    let the-spell = c .before .before .spell in
+    piece-laid (a .s .now) (a .p) (the-pre .0) (a .part .now) (the-pre .1) (the-copy .last .1 .0) (the-spell .last .1 .1 .0) (the-copy .ensures) (the-spell .ensures)
 
 pub lay-spec : {M : Type 1} → statement M
 lay-spec =

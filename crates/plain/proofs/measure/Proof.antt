@@ -32,16 +32,40 @@ piece-length-requires : tie.Need-piece-length-requires Inv-loop μ-loop
 piece-length-requires c κs = c .piece-of .ensures
 
 add-n : tie.Need-add-n Inv-loop μ-loop
-add-n c = omega (arith, count-fits (c .before .before .before .before .before .before .args .s .now) (c .before .before .before .before .loop .at) (c .before .before .before .before .loop .n) (c .before .before .before .before .loop .inv) (c .before .before .before .loop-test .taken) (c .before .piece-of .result) (c .before .piece-of .ensures) (c .piece-length .result) (c .piece-length .ensures), c .before .before .before .before .before .before .pre)
+add-n c =
+    let a = c .before .before .before .before .before .before .args in
+    let the-pre = c .before .before .before .before .before .before .pre in
+    let l = c .before .before .before .before .loop in
+    let the-piece-of = c .before .piece-of in
+    omega
+    (arith, count-fits (a .s .now) (l .at) (l .n) (l .inv) (c .before .before .before .loop-test .taken) (the-piece-of .result) (the-piece-of .ensures) (c .piece-length .result) (c .piece-length .ensures), the-pre)
 
 add-at : tie.Need-add-at Inv-loop μ-loop
-add-at c = omega (arith, step-fits (c .before .before .before .before .before .before .before .args .s .now) (c .before .before .before .before .before .loop .at) (c .before .before .before .before .loop-test .taken) (c .before .before .piece-of .result) (c .before .before .piece-of .ensures))
+add-at c =
+    let a = c .before .before .before .before .before .before .before .args in
+    let l = c .before .before .before .before .before .loop in
+    let the-loop-test = c .before .before .before .before .loop-test in
+    let the-piece-of = c .before .before .piece-of in
+    omega (arith, step-fits (a .s .now) (l .at) (the-loop-test .taken) (the-piece-of .result) (the-piece-of .ensures))
 
 loop-less : tie.Need-loop-less Inv-loop μ-loop
-loop-less c = omega (arith, step-fits (c .before .before .before .before .before .before .before .args .s .now) (c .before .before .before .before .before .loop .at) (c .before .before .before .before .loop-test .taken) (c .before .before .piece-of .result) (c .before .before .piece-of .ensures), step-on (c .before .before .before .before .before .before .before .args .s .now) (c .before .before .before .before .before .loop .at) (c .before .before .before .before .loop-test .taken) (c .before .before .piece-of .result) (c .before .before .piece-of .ensures))
+loop-less c =
+    let a = c .before .before .before .before .before .before .before .args in
+    let l = c .before .before .before .before .before .loop in
+    let the-loop-test = c .before .before .before .before .loop-test in
+    let the-piece-of = c .before .before .piece-of in
+    omega
+    (arith, step-fits (a .s .now) (l .at) (the-loop-test .taken) (the-piece-of .result) (the-piece-of .ensures), step-on (a .s .now) (l .at) (the-loop-test .taken) (the-piece-of .result) (the-piece-of .ensures))
 
 loop-again : tie.Need-loop-again Inv-loop μ-loop
-loop-again c = count-on (c .before .before .before .before .before .before .before .args .s .now) (c .before .before .before .before .before .loop .at) (c .before .before .before .before .before .loop .n) (c .before .before .before .before .before .loop .inv) (c .before .before .before .before .loop-test .taken) (c .before .before .piece-of .result) (c .before .before .piece-of .ensures) (c .before .piece-length .result) (c .before .piece-length .ensures)
+loop-again c =
+    let a = c .before .before .before .before .before .before .before .args in
+    let l = c .before .before .before .before .before .loop in
+    let the-loop-test = c .before .before .before .before .loop-test in
+    let the-piece-of = c .before .before .piece-of in
+    let the-piece-length = c .before .piece-length in
+    count-on (a .s .now) (l .at) (l .n) (l .inv) (the-loop-test .taken) (the-piece-of .result) (the-piece-of .ensures) (the-piece-length .result)
+    (the-piece-length .ensures)
 
 returns : tie.Need-returns Inv-loop μ-loop
 returns c = count-ends (c .before .before .before .args .s .now) (c .before .loop .at) (c .before .loop .n) (c .before .loop .inv) (c .loop-test .left)

@@ -21,7 +21,10 @@ spelled-length-requires : tie.Need-spelled-length-requires
 spelled-length-requires c κs = search needs
 
 add-result : tie.Need-add-result
-add-result c = omega (arith, c .spelled-length .ensures, spelled-long (c .before .before .before .args .p .spelling) (take (c .before .before .before .args .p .next - c .before .before .before .args .p .tag) (drop (c .before .before .before .args .p .tag) (c .before .before .before .args .s .now))), parts-fit (c .before .before .before .args .s .now) (c .before .before .before .args .p) (c .before .before .before .pre), length-take (c .before .before .before .args .p .next - c .before .before .before .args .p .tag) (drop (c .before .before .before .args .p .tag) (c .before .before .before .args .s .now)))
+add-result c =
+    let a = c .before .before .before .args in
+    omega
+    (arith, c .spelled-length .ensures, spelled-long (a .p .spelling) (take (a .p .next - a .p .tag) (drop (a .p .tag) (a .s .now))), parts-fit (a .s .now) (a .p) (c .before .before .before .pre), length-take (a .p .next - a .p .tag) (drop (a .p .tag) (a .s .now)))
 
 returns : tie.Need-returns
 returns c = rw (c .spelled-length .ensures) (piece-long (c .before .before .before .args .s .now) (c .before .before .before .args .p) (c .before .before .before .pre))

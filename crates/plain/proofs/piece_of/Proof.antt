@@ -23,17 +23,29 @@ upto-requires : tie.Need-upto-requires
 upto-requires c κs = search needs
 
 add-next : tie.Need-add-next
-add-next c = omega (arith, next-fits (c .before .before .before .before .args .s .now) (c .before .before .tag-length .result) (c .before .before .tag-length .ensures) (c .upto .result) (c .upto .ensures))
+add-next c =
+    let the-tag-length = c .before .before .tag-length in
+    omega (arith, next-fits (c .before .before .before .before .args .s .now) (the-tag-length .result) (the-tag-length .ensures) (c .upto .result) (c .upto .ensures))
 
 slice-aggregate-spelling-by : tie.Need-slice-aggregate-spelling-by
-slice-aggregate-spelling-by c = sym (length-take-le _ (c .before .before .before .before .before .args .s .now) (tag-fits (c .before .before .before .before .before .args .s .now) (c .before .before .before .tag-length .result) (c .before .before .before .tag-length .ensures)))
+slice-aggregate-spelling-by c =
+    let a = c .before .before .before .before .before .args in
+    let the-tag-length = c .before .before .before .tag-length in
+    sym (length-take-le _ (a .s .now) (tag-fits (a .s .now) (the-tag-length .result) (the-tag-length .ensures)))
 
 sub-spelling-by : tie.Need-sub-spelling-by
-sub-spelling-by c = next-fits (c .before .before .before .before .before .args .s .now) (c .before .before .before .tag-length .result) (c .before .before .before .tag-length .ensures) (c .before .upto .result) (c .before .upto .ensures)
+sub-spelling-by c =
+    let a = c .before .before .before .before .before .args in
+    let the-tag-length = c .before .before .before .tag-length in
+    let the-upto = c .before .upto in
+    next-fits (a .s .now) (the-tag-length .result) (the-tag-length .ensures) (the-upto .result) (the-upto .ensures)
 
 part-spelling-by-start : tie.Need-part-spelling-by-start
 part-spelling-by-start c =
-    omega (arith, next-fits (c .before .before .before .before .before .args .s .now) (c .before .before .before .tag-length .result) (c .before .before .before .tag-length .ensures) (c .before .upto .result) (c .before .upto .ensures))
+    let a = c .before .before .before .before .before .args in
+    let the-tag-length = c .before .before .before .tag-length in
+    let the-upto = c .before .upto in
+    omega (arith, next-fits (a .s .now) (the-tag-length .result) (the-tag-length .ensures) (the-upto .result) (the-upto .ensures))
 
 part-spelling-by-end : tie.Need-part-spelling-by-end
 part-spelling-by-end c = search needs
@@ -43,8 +55,10 @@ spelling-by-requires c κs = search needs
 
 returns : tie.Need-returns
 returns c =
-    piece-is (c .before .before .before .before .before .before .before .args .s .now) (c .before .before .before .before .before .tag-length .result) (c .before .before .before .before .before .tag-length .ensures) (c .before .before .before .upto .result) (c .before .before .before .upto .ensures)
-    (c .spelling-by .result) (c .spelling-by .ensures)
+    let a = c .before .before .before .before .before .before .before .args in
+    let the-tag-length = c .before .before .before .before .before .tag-length in
+    let the-upto = c .before .before .before .upto in
+    piece-is (a .s .now) (the-tag-length .result) (the-tag-length .ensures) (the-upto .result) (the-upto .ensures) (c .spelling-by .result) (c .spelling-by .ensures)
 
 pub piece-of-spec : {M : Type 1} → statement M
 piece-of-spec =

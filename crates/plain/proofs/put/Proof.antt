@@ -19,10 +19,16 @@ slice-relend-prefix-copy : tie.Need-slice-relend-prefix-copy
 slice-relend-prefix-copy c = search needs
 
 slice-aggregate-copy-2 : tie.Need-slice-aggregate-copy-2
-slice-aggregate-copy-2 c = sym (front-long declaration (pieces (c .before .before .before .before .before .args .s .now)) (c .before .before .before .before .before .args .area .now) (c .before .before .before .before .before .pre))
+slice-aggregate-copy-2 c =
+    let a = c .before .before .before .before .before .args in
+    let the-pre = c .before .before .before .before .before .pre in
+    sym (front-long declaration (pieces (a .s .now)) (a .area .now) the-pre)
 
 copy-requires : tie.Need-copy-requires
-copy-requires c κs = front-long declaration (pieces (c .before .before .before .before .before .args .s .now)) (c .before .before .before .before .before .args .area .now) (c .before .before .before .before .before .pre) ∙ sym (ap length (c .before .before .declaration .ensures))
+copy-requires c κs =
+    let a = c .before .before .before .before .before .args in
+    let the-pre = c .before .before .before .before .before .pre in
+    front-long declaration (pieces (a .s .now)) (a .area .now) the-pre ∙ sym (ap length (c .before .before .declaration .ensures))
 
 sub-fill : tie.Need-sub-fill
 sub-fill c = search needs
@@ -40,7 +46,14 @@ same-length : tie.Need-same-length
 same-length c = search needs
 
 returns : tie.Need-returns
-returns c = front-laid declaration (pieces (c .before .before .before .before .before .before .before .before .before .before .before .before .args .s .now)) (c .before .before .before .before .before .before .before .before .before .before .before .before .args .area .now) (c .before .before .before .before .before .before .before .before .before .before .before .before .pre) (c .before .before .before .before .before .before .copy .last .1 .0) (c .before .before .fill .last .1 .0) (c .before .before .before .before .before .before .copy .ensures ∙ c .before .before .before .before .before .before .before .before .before .declaration .ensures) (c .before .before .fill .ensures)
+returns c =
+    let a = c .before .before .before .before .before .before .before .before .before .before .before .before .args in
+    let the-pre = c .before .before .before .before .before .before .before .before .before .before .before .before .pre in
+    let the-declaration = c .before .before .before .before .before .before .before .before .before .declaration in
+    let the-copy = c .before .before .before .before .before .before .copy in
+    let the-fill = c .before .before .fill in
+    front-laid declaration (pieces (a .s .now)) (a .area .now) the-pre (the-copy .last .1 .0) (the-fill .last .1 .0) (the-copy .ensures ∙ the-declaration .ensures)
+    (the-fill .ensures)
 
 pub put-spec : {M : Type 1} → statement M
 put-spec =

@@ -24,8 +24,10 @@ same-length c = search needs
 
 returns : tie.Need-returns
 returns c =
-    decimals-are (c .before .before .before .before .args .behind .now) (c .before .before .before .before .args .to .now) (c .before .before .before .before .pre) (c .before .digit-at .result) (c .digit-at2 .result)
-    (c .before .digit-at .ensures) (c .digit-at2 .ensures)
+    let a = c .before .before .before .before .args in
+    let the-digit-at = c .before .digit-at in
+    decimals-are (a .behind .now) (a .to .now) (c .before .before .before .before .pre) (the-digit-at .result) (c .digit-at2 .result) (the-digit-at .ensures)
+    (c .digit-at2 .ensures)
 
 pub put-decimals-spec : {M : Type 1} → statement M
 put-decimals-spec =

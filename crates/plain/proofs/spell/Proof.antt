@@ -18,7 +18,10 @@ enum-told-2 : tie.Need-enum-told-2
 enum-told-2 c = search needs
 
 copy-requires : tie.Need-copy-requires
-copy-requires c κs = c .before .before .before .before .before .pre ∙ ap (λ (k : Spelling). length (spelled k (c .before .before .before .before .before .args .v .now))) (c .before .enum-told2 .given .1)
+copy-requires c κs =
+    let a = c .before .before .before .before .before .args in
+    let the-pre = c .before .before .before .before .before .pre in
+    the-pre ∙ ap (λ (k : Spelling). length (spelled k (a .v .now))) (c .before .enum-told2 .given .1)
 
 enum-told-3 : tie.Need-enum-told-3
 enum-told-3 c = search needs
@@ -42,16 +45,26 @@ part-copy-end : tie.Need-part-copy-end
 part-copy-end c = search needs
 
 copy-requires-2 : tie.Need-copy-requires-2
-copy-requires-2 c κs = c .before .before .before .before .before .before .before .pre ∙ ap (λ (k : Spelling). length (spelled k (c .before .before .before .before .before .before .before .args .v .now))) (c .before .before .before .enum-told4 .given .1) ∙ sym (number-long (c .before .before .before .before .before .before .before .args .v .now) (c .before .before .needless .result) (c .before .before .needless .ensures .0)) ∙ sym (ap length (rest-of _ (c .before .before .before .before .before .before .before .args .v .now)) ∙ length-drop _ (c .before .before .before .before .before .before .before .args .v .now))
+copy-requires-2 c κs =
+    let a = c .before .before .before .before .before .before .before .args in
+    let the-pre = c .before .before .before .before .before .before .before .pre in
+    let the-needless = c .before .before .needless in
+    the-pre ∙ ap (λ (k : Spelling). length (spelled k (a .v .now))) (c .before .before .before .enum-told4 .given .1) ∙ sym
+    (number-long (a .v .now) (the-needless .result) (the-needless .ensures .0)) ∙ sym (ap length (rest-of _ (a .v .now)) ∙ length-drop _ (a .v .now))
 
 enum-told-5 : tie.Need-enum-told-5
 enum-told-5 c = search needs
 
 spell-amount-requires : tie.Need-spell-amount-requires
-spell-amount-requires c κs = c .before .before .before .before .before .pre ∙ ap (λ (k : Spelling). length (spelled k (c .before .before .before .before .before .args .v .now))) (c .before .enum-told5 .given .1)
+spell-amount-requires c κs =
+    let a = c .before .before .before .before .before .args in
+    let the-pre = c .before .before .before .before .before .pre in
+    the-pre ∙ ap (λ (k : Spelling). length (spelled k (a .v .now))) (c .before .enum-told5 .given .1)
 
 returns : tie.Need-returns
-returns c = none-left (c .before .before .before .before .args .to .now) (c .before .before .before .before .args .k) (c .before .before .before .before .args .v .now) (c .enum-told .given .1) (c .before .before .before .before .pre)
+returns c =
+    let a = c .before .before .before .before .args in
+    none-left (a .to .now) (a .k) (a .v .now) (c .enum-told .given .1) (c .before .before .before .before .pre)
 
 same-length : tie.Need-same-length
 same-length c = search needs
@@ -64,15 +77,22 @@ same-length-2 c = search needs
 
 returns-3 : tie.Need-returns-3
 returns-3 c =
-    c .before .before .collapse .ensures
-    ∙ overwritten-exact (collapsed (c .before .before .before .before .before .before .before .before .args .v .now)) (c .before .before .before .before .before .before .before .before .args .to .now) (c .before .before .before .before .before .before .before .before .pre ∙ ap (λ (k : Spelling). length (spelled k (c .before .before .before .before .before .before .before .before .args .v .now))) (c .before .before .before .before .enum-told3 .given .1))
-    ∙ sym (ap (λ (k : Spelling). spelled k (c .before .before .before .before .before .before .before .before .args .v .now)) (c .before .before .before .before .enum-told3 .given .1))
+    let a = c .before .before .before .before .before .before .before .before .args in
+    let the-pre = c .before .before .before .before .before .before .before .before .pre in
+    let the-enum-told3 = c .before .before .before .before .enum-told3 in
+    c .before .before .collapse .ensures ∙ overwritten-exact (collapsed (a .v .now)) (a .to .now)
+    (the-pre ∙ ap (λ (k : Spelling). length (spelled k (a .v .now))) (the-enum-told3 .given .1)) ∙ sym
+    (ap (λ (k : Spelling). spelled k (a .v .now)) (the-enum-told3 .given .1))
 
 same-length-3 : tie.Need-same-length-3
 same-length-3 c = search needs
 
 returns-4 : tie.Need-returns-4
-returns-4 c = c .before .before .copy2 .ensures ∙ rest-of _ (c .before .before .before .before .before .before .before .before .before .before .args .v .now) ∙ rw (c .before .before .before .before .before .before .enum-told4 .given .1) (sym (c .before .before .before .before .before .needless .ensures .0))
+returns-4 c =
+    let a = c .before .before .before .before .before .before .before .before .before .before .args in
+    let the-enum-told4 = c .before .before .before .before .before .before .enum-told4 in
+    let the-needless = c .before .before .before .before .before .needless in
+    c .before .before .copy2 .ensures ∙ rest-of _ (a .v .now) ∙ rw (the-enum-told4 .given .1) (sym (the-needless .ensures .0))
 
 same-length-4 : tie.Need-same-length-4
 same-length-4 c = search needs

@@ -26,7 +26,9 @@ add-result : tie.Need-add-result Inv-loop μ-loop
 add-result c = search needs
 
 returns : tie.Need-returns Inv-loop μ-loop
-returns c = tag-stop (c .before .before .before .before .args .s .now) (c .before .before .before .loop .i) (c .before .before .before .loop .inv .1) (c .before .before .loop-test .taken) (c .if1 .taken)
+returns c =
+    let l = c .before .before .before .loop in
+    tag-stop (c .before .before .before .before .args .s .now) (l .i) (l .inv .1) (c .before .before .loop-test .taken) (c .if1 .taken)
 
 add-i : tie.Need-add-i Inv-loop μ-loop
 add-i c = search needs
@@ -35,7 +37,9 @@ loop-less : tie.Need-loop-less Inv-loop μ-loop
 loop-less c = search needs
 
 loop-again : tie.Need-loop-again Inv-loop μ-loop
-loop-again c = (omega arith, tag-turn (c .before .before .before .before .args .s .now) (c .before .before .before .loop .i) (c .before .before .before .loop .inv .1) (c .before .before .loop-test .taken) (c .if1 .left))
+loop-again c =
+    let l = c .before .before .before .loop in
+    (omega arith, tag-turn (c .before .before .before .before .args .s .now) (l .i) (l .inv .1) (c .before .before .loop-test .taken) (c .if1 .left))
 
 returns-2 : tie.Need-returns-2 Inv-loop μ-loop
 returns-2 c = tag-end (c .before .before .args .s .now) (c .before .loop .i) (c .before .loop .inv .1) (c .before .loop .inv .0) (c .loop-test .left)

@@ -33,7 +33,10 @@ same-requires-3 c κs = search needs
 
 returns-3 : tie.Need-returns-3
 unfolding wordsTag
-returns-3 c = rw (no-of (c .before .before .before .before .before .before .same .ensures) (c .before .before .before .before .before .if1 .left), no-of (c .before .before .before .same2 .ensures) (c .before .before .if2 .left)) (c .same3 .ensures)
+returns-3 c =
+    let the-same = c .before .before .before .before .before .before .same in
+    let the-if1 = c .before .before .before .before .before .if1 in
+    rw (no-of (the-same .ensures) (the-if1 .left), no-of (c .before .before .before .same2 .ensures) (c .before .before .if2 .left)) (c .same3 .ensures)
 
 pub is-words-spec : {M : Type 1} → statement M
 is-words-spec =
