@@ -389,6 +389,12 @@ impl Message {
         form
     }
 
+    /// The same message without white space in its values that does not count.
+    pub fn as_meant(mut self) -> Message {
+        self.parts.iter_mut().for_each(|part| part.bytes = part.meant.clone());
+        self
+    }
+
     /// The place of a part's first byte.
     pub fn place(&self, part: usize) -> usize {
         self.parts[..part].iter().map(|part| part.bytes.len()).sum()

@@ -147,13 +147,10 @@ pub fn limits(give: Give) {
     let items = MOST_ITEMS as u64;
     give(made(&with_header(longest, items, items * ITEM_MOST), "longest plain form"));
 
-    let mut growing = accepted(&compact(MOST_ITEMS, false), random);
-    for part in &mut growing.parts {
-        // White space that does not count would make the form shorter.
-        part.bytes = match part.what {
-            What::Value(Kind::ItemAmount) => b"5".to_vec(),
-            _ => part.meant.clone(),
-        };
+    // White space in a value that does not count would make the form shorter.
+    let mut growing = accepted(&compact(MOST_ITEMS, false), random).as_meant();
+    for at in values_of(&growing, Kind::ItemAmount) {
+        growing.parts[at].bytes = b"5".to_vec();
     }
     let mut growing = with_header(growing, items, items * 500);
     let total = growing.header_value("TtlIntrBkSttlmAmt");

@@ -15,17 +15,20 @@ use crate::value::{self, WHITE};
 
 type Give<'a> = &'a mut dyn FnMut(Vec<u8>, &'static str, Known);
 
-/// The small messages that are swept: everything optional, behind a declaration, compact and in
-/// white space; nothing optional and two items.
+/// The small messages that are swept: everything optional, behind a declaration, compact and as meant,
+/// and in white space; nothing optional and two items.
 fn small_messages(seed: u64) -> [Message; 3] {
-    [(Spacing::None, true), (Spacing::Everywhere, true), (Spacing::None, false)].map(
-        |(spacing, full)| {
-            let random = &mut Random::new(seed, u64::MAX - u64::from(full));
-            let items = if full { 1 } else { 2 };
-            let optional = Some(full);
-            accepted(&Plan { items, spacing, small: true, declaration: full, optional }, random)
-        },
-    )
+    let small = |spacing: Spacing, full: bool| {
+        let random = &mut Random::new(seed, u64::MAX - u64::from(full));
+        let items = if full { 1 } else { 2 };
+        let optional = Some(full);
+        accepted(&Plan { items, spacing, small: true, declaration: full, optional }, random)
+    };
+    [
+        small(Spacing::None, true).as_meant(),
+        small(Spacing::Everywhere, true),
+        small(Spacing::None, false),
+    ]
 }
 
 /// The sweeps, over each of the small messages.
