@@ -19,7 +19,7 @@ pub struct Entry {
     pub cents: u64,
 }
 
-// What is asked: a withdrawal, an entry, or an entry of what the judge refused, with his number and place.
+// What is asked: a withdrawal, an entry, or an entry of what the judge refused, with its number and place.
 pub enum Ask {
     Withdraw,
     Enter,
