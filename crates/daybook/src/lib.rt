@@ -63,7 +63,7 @@ fn copy_out(entries: &mut [Entry], b: [Entry; book::MOST])
     }
 }
 
-// The parts of an outcome.
+// The entries of an outcome.
 fn entries_of(o: Outcome) -> [Entry; book::MOST]
     ensures { λ r. ⌜ r ≡ o .entries ⌝ }
 {
@@ -71,6 +71,7 @@ fn entries_of(o: Outcome) -> [Entry; book::MOST]
     e
 }
 
+// The answer of an outcome.
 fn answer_of(o: Outcome) -> Answer
     ensures { λ r. ⌜ r ≡ o .answer ⌝ }
 {
