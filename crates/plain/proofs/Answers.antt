@@ -50,9 +50,6 @@ module _ (m area : List ℕ) (v : Verdict) (is-v : meant v ≡ judged m) where
           let g : length area < length form = omega (arith, form-long, is-k) in
           inForm form plain-form (rw (le-ltb mostBytes (length form) within, lt-ltb (length area) (length form) g))
 
-      pub room-is : 38 + k ≤ length area → length (declaration ++ pieces s) ≤ length area
-      room-is h = omega (arith, length-append declaration (pieces s), is-k)
-
       pub has-room : 38 + k ≤ length area → (a : List ℕ) → a ≡ (declaration ++ pieces s) ++ drop (length (declaration ++ pieces s)) area
           → Wrote m area (record { answer = written (38 + k); area = a })
       has-room h a g =

@@ -155,9 +155,6 @@ module _ (d p area : List ℕ) (room : length (d ++ p) ≤ length area) where
   pub front-long : length (take (length d) area) ≡ length d
   front-long = length-take-le (length d) area front-fits
 
-  pub back-room : (x : List ℕ) → x ≡ d → length p ≤ length (take (length (x ++ drop (length d) area) - length d) (drop (length d) (x ++ drop (length d) area)))
-  back-room x e = rw (behind-half x area (length d) (ap length e)) (omega (arith, length-append d p, room, length-drop (length d) area))
-
   pub front-laid : (x y : List ℕ) → x ≡ d → y ≡ p ++ drop (length p) (take (length (x ++ drop (length d) area) - length d) (drop (length d) (x ++ drop (length d) area)))
       → putMid (length d) (length (x ++ drop (length d) area) - length d) (x ++ drop (length d) area) y ≡ (d ++ p) ++ drop (length (d ++ p)) area
   front-laid x y e g =

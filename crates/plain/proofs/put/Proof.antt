@@ -5,7 +5,7 @@ use mathlib.Core.Path.{sym, ap, _∙_}
 use lib.ListN.{length}
 use Rattle.tags.specs.Tags.{declaration}
 use Rattle.plain.specs.Engine.{pieces}
-use Rattle.plain.proofs.Pieces.{front-fits, front-long, front-laid, back-room}
+use Rattle.plain.proofs.Pieces.{front-long, front-laid}
 use Rattle.plain.proofs.put.Statement.{statement}
 use Rattle.plain.proofs.put.Tie as tie
 

@@ -1,7 +1,7 @@
 -- `plain::write` meets its contract.
 use borrow.Author.Needs.{needs}
 use native.Mathlib.Omega.{arith}
-use Rattle.plain.proofs.Answers.{not-accepted, not-over, no-room, room-is, has-room}
+use Rattle.plain.proofs.Answers.{not-accepted, not-over, no-room, has-room}
 use Rattle.plain.proofs.write.Statement.{statement}
 use Rattle.plain.proofs.write.Tie as tie
 
