@@ -1,7 +1,7 @@
 -- The items of an accepted bulk's message are the bulk's: where each lies, and what it holds.
 use mathlib.Core.Path.{_≡_, refl, sym, ap, subst, _∙_}
 use mathlib.Core.List.{List, [], _∷_, _++_, append-nil, append-assoc}
-use Prim.Native.Nat.{ℕ, _+_}
+use Prim.Native.Nat.{ℕ, _+_, _≤_}
 use native.Mathlib.Omega.{arith}
 use lib.ListN.{length, drop, length-append}
 use lib.Seq.{drop-append-seam}
@@ -9,13 +9,15 @@ use Rattle.text.proofs.Truths.{never}
 use Rattle.tags.specs.Tags.{skipped, plainTag}
 use Rattle.tags.proofs.Looks.{look-text}
 use Rattle.profile.specs.Version.{Version}
+use Rattle.profile.specs.Limits.{mostBytes}
 use Rattle.profile.specs.Tree.{once, many, Shape}
 use Rattle.profile.specs.Profile.{bulkName, headerName, itemName, inHeader, inItem, profile}
-use Rattle.reading.specs.Trace.{What, itemBegins, itemEnds, Entry, _at_, upTo, trace, from, opened}
-use Rattle.reading.specs.Noted.{Ended}
+use Rattle.reading.specs.Trace.{What, itemBegins, itemEnds, there, absent, value, Entry, _at_, upTo, trace, from, opened, message as theTrace}
+use Rattle.reading.specs.Noted.{Ended, noted}
+use Rattle.reading.specs.Rules.{begun, itemsIn}
 use Rattle.reading.specs.Verdict.{accepted}
-use Rattle.reading.specs.Judged.{whats, judged}
-use Rattle.reading.specs.Items.{Item, itemsOf, notesOf, theItems}
+use Rattle.reading.specs.Judged.{whats, listed, judged}
+use Rattle.reading.specs.Items.{Item, itemsOf, notesOf, theItems, orItem, headerIn, theHeader}
 use Rattle.reading.proofs.Lists.{whats-append}
 use Rattle.reading.proofs.Flat.{flat, Goes, Whole, goes-whole, goes-flat, one-end}
 use Rattle.documents.specs.Document.{texts, text, Each, LedBy, Proper}
@@ -27,7 +29,7 @@ use Rattle.documents.proofs.Texts.{past, plain-starts, skip-to}
 use Rattle.documents.proofs.Told.{Told, told-as}
 use Rattle.documents.proofs.Rows.{turn-tells}
 use Rattle.documents.proofs.Complete.{group-told, trace-tells}
-use Rattle.documents.proofs.Messages.{opens}
+use Rattle.documents.proofs.Messages.{opens, message-told}
 use Rattle.documents.proofs.Exactly.{document-accepted}
 use Rattle.items.specs.Alone.{itemTag, itemBody, alone}
 use Rattle.items.specs.Chain.{around, Stands, Chained, none, next, Itemized}
@@ -35,7 +37,7 @@ use Rattle.items.proofs.Chains.{Behind, profile-chained}
 use Rattle.items.proofs.Accepted.{accepted-chained}
 use Rattle.bulks.specs.Bulk.{tree, profile-tree, DocItem, Bulk, message, itemText, front, itemsFrom}
 use Rattle.bulks.specs.Accepted.{Bulked}
-use Rattle.bulks.proofs.Parts.{back, whole-parts, items-said}
+use Rattle.bulks.proofs.Parts.{back, whole-parts, itemsSaid, said-parts, header-itemless, no-items, items-said}
 
 -- ---- lists that end alike
 same-front : {A : Type 0} (a b : List A) (x y : A) → a ++ (x ∷ []) ≡ b ++ (y ∷ []) → a ≡ b
@@ -93,6 +95,20 @@ module _ (v : Version) (m : List ℕ) where
       let d : drop (x .to) m ≡ texts (itemText v) es ++ s = ap (λ (i : ℕ). drop i m) q ∙ past m (itemText v e) (texts (itemText v) es ++ s) p g in
       let r : l ≡ itemsFrom v (p + length (itemText v e)) es = aligned c es (pr .1) s d (omega arith) ∙ ap (λ (i : ℕ). itemsFrom v i es) q in
       rw (y, r)
+
+-- what is said before the first item is the header
+module _ (v : Version) where
+  header-before : (a : List What) (l : List (DocItem v)) → itemsIn a ≡ 0 → headerIn (a ++ itemsSaid v l) ≡ a
+  header-before [] [] e = refl
+  header-before [] (x ∷ l) e = refl
+  header-before (w ∷ a) l e = go w e (header-before a l)
+    where
+      go : (w : What) → begun w + itemsIn a ≡ 0 → (itemsIn a ≡ 0 → headerIn (a ++ itemsSaid v l) ≡ a) → orItem w (headerIn (a ++ itemsSaid v l)) ≡ w ∷ a
+      go itemBegins e k = never (omega (arith, e))
+      go itemEnds e k = ap (λ (x : List What). itemEnds ∷ x) (k (omega (arith, e)))
+      go (there n) e k = ap (λ (x : List What). there n ∷ x) (k (omega (arith, e)))
+      go (absent n) e k = ap (λ (x : List What). absent n ∷ x) (k (omega (arith, e)))
+      go (value i f y) e k = ap (λ (x : List What). value i f y ∷ x) (k (omega (arith, e)))
 
 -- a message is opened in one way
 reads-as : (m : List ℕ) (u v : Version) (p q : ℕ) → from u p ≡ from v q → (r : Ended (List Entry)) → Goes (trace (profile u) m p) [] r → Goes (trace (profile v) m q) [] r
@@ -180,6 +196,21 @@ module _ {v : Version} (b : Bulk v) (law : Lawful (message many b)) where
     pub many-items : length (b .items) ≡ n
     many-items = sym (items-said b items-proper (header-proper .1)) ∙ bulk-holds .items
 
+    -- what is read in its message is what it says; before its first item, what its header says
+    pub bulk-read : whats (notesOf (noted listed (theTrace (whole (message many b))) [])) ≡ said (inHeader v) (b .header .held) ++ itemsSaid v (b .items)
+    bulk-read =
+        let m = whole (message many b) in
+        let x = accepted-chained m n c e in
+        ap (λ r. whats (notesOf r)) (x .goes)
+        ∙ (ap whats (goes-flat (theTrace m) [] (record { at = x .last; notes = x .ended .notes }) (x .goes))
+        ∙ (subst P (profile-tree v) (λ d l h. message-told d l h .says) (message many b) law (x .short) ∙ said-parts b))
+      where
+        P : Shape → Type 0
+        P sh = (d : Message v sh) → Lawful d → length (whole d) ≤ mostBytes → whats (flat (theTrace (whole d))) ≡ said sh (d .inside)
+
+    pub header-itself : theHeader (whole (message many b)) ≡ said (inHeader v) (b .header .held)
+    header-itself = ap headerIn bulk-read ∙ header-before v (said (inHeader v) (b .header .held)) (b .items) (no-items (inHeader v) (header-itemless v) (b .header .held) (header-proper .1))
+
     pub items-itself : theItems (whole (message many b)) ≡ itemsFrom v (length (front b)) (b .items)
     items-itself = aligned v m (rw (headed, items) at (k .items .here)) (b .items) items-proper (b .close ++ back b) items-there (x .many ∙ sym many-items)
       where
@@ -217,3 +248,6 @@ module _ (m : List ℕ) (n c : ℕ) (e : judged m ≡ accepted n c) (k : Bulked 
 
   pub accepted-items : theItems m ≡ itemsFrom (k .version) (length (front (k .bulk))) (k .bulk .items)
   accepted-items = ap theItems (k .is) ∙ items-itself (k .bulk) (k .lawful) n c its-judgement
+
+  pub accepted-header : theHeader m ≡ said (inHeader (k .version)) (k .bulk .header .held)
+  accepted-header = ap theHeader (k .is) ∙ header-itself (k .bulk) (k .lawful) n c its-judgement

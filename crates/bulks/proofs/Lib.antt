@@ -3,6 +3,7 @@ pub mod Parts
 pub mod Items
 pub mod Itself
 pub mod Posted
+pub mod Typed
 pub mod Refused
 pub mod Slips
 pub mod Present

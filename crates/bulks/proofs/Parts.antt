@@ -17,7 +17,7 @@ use Rattle.reading.proofs.Lists.{items-append, values-append}
 use Rattle.documents.specs.Document.{Doc, texts, text, Each, LedBy, Proper}
 use Rattle.documents.specs.Said.{each, said}
 use Rattle.documents.specs.Message.{head, whole}
-use Rattle.documents.proofs.Often.{times, fixed, aKind, as-often, weight-items, of-kind}
+use Rattle.documents.proofs.Often.{anyItem, times, fixed, aKind, as-often, weight-items, of-kind}
 use Rattle.bulks.specs.Bulk.{tree, DocItem, Bulk, message, headerText, itemText, front}
 
 -- ---- its text
@@ -40,10 +40,10 @@ pub said-parts : {v : Version} (b : Bulk v) → said (tree many v) (message many
 said-parts b = simp append-nil
 
 -- no item stands within the header or within another item, and no count within an item
-itemless : Shape → Type 0
-itemless sh = (fixed (λ k f. 0) 1 sh ≡ true) × (times (λ k f. 0) 1 sh ≡ 0)
+pub itemless : Shape → Type 0
+itemless sh = (fixed anyItem sh ≡ true) × (times anyItem sh ≡ 0)
 
-header-itemless : (v : Version) → itemless (inHeader v)
+pub header-itemless : (v : Version) → itemless (inHeader v)
 unfolding inHeader itemless
 header-itemless v02 = (refl, refl)
 
@@ -51,13 +51,13 @@ item-itemless : (v : Version) → itemless (inItem v)
 unfolding inItem itemless
 item-itemless v02 = (refl, refl)
 
-item-countless : (v : Version) → (fixed (aKind Count) 0 (inItem v) ≡ true) × (times (aKind Count) 0 (inItem v) ≡ 0)
+item-countless : (v : Version) → (fixed (aKind Count) (inItem v) ≡ true) × (times (aKind Count) (inItem v) ≡ 0)
 unfolding inItem
 item-countless v02 = (refl, refl)
 
-no-items : (sh : Shape) → itemless sh → (d : Doc sh) → Proper sh d → itemsIn (said sh d) ≡ 0
+pub no-items : (sh : Shape) → itemless sh → (d : Doc sh) → Proper sh d → itemsIn (said sh d) ≡ 0
 unfolding itemless
-no-items sh h d pr = weight-items (said sh d) ∙ as-often (λ k f. 0) 1 sh (h .0) d pr ∙ h .1
+no-items sh h d pr = weight-items (said sh d) ∙ as-often anyItem sh (h .0) d pr ∙ h .1
 
 no-values : (l : List (List ℕ)) → length l ≡ 0 → l ≡ []
 no-values [] e = refl

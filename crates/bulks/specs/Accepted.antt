@@ -36,4 +36,4 @@ pub record Itself (m : List ℕ) (i : ℕ) {v : Version} (b : Bulk v) : Type 0 w
 -- the area afterwards: the records of a bulk's items, one for each, in order, and behind them what stood there; there are as many as the count
 pub record Posted (m a : List ℕ) (n c : ℕ) {v : Version} (b : Bulk v) : Type 0 where
   pub as-many : length (b .items) ≡ n
-  pub outcome : recorded m a ≡ record { verdict = accepted n c; area = texts (itemRecord v) (b .items) ++ drop (recordLength * n) a }
+  pub outcome : recorded m a ≡ record { verdict = accepted n c; area = texts (itemRecord v (b .header)) (b .items) ++ drop (recordLength * n) a }

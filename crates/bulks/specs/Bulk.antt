@@ -86,6 +86,6 @@ itemsFrom v p [] = []
 itemsFrom v p (x ∷ l) =
     record { from = p + length (x .blank); to = p + length (itemText v x); holds = said (inItem v) (x .held) } ∷ itemsFrom v (p + length (itemText v x)) l
 
--- the record of an item's own values
-abbrev pub itemRecord : (v : Version) → DocItem v → List ℕ
-itemRecord v x = recordFor (said (inItem v) (x .held))
+-- the record of an item's own values and its header's
+abbrev pub itemRecord : (v : Version) → Led (Doc (inHeader v)) → DocItem v → List ℕ
+itemRecord v h x = recordFor (said (inHeader v) (h .held) ++ said (inItem v) (x .held))

@@ -63,7 +63,7 @@ sum-most (value k f v ∷ l) h = go (sameKind k Amount) refl (sum-most l (h .1))
     go false e r = r
 
 -- ---- as many amounts as items
-header-amounts : (v : Version) → (fixed (aKind Amount) 0 (inHeader v) ≡ true) × (times (aKind Amount) 0 (inHeader v) ≡ 0)
+header-amounts : (v : Version) → (fixed (aKind Amount) (inHeader v) ≡ true) × (times (aKind Amount) (inHeader v) ≡ 0)
 unfolding inHeader
 header-amounts v02 = (refl, refl)
 

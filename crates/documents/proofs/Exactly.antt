@@ -29,7 +29,7 @@ module _ {v : Version} (d : Message v (profile v)) (law : Lawful d) (n c : ℕ) 
       let f = message-found (whole d) (r .to) (r .whole) in
       let t = message-told d law (f .short) in
       let o = one-header v (d .inside) (law .inside) in
-      rw (t .says) at (decided-holds (flat (message (whole d))) n c (rw (t .says) (o .count)) (rw (t .says) (o .total)) (sym (judged-told d law (f .short)) ∙ e))
+      rw (t .says) at (decided-holds (flat (message (whole d))) n c (rw (t .says) o) (sym (judged-told d law (f .short)) ∙ e))
 
   -- and there it is
   pub accepted-document : length (whole d) ≤ mostBytes → Holds (said (profile v) (d .inside)) n c → judged (whole d) ≡ accepted n c

@@ -8,6 +8,7 @@ pub mod Messages
 pub mod One
 pub mod Each
 pub mod Often
+pub mod Typed
 pub mod Standing
 pub mod Lists
 pub mod Exactly

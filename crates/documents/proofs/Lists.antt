@@ -1,13 +1,13 @@
 -- What noting a list of entries one by one comes to: it goes through exactly where every value is of its kind and the rules are kept, and is then accepted
 -- exactly where the header's count and total are those of the list. No message is spoken of here.
 use mathlib.Core.Path.{_≡_, refl, sym, ap, _∙_}
-use mathlib.Core.Bool.{Bool, true, false}
+use mathlib.Core.Bool.{Bool, true, false, not}
 use mathlib.Core.List.{List, [], _∷_, _++_, append-nil, append-assoc}
-use Prim.Native.Nat.{ℕ, suc, _+_, _≤_}
+use Prim.Native.Nat.{ℕ, zero, suc, _+_, _≤_}
 use native.Mathlib.Omega.{arith}
 use borrow.Author.Tests.{eqb-true, eq-eqb, ltb-true, lt-ltb, leb-true, le-leb}
 use lib.Dec.{eqb, leb, ltb}
-use lib.ListN.{length}
+use lib.ListN.{length, replicate}
 use Rattle.text.specs.Truth.{pick, between}
 use Rattle.text.specs.Quoted.{alike, decimal}
 use Rattle.text.proofs.Truths.{between-true}
@@ -19,22 +19,34 @@ use Rattle.profile.specs.declared.Kind.{Kind}
 use Rattle.profile.specs.declared.Kind.the-variants.{Plain, Count, Total, Amount, Code}
 use Rattle.profile.specs.Limits.{mostItems}
 use Rattle.profile.specs.Kinds.{sameKind}
+use Rattle.profile.specs.Profile.{isType}
 use Rattle.kinds.specs.Given.{kindGiven}
 use Rattle.reading.specs.Trace.{What, itemBegins, itemEnds, there, absent, value, Entry, Trace, met, upTo, fault, message}
 use Rattle.reading.specs.Noted.{Reading, on, stop, onward, Ended, noted}
-use Rattle.reading.specs.Rules.{itemsIn, ofKind, valuesOf, sumOf, centsIn, firstOf, _so_, rules, ownKind, fitting, weighed}
+use Rattle.reading.specs.Rules.{itemsIn, ofKind, valuesOf, sumOf, centsIn, ofType, typesIn, firstOf, _so_, unlikeFirst, rules, ownKind, fitting, weighed}
 use Rattle.reading.specs.Verdict.{Judged, accepted, refused}
 use Rattle.reading.specs.Judged.{whats, orRefused, listed, lastOf, onlyOf, placeOf, compared, verdict, judged}
-use Rattle.reading.proofs.Lists.{whats-append, items-append, values-append, cents-append, alike-itself, alike-same}
+use Rattle.reading.proofs.Lists.{whats-append, items-append, values-append, types-append, cents-append, alike-itself, alike-same}
 use Rattle.reading.proofs.Flat.{never, flat, Whole, same-end, through, taken, goes-whole}
 use Rattle.documents.specs.Document.{Each}
-use Rattle.documents.specs.Holds.{Passes, Alike, numbers, amounts, Holds}
+use Rattle.documents.specs.Holds.{Passes, AsFirst, Alike, TypeStands, inHeader, inItems, numbers, amounts, Holds}
+use Rattle.documents.specs.Standing.{OneHeader}
 use Rattle.documents.proofs.Each.{each-both, each-first, each-rest}
+
+-- of each of the others what is not said of the first
+abbrev pub Unlike : List Bool → Type 0
+Unlike = AsFirst (λ x y. y ≡ not x)
+
+pub as-first : {A : Type 0} (R : A → A → Type 0) (x y : List A) → AsFirst R (x ++ y) → AsFirst R x
+as-first R [] y e = tt
+as-first R (v ∷ x) y e = each-first (R v) x y e
 
 -- ---- the rules, kept by a list of what was read
 pub record Kept (ws : List What) : Type 0 where
   -- every value is of its kind
   pub kinds : Each (λ w. Passes (ownKind w)) ws
+  -- the payment type stands in the items where it does not stand in the header
+  pub typed : Unlike (typesIn ws)
   -- LclInstrm is the first one's
   pub alike : Alike (valuesOf (Code LclInstrm) ws)
   -- 10,000 items at most
@@ -43,20 +55,17 @@ pub record Kept (ws : List What) : Type 0 where
   pub summed : centsIn ws ≤ most range.the-variants.Total
 
 pub kept-none : Kept []
-kept-none = record { kinds = tt; alike = tt; few = omega arith; summed = omega arith }
+kept-none = record { kinds = tt; typed = tt; alike = tt; few = omega arith; summed = omega arith }
 
 pub kept-first : (a b : List What) → Kept (a ++ b) → Kept a
 kept-first a b h =
     record {
       kinds = each-first (λ w. Passes (ownKind w)) a b (h .kinds);
-      alike = alike-first (valuesOf (Code LclInstrm) a) (valuesOf (Code LclInstrm) b) (rw (values-append (Code LclInstrm) a b) at (h .alike));
+      typed = as-first (λ x y. y ≡ not x) (typesIn a) (typesIn b) (rw (types-append a b) at (h .typed));
+      alike = as-first (λ v w. w ≡ v) (valuesOf (Code LclInstrm) a) (valuesOf (Code LclInstrm) b) (rw (values-append (Code LclInstrm) a b) at (h .alike));
       few = omega (arith, h .few, items-append a b);
       summed = omega (arith, h .summed, cents-append a b);
     }
-  where
-    alike-first : (x y : List (List ℕ)) → Alike (x ++ y) → Alike x
-    alike-first [] y e = tt
-    alike-first (v ∷ x) y e = each-first (λ w. w ≡ v) x y e
 
 -- ---- one more: it is kept exactly where what is met passes, after what was read before
 passes-both : (g h : Given) → Passes g → Passes h → Passes (fitting g h)
@@ -73,6 +82,33 @@ rules-pass : (a b : Bool) (i j : ℕ) → Passes (inOrder (a else i ∷ b else j
 rules-pass true true i j p = (refl, refl)
 rules-pass true false i j p = absurd p
 rules-pass false b i j p = absurd p
+
+rule-passes : (a : Bool) (i : ℕ) → Passes (inOrder (a else i ∷ []) yes) → a ≡ true
+rule-passes true i p = refl
+rule-passes false i p = absurd p
+
+-- the payment type, with one place more where it may stand or none
+unlike-more : (i b : Bool) (l : List Bool) → Unlike l → (i so unlikeFirst b l) ≡ true → Unlike (l ++ pick i (b ∷ []) [])
+unlike-more false b l h e = rw (append-nil l) h
+unlike-more true b [] h e = tt
+unlike-more true b (x ∷ l) h e = each-both (λ y. y ≡ not x) l (b ∷ []) h (other x b e, tt)
+  where
+    other : (x b : Bool) → pick x (not b) b ≡ true → b ≡ not x
+    other true b e = go b e
+      where
+        go : (b : Bool) → not b ≡ true → b ≡ false
+        go true e = never (cc)
+        go false e = refl
+    other false b e = e
+
+pub unlike-last : (i b : Bool) (l : List Bool) → Unlike (l ++ pick i (b ∷ []) []) → (i so unlikeFirst b l) ≡ true
+unlike-last false b l h = refl
+unlike-last true b [] h = refl
+unlike-last true b (x ∷ l) h = let e : b ≡ not x = each-rest (λ y. y ≡ not x) l (b ∷ []) h .0 in rw e (other x)
+  where
+    other : (x : Bool) → pick x (not (not x)) (not x) ≡ true
+    other true = refl
+    other false = refl
 
 -- LclInstrm, and the running sum, with one value more or none
 alike-more : (b : Bool) (l : List (List ℕ)) (v : List ℕ) → Alike l → (b so alike (firstOf v l) v) ≡ true → Alike (l ++ pick b (v ∷ []) [])
@@ -100,23 +136,36 @@ module _ (a : List What) where
   pub sums-more : (w : What) → centsIn (a ++ (w ∷ [])) ≡ centsIn a + sumOf (ofKind Amount w)
   sums-more w = cents-append a (w ∷ []) ∙ ap (λ (l : List (List ℕ)). centsIn a + sumOf l) (append-nil (ofKind Amount w))
 
+  pub types-more : (w : What) → typesIn (a ++ (w ∷ [])) ≡ typesIn a ++ ofType w
+  types-more w = types-append a (w ∷ []) ∙ ap (λ (l : List Bool). typesIn a ++ l) (append-nil (ofType w))
+
+  -- what says nothing of the payment type
+  untyped : (w : What) → ofType w ≡ [] → Kept a → Unlike (typesIn (a ++ (w ∷ [])))
+  untyped w e h = rw (types-more w, e, append-nil (typesIn a)) (h .typed)
+
   -- what is no value and no item's beginning
-  still : (w : What) → ((j : Kind) → ofKind j w ≡ []) → itemsIn (w ∷ []) ≡ 0 → Passes (ownKind w) → Kept a → Kept (a ++ (w ∷ []))
-  still w v i p h =
+  still : (w : What) → ((j : Kind) → ofKind j w ≡ []) → itemsIn (w ∷ []) ≡ 0 → Passes (ownKind w) → Unlike (typesIn (a ++ (w ∷ []))) → Kept a → Kept (a ++ (w ∷ []))
+  still w v i p t h =
       record {
         kinds = each-both (λ w. Passes (ownKind w)) a (w ∷ []) (h .kinds) (p, tt);
+        typed = t;
         alike = rw (values-more (Code LclInstrm) w, v (Code LclInstrm), append-nil (valuesOf (Code LclInstrm) a)) (h .alike);
         few = omega (arith, h .few, items-append a (w ∷ []), i);
         summed = rw (sums-more w, v Amount) (omega (arith, h .summed));
       }
 
   pub kept-more : (w : What) → Kept a → Passes (weighed a w) → Kept (a ++ (w ∷ []))
-  kept-more itemEnds h p = still itemEnds (λ j. refl) refl tt h
-  kept-more (there n) h p = still (there n) (λ j. refl) refl tt h
-  kept-more (absent n) h p = still (absent n) (λ j. refl) refl tt h
+  kept-more itemEnds h p = still itemEnds (λ j. refl) refl tt (untyped itemEnds refl h) h
+  kept-more (there n) h p =
+      still (there n) (λ j. refl) refl tt
+      (rw (types-more (there n)) (unlike-more (isType n) true (typesIn a) (h .typed) (rule-passes (isType n so unlikeFirst true (typesIn a)) 23 p))) h
+  kept-more (absent n) h p =
+      still (absent n) (λ j. refl) refl tt
+      (rw (types-more (absent n)) (unlike-more (isType n) false (typesIn a) (h .typed) (rule-passes (isType n so unlikeFirst false (typesIn a)) 4 p))) h
   kept-more itemBegins h p =
       record {
         kinds = each-both (λ w. Passes (ownKind w)) a (itemBegins ∷ []) (h .kinds) (tt, tt);
+        typed = untyped itemBegins refl h;
         alike = rw (values-more (Code LclInstrm) itemBegins, append-nil (valuesOf (Code LclInstrm) a)) (h .alike);
         few = omega (arith, items-append a (itemBegins ∷ []), below (ltb (itemsIn a) mostItems) refl p);
         summed = rw (sums-more itemBegins) (omega (arith, h .summed));
@@ -131,6 +180,7 @@ module _ (a : List What) where
       (sameKind k Amount so leb (centsIn a + cents v) (most range.the-variants.Total)) 11 13 (b .1) in
       record {
         kinds = each-both (λ w. Passes (ownKind w)) a (value k f v ∷ []) (h .kinds) (b .0, tt);
+        typed = untyped (value k f v) refl h;
         alike = rw (values-more (Code LclInstrm) (value k f v)) (alike-more (sameKind k (Code LclInstrm)) (valuesOf (Code LclInstrm) a) v (h .alike) (r .0));
         few = omega (arith, h .few, items-append a (value k f v ∷ []));
         summed = rw (sums-more (value k f v)) (sum-more (sameKind k Amount) (centsIn a) (most range.the-variants.Total) v (h .summed) (r .1));
@@ -138,8 +188,8 @@ module _ (a : List What) where
 
   pub more-kept : (w : What) → Kept (a ++ (w ∷ [])) → Passes (weighed a w)
   more-kept itemEnds h = tt
-  more-kept (there n) h = tt
-  more-kept (absent n) h = tt
+  more-kept (there n) h = rw (unlike-last (isType n) true (typesIn a) (rw (types-more (there n)) at (h .typed))) tt
+  more-kept (absent n) h = rw (unlike-last (isType n) false (typesIn a) (rw (types-more (absent n)) at (h .typed))) tt
   more-kept itemBegins h = rw (lt-ltb (itemsIn a) mostItems (omega (arith, h .few, items-append a (itemBegins ∷ [])))) tt
   more-kept (value k f v) h =
       passes-both (kindGiven k v) (inOrder (rules a (value k f v)) yes)
@@ -294,11 +344,36 @@ totals-most (value k f v ∷ l) h = go (sameKind k Total) refl (totals-most l (h
     go true e r = (in-range range.the-variants.Total v (rw (is-total k e) at (h .0)), r)
     go false e r = r
 
+-- ---- the payment type stands in the header or in every item, exactly where each item has it unlike the header and it may stand once in the header and in each item
+all-as : (b : Bool) (l : List Bool) → Each (λ y. y ≡ b) l → l ≡ replicate (length l) b
+all-as b [] h = refl
+all-as b (x ∷ l) h = rw (h .0, ← all-as b l (h .1))
+
+as-all : (b : Bool) (n : ℕ) → Each (λ y. y ≡ b) (replicate n b)
+as-all b zero = tt
+as-all b (suc n) = (refl, as-all b n)
+
+pub stands-unlike : (ws : List What) → TypeStands ws → Unlike (typesIn ws)
+stands-unlike ws (inHeader e) = rw e (as-all false (itemsIn ws))
+stands-unlike ws (inItems e) = rw e (as-all true (itemsIn ws))
+
+unlike-stands : (ws : List What) → length (typesIn ws) ≡ suc (itemsIn ws) → Unlike (typesIn ws) → TypeStands ws
+unlike-stands ws n = go (typesIn ws) refl n
+  where
+    go : (l : List Bool) → typesIn ws ≡ l → length l ≡ suc (itemsIn ws) → Unlike l → TypeStands ws
+    go [] e n h = never (omega arith)
+    go (true ∷ l) e n h =
+        let z : length l ≡ itemsIn ws = omega (arith, n) in
+        inHeader (e ∙ ap (λ (l : List Bool). true ∷ l) (all-as false l h ∙ ap (λ (i : ℕ). replicate i false) z))
+    go (false ∷ l) e n h =
+        let z : length l ≡ itemsIn ws = omega (arith, n) in
+        inItems (e ∙ ap (λ (l : List Bool). false ∷ l) (all-as true l h ∙ ap (λ (i : ℕ). replicate i true) z))
+
 -- ---- the profile holds of a list exactly where its rules are kept and its header says what stands in it
 pub holds-kept : (ws : List What) (n c : ℕ) → Holds ws n c → Kept ws × Compared ws n c
 holds-kept ws n c h =
     let z : Each (λ x. x ≤ most range.the-variants.Total) (c ∷ []) = rw (h .total) at (totals-most ws (h .kinds)) in (
-      record { kinds = h .kinds; alike = h .alike; few = omega (arith, h .items, h .few); summed = omega (arith, h .cents, z .0) },
+      record { kinds = h .kinds; typed = stands-unlike ws (h .type); alike = h .alike; few = omega (arith, h .items, h .few); summed = omega (arith, h .cents, z .0) },
       record {
         items = h .items;
         count = once-said decimal numbers refl (λ v l. refl) (valuesOf Count ws) n (h .count);
@@ -307,19 +382,20 @@ holds-kept ws n c h =
       },
     )
 
-pub kept-holds : (ws : List What) (n c : ℕ) → length (valuesOf Count ws) ≡ 1 → length (valuesOf Total ws) ≡ 1 → Kept ws → Compared ws n c → Holds ws n c
-kept-holds ws n c a b k h =
+pub kept-holds : (ws : List What) (n c : ℕ) → OneHeader ws → Kept ws → Compared ws n c → Holds ws n c
+kept-holds ws n c o k h =
     record {
       kinds = k .kinds;
+      type = unlike-stands ws (o .types) (k .typed);
       alike = k .alike;
       items = h .items;
       few = omega (arith, k .few, h .items);
-      count = said-once decimal numbers refl (λ v l. refl) (valuesOf Count ws) n a (h .count);
+      count = said-once decimal numbers refl (λ v l. refl) (valuesOf Count ws) n (o .count) (h .count);
       cents = h .sum;
-      total = said-once cents amounts refl (λ v l. refl) (valuesOf Total ws) c b (h .total);
+      total = said-once cents amounts refl (λ v l. refl) (valuesOf Total ws) c (o .total) (h .total);
     }
 
--- A list is noted through and accepted exactly when the profile holds of it, where it has one count and one total.
+-- A list is noted through and accepted exactly when the profile holds of it, where it has one count, one total and as many places for the payment type as is due.
 abbrev pub decided : Reading (List Entry) → Judged
 decided (on es) = compared es
 decided (stop n p) = refused n p
@@ -329,14 +405,14 @@ holds-decided es n c h =
     let k = holds-kept (whats es) n c h in
     rw (kept-listed es [] (k .0)) (is-compared es n c (k .1))
 
-pub decided-holds : (es : List Entry) (n c : ℕ) → length (valuesOf Count (whats es)) ≡ 1 → length (valuesOf Total (whats es)) ≡ 1 → decided (listedAll es []) ≡ accepted n c → Holds (whats es) n c
-decided-holds es n c a b = go (listedAll es []) refl
+pub decided-holds : (es : List Entry) (n c : ℕ) → OneHeader (whats es) → decided (listedAll es []) ≡ accepted n c → Holds (whats es) n c
+decided-holds es n c o = go (listedAll es []) refl
   where
     go : (x : Reading (List Entry)) → listedAll es [] ≡ x → decided x ≡ accepted n c → Holds (whats es) n c
     go (stop i p) q e = never (cc)
     go (on u) q e =
         let k = listed-kept es [] u kept-none q in
-        kept-holds (whats es) n c a b (k .0) (compared-is es n c (rw (k .1) at e))
+        kept-holds (whats es) n c o (k .0) (compared-is es n c (rw (k .1) at e))
 
 -- ---- the judge, of a message that is read through
 pub noted-listed : (t : Trace) (q : ℕ) → Whole t q → (es : List Entry) → noted listed t es ≡ onward (listedAll (flat t) es) (λ l. on (record { at = q; notes = l }))

@@ -1,6 +1,7 @@
 -- One count and one total in each message, one amount, two IBANs and one identifier in each item: computed on the tree, so true of each document.
 use mathlib.Core.Path.{_≡_, refl, _∙_}
 use mathlib.Core.Bool.{true}
+use native.Mathlib.Omega.{arith}
 use lib.ListN.{length}
 use Rattle.profile.specs.declared.Kind.{Kind}
 use Rattle.profile.specs.declared.Kind.the-variants.{Count, Total, Amount}
@@ -8,21 +9,21 @@ use Rattle.profile.specs.declared.Field.{Field}
 use Rattle.profile.specs.declared.Field.the-variants.{DbtrIban, CdtrIban, CdtrId}
 use Rattle.profile.specs.Version.{Version, v02}
 use Rattle.profile.specs.Tree.{Shape}
-use Rattle.profile.specs.Profile.{inItem, profile}
+use Rattle.profile.specs.Profile.{isType, inItem, profile}
 use Rattle.reading.specs.Rules.{valuesOf, valuesAt}
 use Rattle.documents.specs.Document.{Doc, Proper}
 use Rattle.documents.specs.Said.{said}
 use Rattle.documents.specs.Standing.{OneHeader, OneItem}
-use Rattle.documents.proofs.Often.{aKind, aField, times, fixed, of-kind, at-field}
+use Rattle.documents.proofs.Often.{anyItem, aKind, aField, aType, times, even, fixed, balance, weight-items, weight-types, of-kind, at-field}
 
 -- what the tree must show: an element of the kind, or the field, stands once, and is neither left out nor repeated
 pub record OnceOf (j : Kind) (sh : Shape) : Type 0 where
-  pub fixed : fixed (aKind j) 0 sh ≡ true
-  pub once : times (aKind j) 0 sh ≡ 1
+  pub fixed : fixed (aKind j) sh ≡ true
+  pub once : times (aKind j) sh ≡ 1
 
 pub record OnceAt (h : Field) (sh : Shape) : Type 0 where
-  pub fixed : fixed (aField h) 0 sh ≡ true
-  pub once : times (aField h) 0 sh ≡ 1
+  pub fixed : fixed (aField h) sh ≡ true
+  pub once : times (aField h) sh ≡ 1
 
 module _ {sh : Shape} (d : Doc sh) (pr : Proper sh d) where
   pub one-of : (j : Kind) → OnceOf j sh → length (valuesOf j (said sh d)) ≡ 1
@@ -40,6 +41,11 @@ pub totals : (v : Version) → OnceOf Total (profile v)
 unfolding profile
 totals v02 = record { fixed = refl; once = refl }
 
+-- the payment type may stand as often as there are items, and once more
+pub types-even : (v : Version) → (even aType anyItem (profile v) ≡ true) × (times aType (profile v) ≡ 2) × (times anyItem (profile v) ≡ 1)
+unfolding profile isType
+types-even v02 = (refl, refl, refl)
+
 pub item-amounts : (v : Version) → OnceOf Amount (inItem v)
 unfolding inItem
 item-amounts v02 = record { fixed = refl; once = refl }
@@ -56,9 +62,16 @@ pub item-identifiers : (v : Version) → OnceAt CdtrId (inItem v)
 unfolding inItem
 item-identifiers v02 = record { fixed = refl; once = refl }
 
--- In each message there stand one count and one total.
+-- In each message there stand one count and one total, and the payment type may stand once in its header and once in each item.
 pub one-header : (v : Version) (d : Doc (profile v)) → Proper (profile v) d → OneHeader (said (profile v) d)
-one-header v d pr = record { count = one-of d pr Count (counts v); total = one-of d pr Total (totals v) }
+one-header v d pr =
+    let e = types-even v in
+    let ws = said (profile v) d in
+    record {
+      count = one-of d pr Count (counts v);
+      total = one-of d pr Total (totals v);
+      types = omega (arith, balance aType anyItem (profile v) (e .0) d pr, e .1, e .2, weight-types ws, weight-items ws);
+    }
 
 -- In each item there stand one amount, the debtor's IBAN and the creditor's, and one creditor identifier.
 pub one-item : (v : Version) (d : Doc (inItem v)) → Proper (inItem v) d → OneItem (said (inItem v) d)

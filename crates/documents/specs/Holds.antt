@@ -1,8 +1,9 @@
 -- When the profile holds of what a document says.
 use Prim.Native.Nat.{ℕ, _≤_}
 use mathlib.Core.Path.{_≡_}
+use mathlib.Core.Bool.{true, false}
 use mathlib.Core.List.{List, [], _∷_}
-use lib.ListN.{length}
+use lib.ListN.{length, replicate}
 use Rattle.text.specs.Quoted.{decimal}
 use Rattle.answers.specs.Given.{Given, yes, worth, refused}
 use Rattle.codes.specs.declared.Element as code
@@ -12,7 +13,7 @@ use Rattle.profile.specs.Version.{Version}
 use Rattle.profile.specs.Limits.{mostBytes, mostItems}
 use Rattle.profile.specs.Profile.{profile}
 use Rattle.reading.specs.Trace.{What}
-use Rattle.reading.specs.Rules.{itemsIn, valuesOf, centsIn, ownKind}
+use Rattle.reading.specs.Rules.{itemsIn, valuesOf, centsIn, typesIn, ownKind}
 use Rattle.documents.specs.Document.{Each}
 use Rattle.documents.specs.Said.{said}
 use Rattle.documents.specs.Message.{Message, whole, Lawful}
@@ -23,10 +24,19 @@ Passes yes = Unit {0}
 Passes (worth n) = Unit {0}
 Passes (refused n) = ⊥
 
+-- each of the others is so beside the first
+abbrev pub AsFirst : {A : Type 0} → (A → A → Type 0) → List A → Type 0
+AsFirst R [] = Unit {0}
+AsFirst R (v ∷ l) = Each (R v) l
+
 -- each as the first one
 abbrev pub Alike : List (List ℕ) → Type 0
-Alike [] = Unit {0}
-Alike (v ∷ l) = Each (λ w. w ≡ v) l
+Alike = AsFirst (λ v w. w ≡ v)
+
+-- PmtTpInf stands in the header and in no item; or in every item and not in the header
+pub data TypeStands (ws : List What) : Type 0 where
+  inHeader : typesIn ws ≡ true ∷ replicate (itemsIn ws) false → TypeStands ws
+  inItems : typesIn ws ≡ false ∷ replicate (itemsIn ws) true → TypeStands ws
 
 -- what one count or one amount says
 abbrev pub numbers : List (List ℕ) → List ℕ
@@ -41,6 +51,8 @@ amounts (v ∷ l) = cents v ∷ amounts l
 pub record Holds (ws : List What) (n c : ℕ) : Type 0 where
   -- every value is of its kind, and every code is listed
   pub kinds : Each (λ w. Passes (ownKind w)) ws
+  -- the payment type stands in the header or in every item
+  pub type : TypeStands ws
   -- LclInstrm is the same in all items
   pub alike : Alike (valuesOf (Code code.the-variants.LclInstrm) ws)
   -- so many items stand, 10,000 at most, and the header's one count says as many

@@ -1,14 +1,14 @@
 -- What stands behind a refusal: a message too long, a fault met while reading, or one behind `</Document>`.
-use mathlib.Core.Path.{_≡_, refl, sym, _∙_}
-use mathlib.Core.Bool.{Bool, true, false}
-use mathlib.Core.List.{List, [], _∷_, _++_}
+use mathlib.Core.Path.{_≡_, refl, sym, ap, _∙_}
+use mathlib.Core.Bool.{Bool, true, false, not}
+use mathlib.Core.List.{List, [], _∷_, _++_, append-assoc}
 use mathlib.Core.Logic.{_⊎_, inl, inr}
 use Prim.Native.Nat.{ℕ, _+_, _≤_, _<_}
 use native.Mathlib.Omega.{arith}
 use borrow.Author.Tests.{ltb-true, ltb-false, le-ltb, eqb-true, eqb-false}
 use lib.Dec.{ltb, eqb}
 use lib.ListN.{length}
-use Rattle.text.specs.Truth.{pick}
+use Rattle.text.specs.Truth.{pick, either, some}
 use Rattle.text.specs.Quoted.{decimal}
 use Rattle.answers.specs.Given.{Given, yes, worth, refused as no}
 use Rattle.money.specs.Amount.{cents}
@@ -16,18 +16,20 @@ use Rattle.tags.specs.Tags.{skipped}
 use Rattle.profile.specs.declared.Kind.{Kind}
 use Rattle.profile.specs.declared.Kind.the-variants.{Count, Total}
 use Rattle.profile.specs.Limits.{mostBytes}
-use Rattle.reading.specs.Trace.{Entry, Trace, met, upTo, fault, andThen, Opened, from, faulty, opened, behindAll, inside, message}
+use Rattle.profile.specs.Profile.{isType}
+use Rattle.reading.specs.Trace.{What, itemBegins, itemEnds, there, absent, value, Entry, Trace, met, upTo, fault, andThen, Opened, from, faulty, opened, behindAll, inside, message}
 use Rattle.reading.specs.Noted.{Reading, on, stop, onward, Ended, noted}
-use Rattle.reading.specs.Rules.{itemsIn, centsIn, ofKind, weighed}
+use Rattle.reading.specs.Rules.{itemsIn, centsIn, ofKind, typesIn, _so_, unlikeFirst, weighed}
 use Rattle.reading.specs.Verdict.{Judged, accepted, refused}
 use Rattle.reading.specs.Judged.{whats, onlyOf, orRefused, listed, placeIn, placeOf, compared, verdict, judged}
-use Rattle.reading.proofs.Lists.{place-append}
-use Rattle.reading.proofs.Flat.{never, Whole, noted-then}
+use Rattle.reading.proofs.Lists.{whats-append, types-append, place-append}
+use Rattle.reading.proofs.Flat.{never, flat, Whole, noted-then}
+use Rattle.documents.proofs.Lists.{Unlike, as-first, unlike-last}
 use Rattle.faults.specs.Refusals.{_among_, ofForm, ofWhatIsSaid, whileReading, afterTheEnd, inDocument, ReadTo, NoneLeft, Behind, left, count, total}
 use Rattle.faults.proofs.Numbers.{among-left, among-right, not-among}
 use Rattle.faults.proofs.Extends.{needs, Placed, Extends, also, done, wrong, ended}
 use Rattle.faults.proofs.Begins.{document-ext}
-use Rattle.faults.proofs.Weighs.{Said, weighed-said, weighed-there}
+use Rattle.faults.proofs.Weighs.{SaidIn, orFour, weighed-said, Misses, weighed-four, weighed-there}
 
 -- ---- the header's values lie within
 abbrev Reached : ℕ → List Entry → Type 0
@@ -46,6 +48,14 @@ pub data Both (l : ℕ) : Reading (Ended (List Entry)) → Reading (Ended (List 
   before : (n p : ℕ) → n among whileReading → (n ≡ 3 → ⊥) → p < l → Both l (stop n p) (stop n p)
   ends : {y : Reading (Ended (List Entry))} → Both l (stop 3 l) y
 
+-- 4 is met while reading, whatever it is for
+four-read : (n : ℕ) → n among orFour → n among whileReading
+four-read n = go (eqb n 4) refl
+  where
+    go : (b : Bool) → eqb n 4 ≡ b → either b (some (eqb n) ofWhatIsSaid) ≡ true → n among whileReading
+    go true e h = rw (eqb-true n 4 e)
+    go false e h = among-right n ofForm ofWhatIsSaid h
+
 noted-both : {l a : ℕ} {t u : Trace} → Extends l a t u → (es : List Entry) → Reached l es → Both l (noted listed t es) (noted listed u es)
 noted-both (done p h g) es r = through (record { at = p; notes = es }) r
 noted-both (wrong n q f z h) es r = before n q (among-left n ofForm ofWhatIsSaid f) z h
@@ -53,11 +63,11 @@ noted-both ended es r = ends
 noted-both {l} (also e {s} {t} h x) es r =
     go (weighed (whats es) (e .what)) (weighed-said (whats es) (e .what)) (weighed-there (whats es) (e .what)) (noted-both x (es ++ (e ∷ [])) (reached-more l e es h r))
   where
-    go : (g : Given) → Said g → ((n : ℕ) → g ≡ no n → 0 < needs (e .what)) → Both l (noted listed s (es ++ (e ∷ []))) (noted listed t (es ++ (e ∷ [])))
+    go : (g : Given) → SaidIn orFour g → ((n : ℕ) → g ≡ no n → 0 < needs (e .what)) → Both l (noted listed s (es ++ (e ∷ []))) (noted listed t (es ++ (e ∷ [])))
         → Both l (onward (orRefused g (e .place) (es ++ (e ∷ []))) (noted listed s)) (onward (orRefused g (e .place) (es ++ (e ∷ []))) (noted listed t))
     go yes a b c = c
     go (worth v) a b c = c
-    go (no n) a b c = before n (e .place) (among-right n ofForm ofWhatIsSaid a) (not-among 3 ofWhatIsSaid n refl a) (omega (arith, b n refl))
+    go (no n) a b c = before n (e .place) (four-read n a) (not-among 3 orFour n refl a) (omega (arith, b n refl))
 
 abbrev pub documentRead : List ℕ → Reading (Ended (List Entry))
 documentRead m = noted listed (inDocument m (opened m)) []
@@ -65,22 +75,64 @@ documentRead m = noted listed (inDocument m (opened m)) []
 pub document-both : (m x : List ℕ) → Both (length m) (documentRead m) (documentRead (m ++ x))
 document-both m x = noted-both (document-ext m x) [] (λ k. omega arith)
 
--- what stops is refused for what is said, or by the fault that ends the trace
+-- what stops is refused for what is said, or by the fault that ends the trace, or by 4 because the payment type is missing
 abbrev pub Breaks : ℕ → Trace → Type 0
 Breaks n (met e t) = Breaks n t
 Breaks n (upTo p) = ⊥
 Breaks n (fault k q) = k ≡ n
 
-pub noted-stops : (t : Trace) (es : List Entry) (n p : ℕ) → noted listed t es ≡ stop n p → n among ofWhatIsSaid ⊎ Breaks n t
+abbrev pub MissesIn : Trace → List Entry → Type 0
+MissesIn (met e t) es = Misses (whats es) (e .what) ⊎ MissesIn t (es ++ (e ∷ []))
+MissesIn (upTo p) es = ⊥
+MissesIn (fault n q) es = ⊥
+
+pub data Stops (n : ℕ) (t : Trace) (es : List Entry) : Type 0 where
+  said : n among ofWhatIsSaid → Stops n t es
+  broken : Breaks n t → Stops n t es
+  untyped : n ≡ 4 → MissesIn t es → Stops n t es
+
+pub noted-stops : (t : Trace) (es : List Entry) (n p : ℕ) → noted listed t es ≡ stop n p → Stops n t es
 noted-stops (upTo r) es n p e = never (cc)
-noted-stops (fault k r) es n p e = inr (cc)
-noted-stops (met x t) es n p e = go (weighed (whats es) (x .what)) (weighed-said (whats es) (x .what)) (noted-stops t (es ++ (x ∷ [])) n p) e
+noted-stops (fault k r) es n p e = broken (cc)
+noted-stops (met x t) es n p e = go (weighed (whats es) (x .what)) refl (weighed-said (whats es) (x .what)) (noted-stops t (es ++ (x ∷ [])) n p) e
   where
-    go : (g : Given) → Said g → (noted listed t (es ++ (x ∷ [])) ≡ stop n p → n among ofWhatIsSaid ⊎ Breaks n t)
-        → onward (orRefused g (x .place) (es ++ (x ∷ []))) (noted listed t) ≡ stop n p → n among ofWhatIsSaid ⊎ Breaks n t
-    go yes s k e = k e
-    go (worth v) s k e = k e
-    go (no i) s k e = let z : i ≡ n = cc in inl (rw z at s)
+    on-with : Stops n t (es ++ (x ∷ [])) → Stops n (met x t) es
+    on-with (said a) = said a
+    on-with (broken b) = broken b
+    on-with (untyped z h) = untyped z (inr h)
+
+    here : (i : ℕ) (b : Bool) → eqb i 4 ≡ b → weighed (whats es) (x .what) ≡ no i → i ≡ n → either b (some (eqb i) ofWhatIsSaid) ≡ true → Stops n (met x t) es
+    here i true f w z s =
+        let four : i ≡ 4 = eqb-true i 4 f in
+        untyped (sym z ∙ four) (inl (weighed-four (whats es) (x .what) (w ∙ ap no four)))
+    here i false f w z s = said (rw z at s)
+
+    go : (g : Given) → weighed (whats es) (x .what) ≡ g → SaidIn orFour g → (noted listed t (es ++ (x ∷ [])) ≡ stop n p → Stops n t (es ++ (x ∷ [])))
+        → onward (orRefused g (x .place) (es ++ (x ∷ []))) (noted listed t) ≡ stop n p → Stops n (met x t) es
+    go yes w s k e = on-with (k e)
+    go (worth v) w s k e = on-with (k e)
+    go (no i) w s k e = here i (eqb i 4) refl w (cc) s
+
+-- where each has the payment type unlike the first, it is missing nowhere
+pub unlike-misses : (t : Trace) (es : List Entry) → Unlike (typesIn (whats (es ++ flat t))) → MissesIn t es → ⊥
+unlike-misses (upTo p) es h f = f
+unlike-misses (fault n q) es h f = f
+unlike-misses (met e t) es h (inr f) = unlike-misses t (es ++ (e ∷ [])) (rw (append-assoc es (e ∷ []) (flat t)) h) f
+unlike-misses (met e t) es h (inl f) = go (e .what) refl f
+  where
+    go : (w : What) → e .what ≡ w → Misses (whats es) w → ⊥
+    go itemBegins z f = f
+    go itemEnds z f = f
+    go (there n) z f = f
+    go (value k g v) z f = f
+    go (absent n) z f =
+        let y : typesIn (whats (es ++ (e ∷ flat t))) ≡ typesIn (whats es) ++ (pick (isType n) (false ∷ []) [] ++ typesIn (whats (flat t))) =
+        ap typesIn (whats-append es (e ∷ flat t)) ∙ (types-append (whats es) (e .what ∷ whats (flat t)) ∙ rw z) in
+        let u : Unlike (typesIn (whats es) ++ pick (isType n) (false ∷ []) []) =
+        as-first (λ x y. y ≡ not x) (typesIn (whats es) ++ pick (isType n) (false ∷ []) []) (typesIn (whats (flat t)))
+        (rw (append-assoc (typesIn (whats es)) (pick (isType n) (false ∷ []) []) (typesIn (whats (flat t)))) (rw y at h)) in
+        let x : (isType n so unlikeFirst false (typesIn (whats es))) ≡ true = unlike-last (isType n) false (typesIn (whats es)) u in
+        never (let q : true ≡ false = sym x ∙ f in cc)
 
 pub whole-unbroken : (t : Trace) (q n : ℕ) → Whole t q → Breaks n t → ⊥
 whole-unbroken (met e t) q n w b = whole-unbroken t q n w b

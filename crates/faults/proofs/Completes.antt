@@ -31,6 +31,7 @@ use Rattle.faults.specs.Completed.{full}
 use Rattle.faults.proofs.Fronts.{Sights, whole, cut, other, seen, none-left}
 use Rattle.faults.proofs.Extends.{Extends, also, done, wrong, ended, start-wide, priced-ext, valued-ext, then-ext, leaf-ext, group-ext, trace-ext}
 use Rattle.faults.proofs.Fills.{begins-by, ends-by, closed-fills, valued-fills, least, least-full, leaf-follows, group-follows}
+use Rattle.faults.proofs.Lacks.{Lack, lack-begins, lack-ends, Broken, at-once, body-lack}
 use Rattle.faults.proofs.Made.{Due, Fine, Made, made-now, made-as, made-more, filled, filled-up, first-made, then-made, run-same, mend}
 
 abbrev pub Comes : (List ℕ → ℕ → Trace) → ℕ → Type 0
@@ -69,6 +70,7 @@ closed-at n g m w = go (look (exactly (endTag n)) (drop (g m) m)) refl
           more = r .more;
           short = omega (arith, r .short, exactly-length (endTag n));
           fine = rw (w .kept (r .more) (r .led), r .whole) (omega (arith, r .size, exactly-length (endTag n)));
+          lacks = rw (w .kept (r .more) (r .led), r .whole) (omega arith);
         }
 
 closed-comes : (n : String) → Comes (closed n) (length (endTag n))
@@ -82,20 +84,28 @@ valued-comes n k f m p h = go (ltb (behindValue m p) (length m)) refl
     T : List ℕ → Trace
     T s = pick (ltb (behindValue s p) (length s)) (met (value k f (valueAt s p) at p) (closed n s (behindValue s p))) (fault 3 (length s))
 
+    stays-behind : (x : List ℕ) → behindValue m p < length m → behindValue (m ++ x) p ≡ behindValue m p
+    stays-behind x g = run-same inValue refl m x p h (λ z. absurd (let y : ⊥ = omega arith in y))
+
+    stays-within : (x : List ℕ) → behindValue m p < length m → ltb (behindValue m p) (length (m ++ x)) ≡ true
+    stays-within x g = lt-ltb (behindValue m p) (length (m ++ x)) (omega (arith, length-append m x))
+
+    past-end : ltb (length m) (length (m ++ endTag n)) ≡ true
+    past-end = lt-ltb (length m) (length (m ++ endTag n)) (omega (arith, length-append m (endTag n)))
+
     go : (b : Bool) → ltb (behindValue m p) (length m) ≡ b
         → Due (length m) (pick b (met (value k f (valueAt m p) at p) (closed n m (behindValue m p))) (fault 3 (length m))) → Made (length (endTag n)) m T
     go true e d =
         let g : behindValue m p < length m = ltb-true (behindValue m p) (length m) e in
         made-as (length (endTag n)) T (closed-comes n m (behindValue m p) (omega arith) d) (omega arith)
-        (λ x i. rw (run-same inValue refl m x p h (λ z. absurd (let y : ⊥ = omega arith in y)), lt-ltb (behindValue m p) (length (m ++ x)) (omega (arith, length-append m x))) i)
+        (λ x i. rw (stays-behind x g, stays-within x g) i) (λ x i. rw (stays-behind x g, stays-within x g, e) (omega (arith, i)))
     go false e d =
         let g : behindValue m p ≡ length m = omega (arith, ltb-false (behindValue m p) (length m) e, lead-le inValue (drop p m), length-drop p m) in
         record {
           more = endTag n;
           short = omega arith;
-          fine =
-              rw (run-same inValue refl m (endTag n) p h (λ z. text-led n), g, lt-ltb (length m) (length (m ++ endTag n)) (omega (arith, length-append m (endTag n))))
-              (filled (closed n) (endTag n) (closed-fills n) m);
+          fine = rw (run-same inValue refl m (endTag n) p h (λ z. text-led n), g, past-end) (filled (closed n) (endTag n) (closed-fills n) m .0);
+          lacks = rw (run-same inValue refl m (endTag n) p h (λ z. text-led n), g, past-end) (omega (arith, filled (closed n) (endTag n) (closed-fills n) m .1));
         }
 
 -- ---- an element from behind its start tag
@@ -112,10 +122,12 @@ module _ (o : Occ) (n : String) (S : List ℕ → Trace) (p s b : ℕ) (ext : (m
   body-comes : (m : List ℕ) → s ≤ length m → Due (length m) (body m) → Made b m body
   body-comes m h d =
       made-as b body
-      (then-made S (λ m. ends o) m s b 0 (λ k x g. ext k x (omega arith)) (comes m h) (λ k. made-now 0 k (λ j. ends o (length k)) (ends-now o (length k))) b (omega arith)
+      (then-made S (λ m. ends o) m s b 0 (λ k x g. ext k x (omega arith)) (comes m h) (λ k. made-now 0 k (λ j. ends o (length k)) (ends-now o (length k))) (λ k. lack-ends o (length k)) b
+      (omega arith)
       (λ q u v w. made-now b m (λ k. ends o q) (ends-by (λ t. Due (length m) t → Fine (length m) t) (λ e t h. h) o q (λ d. d) w))
       (begins-by (λ t. Due (length m) t → Due (length m) (andThen (S m) (ends o))) (λ e t h. h) o n p (andThen (S m) (ends o)) (λ d. d) d))
       (omega arith) (λ x i. begins-by (Fine (length (m ++ x))) (λ e t h. h) o n p (andThen (S (m ++ x)) (ends o)) i)
+      (λ x i. omega (arith, i, lack-begins o n p (andThen (S (m ++ x)) (ends o)), lack-begins o n p (andThen (S m) (ends o))))
 
 -- ---- at the message's end more is due
 pub none-white : (m : List ℕ) → skipped m (length m) ≡ length m
@@ -124,7 +136,7 @@ none-white m = rw (drop-of-length-le m {i = length m} (omega arith)) (add-zero (
 turn-ends : (o : Occ) (n : String) (tag : List (ℕ → Bool)) → 0 < length tag → (m : List ℕ) (b f r : ℕ → Trace) → turn o n tag m b f r (length m) ≡ fault 3 (length m)
 turn-ends o n tag h m b f r = rw (none-white m, none-left tag h m)
 
-trace-ends : (sh : Shape) (m : List ℕ) → trace sh m (length m) ≡ fault 3 (length m)
+pub trace-ends : (sh : Shape) (m : List ℕ) → trace sh m (length m) ≡ fault 3 (length m)
 unfolding closed
 trace-ends (end n) m = rw (none-white m, none-left (exactly (endTag n)) (omega arith) m)
 trace-ends (leaf o n k f rest) m =
@@ -153,8 +165,23 @@ module _ (n : String) (k : Kind) (f : Field) where
   pv-comes : (m : List ℕ) (p : ℕ) → (isAmount k ≡ true → 5 ≤ p) → p ≤ length m → Due (length m) (pricedValue m p) → Made (length (endTag n)) m (λ m. pricedValue m p)
   pv-comes m p five h =
       then-made (λ m. priced (isAmount k) m p) (valued n k f) m p 0 (length (endTag n)) (λ j x g. priced-ext j x (isAmount k) p (omega arith) five)
-      (λ d. made-now 0 m (λ m. priced (isAmount k) m p) (priced-fine (isAmount k) m p d)) (filled-up (valued n k f) (endTag n) (valued-fills n k f)) (length (endTag n)) (omega arith)
+      (λ d. made-now 0 m (λ m. priced (isAmount k) m p) (priced-fine (isAmount k) m p d)) (filled-up (valued n k f) (endTag n) (valued-fills n k f))
+      (λ j. ap Lack (valued-ends n k f j)) (length (endTag n)) (omega arith)
       (λ q u v w. valued-comes n k f m q v w)
+
+  pv-broken : (m : List ℕ) → Broken (pricedValue m (length m))
+  pv-broken m = go (isAmount k)
+    where
+      last : Broken (valued n k f m (length m))
+      last = rw (valued-ends n k f m) (at-once 3 (length m))
+
+      go : (b : Bool) → Broken (andThen (priced b m (length m)) (valued n k f m))
+      go false = last
+      go true = euro (inEuro m (length m))
+        where
+          euro : (b : Bool) → Broken (andThen (pick b (upTo (length m)) (fault 6 (currencyPlace (length m)))) (valued n k f m))
+          euro true = last
+          euro false = at-once 6 (currencyPlace (length m))
 
   pv-due : (m : List ℕ) → Due (length m) (pricedValue m (length m))
   pv-due m = go (isAmount k)
@@ -195,8 +222,9 @@ module _ (n : String) (tag : List (ℕ → Bool)) (some : 0 < length tag) (first
     (B R : List ℕ → ℕ → Trace) (bb br : ℕ)
     (bext : (m x : List ℕ) (p : ℕ) → p + length tag ≤ length m → Extends (length m) (p + length tag) (B m p) (B (m ++ x) p))
     (bcom : (m : List ℕ) (p : ℕ) → p + length tag ≤ length m → Due (length m) (B m p) → Made bb m (λ k. B k p))
-    (bdue : (m : List ℕ) (p : ℕ) → p + length tag ≡ length m → Due (length m) (B m p)) (rcom : Comes R br) where
-  module _ (o : Occ) (F : List ℕ → ℕ → Trace) (be b : ℕ) (ef : (m : List ℕ) → Made be m (λ k. F k (length m))) (enough : length tag + bb + be ≤ b) (wide : br ≤ b) where
+    (bdue : (m : List ℕ) (p : ℕ) → p + length tag ≡ length m → Due (length m) (B m p))
+    (bz : (m : List ℕ) (p : ℕ) → p + length tag ≡ length m → (f : ℕ → Trace) → Lack (andThen (B m p) f) ≡ 0) (rcom : Comes R br) where
+  module _ (o : Occ) (F : List ℕ → ℕ → Trace) (be b : ℕ) (ef : (m : List ℕ) → Made be m (λ k. F k (length m))) (ez : (m : List ℕ) → Lack (F m (length m)) ≡ 0) (enough : length tag + bb + be ≤ b) (wide : br ≤ b) where
     abbrev Turn : List ℕ → ℕ → Trace
     Turn k p = turn o n tag k (B k) (F k) (R k) p
 
@@ -219,16 +247,20 @@ module _ (n : String) (tag : List (ℕ → Bool)) (some : 0 < length tag) (first
         passed : (o : Occ) → look tag (drop q m) ≡ Other → Due (length m) (missing o n q (R m q)) → Made b m (λ k. turn o n tag k (B k) (F k) (R k) p)
         passed once e d = elim d [ inl z ↦ absurd (let y : ⊥ = omega arith in y) | inr z ↦ absurd (let y : ⊥ = omega arith in y) ]
         passed many e d = elim d [ inl z ↦ absurd (let y : ⊥ = omega arith in y) | inr z ↦ absurd (let y : ⊥ = omega arith in y) ]
-        passed optional e d = made-as b (λ k. turn optional n tag k (B k) (F k) (R k) p) (rcom m q qh d) wide (λ x i. let y = on x Other e (λ z. never (cc)) in rw (y .0, y .1) i)
-        passed more e d = made-as b (λ k. turn more n tag k (B k) (F k) (R k) p) (rcom m q qh d) wide (λ x i. let y = on x Other e (λ z. never (cc)) in rw (y .0, y .1) i)
+        passed optional e d =
+            made-as b (λ k. turn optional n tag k (B k) (F k) (R k) p) (rcom m q qh d) wide (λ x i. let y = on x Other e (λ z. never (cc)) in rw (y .0, y .1) i)
+            (λ x i. let y = on x Other e (λ z. never (cc)) in rw (y .0, y .1, e) (omega (arith, i)))
+        passed more e d =
+            made-as b (λ k. turn more n tag k (B k) (F k) (R k) p) (rcom m q qh d) wide (λ x i. let y = on x Other e (λ z. never (cc)) in rw (y .0, y .1) i)
+            (λ x i. let y = on x Other e (λ z. never (cc)) in rw (y .0, y .1, e) (omega (arith, i)))
 
         go : (l : Look) → look tag (drop q m) ≡ l → Due (length m) (onLook l (andThen (B m q) (F m)) (fault 3 (length m)) (missing o n q (R m q))) → Made b m (λ k. Turn k p)
         go Other e d = passed o e d
         go Complete e d =
             let f : q + length tag ≤ length m = omega (arith, qh, look-fits tag (drop q m) e, length-drop q m) in
             made-as b (λ k. Turn k p)
-            (then-made (λ k. B k q) F m (q + length tag) bb be (λ j x g. bext j x q (omega arith)) (bcom m q f) ef b (omega arith) (λ t u v w. cf t (omega arith) v w) d) (omega arith)
-            (λ x i. let y = on x Complete e (λ z. never (cc)) in rw (y .0, y .1) i)
+            (then-made (λ k. B k q) F m (q + length tag) bb be (λ j x g. bext j x q (omega arith)) (bcom m q f) ef ez b (omega arith) (λ t u v w. cf t (omega arith) v w) d) (omega arith)
+            (λ x i. let y = on x Complete e (λ z. never (cc)) in rw (y .0, y .1) i) (λ x i. let y = on x Complete e (λ z. never (cc)) in rw (y .0, y .1, e) i)
         go Cut e d =
             let r = mend tag first led fits same m q qh e in
             let k : List ℕ = m ++ r .more in
@@ -236,10 +268,11 @@ module _ (n : String) (tag : List (ℕ → Bool)) (some : 0 < length tag) (first
             let g : Place (λ k. skipped k p) k = behind-white k p (omega (arith, length-append m (r .more))) in
             made-more b m (r .more) (λ k. Turn k p)
             (made-as (bb + be) (λ k. Turn k p)
-            (first-made (λ j. B j q) F k (q + length tag) bb be (λ j x i. bext j x q (omega (arith, r .size))) (bcom k q (omega (arith, r .size))) ef (bb + be) (omega arith)
+            (first-made (λ j. B j q) F k (q + length tag) bb be (λ j x i. bext j x q (omega (arith, r .size))) (bcom k q (omega (arith, r .size))) ef ez (bb + be) (omega arith)
             (bdue k q (sym (r .size))))
-            (omega arith) (λ x i. let y = stays tag some (λ k. skipped k p) k x q g s Complete (r .whole) (λ z. never (cc)) in rw (y .0, y .1) i))
-            (omega (arith, r .short))
+            (omega arith) (λ x i. let y = stays tag some (λ k. skipped k p) k x q g s Complete (r .whole) (λ z. never (cc)) in rw (y .0, y .1) i)
+            (λ x i. let y = stays tag some (λ k. skipped k p) k x q g s Complete (r .whole) (λ z. never (cc)) in rw (y .0, y .1, s, r .whole) i))
+            (omega (arith, r .short)) (rw (s, r .whole) (omega (arith, bz k q (sym (r .size)) (F k))))
 
   -- each time round moves on: more times than there are bytes change nothing
   abbrev rows : List ℕ → ℕ → Trace
@@ -265,24 +298,38 @@ module _ (n : String) (tag : List (ℕ → Bool)) (some : 0 < length tag) (first
   rows-turn m p h g = again-same m (length m) (suc (length m)) p g (omega arith) (omega arith)
 
   module _ (be b : ℕ) (enough : length tag + bb + be ≤ b) (wide : br ≤ b) where
-    rows-comes : ((m : List ℕ) → Made be m (λ k. rows k (length m))) → (i : ℕ) (m : List ℕ) (p : ℕ) → 1 ≤ p → p ≤ length m → length m < i + p
+    rows-comes : ((m : List ℕ) → Made be m (λ k. rows k (length m))) → ((m : List ℕ) → Lack (rows m (length m)) ≡ 0) → (i : ℕ) (m : List ℕ) (p : ℕ) → 1 ≤ p → p ≤ length m → length m < i + p
         → Due (length m) (rows m p) → Made b m (λ k. rows k p)
-    rows-comes ef zero m p l h g d = never (omega arith)
-    rows-comes ef (suc i) m p l h g d =
+    rows-comes ef ez zero m p l h g d = never (omega arith)
+    rows-comes ef ez (suc i) m p l h g d =
         made-as b (λ k. rows k p)
-        (turn-comes more rows be b ef enough wide m p h (λ q u v w. rows-comes ef i m q (omega arith) v (omega arith) w) (rw (rows-turn m p l h) at d)) (omega arith)
+        (turn-comes more rows be b ef ez enough wide m p h (λ q u v w. rows-comes ef ez i m q (omega arith) v (omega arith) w) (rw (rows-turn m p l h) at d)) (omega arith)
         (λ x i. rw (rows-turn (m ++ x) p l (omega (arith, length-append m x))) i)
+        (λ x i. rw (rows-turn (m ++ x) p l (omega (arith, length-append m x)), rows-turn m p l h) i)
 
-    follow-comes : (o : Occ) → ((m : List ℕ) → Made be m (λ k. follow o (length k) n tag k (B k) (R k) (length m))) → (m : List ℕ) (p : ℕ) → 1 ≤ p → p ≤ length m
+    follow-comes : (o : Occ) → ((m : List ℕ) → Made be m (λ k. follow o (length k) n tag k (B k) (R k) (length m)))
+        → ((m : List ℕ) → Lack (follow o (length m) n tag m (B m) (R m) (length m)) ≡ 0) → (m : List ℕ) (p : ℕ) → 1 ≤ p → p ≤ length m
         → Due (length m) (follow o (length m) n tag m (B m) (R m) p) → Made b m (λ k. follow o (length k) n tag k (B k) (R k) p)
-    follow-comes once ef m p l h d = made-as b (λ k. R k p) (rcom m p h d) wide (λ x i. i)
-    follow-comes optional ef m p l h d = made-as b (λ k. R k p) (rcom m p h d) wide (λ x i. i)
-    follow-comes many ef m p l h d = rows-comes ef (suc (length m)) m p l h (omega arith) d
-    follow-comes more ef m p l h d = rows-comes ef (suc (length m)) m p l h (omega arith) d
+    follow-comes once ef ez m p l h d = made-as b (λ k. R k p) (rcom m p h d) wide (λ x i. i) (λ x i. i)
+    follow-comes optional ef ez m p l h d = made-as b (λ k. R k p) (rcom m p h d) wide (λ x i. i) (λ x i. i)
+    follow-comes many ef ez m p l h d = rows-comes ef ez (suc (length m)) m p l h (omega arith) d
+    follow-comes more ef ez m p l h d = rows-comes ef ez (suc (length m)) m p l h (omega arith) d
 
-    child-comes : (o : Occ) → ((m : List ℕ) → Made be m (λ k. follow o (length k) n tag k (B k) (R k) (length m))) → Comes (λ m. child o n tag m (B m) (R m)) b
-    child-comes o ef m p h d =
-        turn-comes o (λ k. follow o (length k) n tag k (B k) (R k)) be b ef enough wide m p h (λ q u v w. follow-comes o ef m q (omega arith) v w) d
+    child-comes : (o : Occ) → ((m : List ℕ) → Made be m (λ k. follow o (length k) n tag k (B k) (R k) (length m)))
+        → ((m : List ℕ) → Lack (R m (length m)) ≡ 0) → Comes (λ m. child o n tag m (B m) (R m)) b
+    child-comes o ef rz m p h d =
+        turn-comes o (λ k. follow o (length k) n tag k (B k) (R k)) be b ef (λ k. follow-ends o k) enough wide m p h
+        (λ q u v w. follow-comes o ef (λ k. follow-ends o k) m q (omega arith) v w) d
+      where
+        again-ends : (i : ℕ) (k : List ℕ) → Lack (again i n tag k (B k) (R k) (length k)) ≡ 0
+        again-ends zero k = rz k
+        again-ends (suc i) k = ap Lack (turn-ends more n tag some k (B k) (again i n tag k (B k) (R k)) (R k))
+
+        follow-ends : (o : Occ) (k : List ℕ) → Lack (follow o (length k) n tag k (B k) (R k) (length k)) ≡ 0
+        follow-ends once k = rz k
+        follow-ends optional k = rz k
+        follow-ends many k = again-ends (length k) k
+        follow-ends more k = again-ends (length k) k
 
 -- ---- by the tree: one text of every element
 -- a body of which what it holds is due is due
@@ -302,9 +349,10 @@ module _ (o : Occ) (n : String) (rest : Shape) (s : sure rest ≡ true) (rcom : 
       (λ m p h d. body-comes o n (λ m. pricedValue n k f m (p + length tag)) p (p + length tag) (length (endTag n))
       (λ m x h. then-ext (valued n k f m) (valued n k f (m ++ x)) (priced-ext m x a (p + length tag) h (five p)) (λ q u v. valued-ext m x n k f q v))
       (λ m h d. pv-comes n k f m (p + length tag) (five p) h d) m h d)
-      (λ m p e. body-due o n p (length m) (pricedValue n k f m (p + length tag)) (rw e (pv-due n k f m))) rcom
+      (λ m p e. body-due o n p (length m) (pricedValue n k f m (p + length tag)) (rw e (pv-due n k f m)))
+      (λ m p e g. body-lack o n p (pricedValue n k f m (p + length tag)) g (rw e (pv-broken n k f m))) rcom
       (length (least rest)) (full (leaf o n k f rest)) (omega (arith, least-full rest)) (omega arith) o
-      (filled-up (λ m. follow o (length m) n tag m (leafBody o n k f m) (trace rest m)) (least rest) (leaf-follows o n rest s k f t))
+      (filled-up (λ m. follow o (length m) n tag m (leafBody o n k f m) (trace rest m)) (least rest) (leaf-follows o n rest s k f t)) (λ m. ap Lack (trace-ends rest m))
     where
       a : Bool
       a = isAmount k
@@ -322,15 +370,20 @@ module _ (o : Occ) (n : String) (rest : Shape) (s : sure rest ≡ true) (rcom : 
       (full inner) (full rest) (λ m x p h. group-ext m x o n (trace inner m) (trace inner (m ++ x)) (λ q u v. trace-ext m x inner q v) p h)
       (λ m p h d. body-comes o n (λ m. trace inner m (p + length (plainTag n))) p (p + length (plainTag n)) (full inner) (λ m x h. trace-ext m x inner (p + length (plainTag n)) h)
       (λ m h d. jcom m (p + length (plainTag n)) h d) m (omega (arith, exactly-length (plainTag n))) d)
-      (λ m p e. body-due o n p (length m) (trace inner m (p + length (plainTag n))) (here m p (omega (arith, e, exactly-length (plainTag n))))) rcom
+      (λ m p e. body-due o n p (length m) (trace inner m (p + length (plainTag n))) (here m p (omega (arith, e, exactly-length (plainTag n)))))
+      (λ m p e g. body-lack o n p (trace inner m (p + length (plainTag n))) g (broken m p (omega (arith, e, exactly-length (plainTag n))))) rcom
       (length (least rest)) (full (group o n inner rest)) (omega (arith, least-full rest, exactly-length (plainTag n))) (omega arith) o
       (filled-up (λ m. follow o (length m) n tag m (groupBody o n (trace inner m)) (trace rest m)) (least rest) (group-follows o n rest s inner i t))
+      (λ m. ap Lack (trace-ends rest m))
     where
       tag : List (ℕ → Bool)
       tag = exactly (plainTag n)
 
       here : (m : List ℕ) (p : ℕ) → p + length (plainTag n) ≡ length m → Due (length m) (trace inner m (p + length (plainTag n)))
       here m p e = rw (e, trace-ends inner m) (inl refl)
+
+      broken : (m : List ℕ) (p : ℕ) → p + length (plainTag n) ≡ length m → Broken (trace inner m (p + length (plainTag n)))
+      broken m p e = rw (e, trace-ends inner m) (at-once 3 (length m))
 
 pub trace-comes : (sh : Shape) → sure sh ≡ true → Comes (trace sh) (full sh)
 trace-comes (end n) t = λ m p h d. closed-at n (λ k. skipped k p) m (behind-white m p h) d

@@ -3,10 +3,12 @@ pub mod Extends
 pub mod Begins
 pub mod Weighs
 pub mod Numbers
+pub mod Lacks
 pub mod Causes
 pub mod Faults
 pub mod Fills
 pub mod Made
 pub mod Completes
+pub mod Missing
 pub mod Three
 pub mod Documents

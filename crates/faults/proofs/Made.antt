@@ -17,6 +17,7 @@ use Rattle.reading.proofs.Flat.{never, Whole}
 use Rattle.faults.proofs.Fronts.{runs}
 use Rattle.faults.proofs.Extends.{Extends, also, done, wrong, ended}
 use Rattle.documents.proofs.Texts.{Starts}
+use Rattle.faults.proofs.Lacks.{lack, Lack, lack-then, lack-first}
 use Rattle.faults.proofs.Fills.{Fills}
 
 -- ---- of a trace of l bytes: all was read and nothing is left, or more is due (3), or a currency is wrong (6); and without the 3
@@ -51,10 +52,10 @@ due-after (met e t) f l d = elim (due-after t f l d) [ inl a ↦ inl (record { a
 due-after (upTo p) f l d = inl (record { at = p; first = refl; then = d })
 due-after (fault n q) f l d = inr d
 
-fine-after : (t : Trace) (f : ℕ → Trace) (l : ℕ) → Fine l t → Whole t l ⊎ Fine l (andThen t f)
-fine-after (met e t) f l h = fine-after t f l h
+fine-after : (t : Trace) (f : ℕ → Trace) (l : ℕ) → Fine l t → Whole t l ⊎ (Fine l (andThen t f) × (Lack (andThen t f) ≡ Lack t))
+fine-after (met e t) f l h = elim (fine-after t f l h) [ inl w ↦ inl w | inr g ↦ inr (g .0, ap (λ (i : ℕ). lack (e .what) + i) (g .1)) ]
 fine-after (upTo p) f l h = inl h
-fine-after (fault n q) f l h = inr h
+fine-after (fault n q) f l h = inr (h, refl)
 
 -- a part that is whole is the same in the message continued, and lies between
 pub extends-whole : {l a : ℕ} {s t : Trace} (q : ℕ) → Extends l a s t → Whole s q → (s ≡ t) × (a ≤ q) × (q ≤ l)
@@ -63,54 +64,66 @@ extends-whole q (done p h g) w = (refl, omega arith, omega arith)
 extends-whole q (wrong n r f z h) w = absurd w
 extends-whole q ended w = absurd w
 
--- ---- continued with at most B bytes
+-- ---- continued with at most B bytes, in which no payment type is missing
 pub record Made (B : ℕ) (m : List ℕ) (T : List ℕ → Trace) : Type 0 where
   pub more : List ℕ
   pub short : length more ≤ B
   pub fine : Fine (length (m ++ more)) (T (m ++ more))
+  pub lacks : Lack (T (m ++ more)) ≤ Lack (T m)
 
 pub made-now : (B : ℕ) (m : List ℕ) (T : List ℕ → Trace) → Fine (length m) (T m) → Made B m T
-made-now B m T h = record { more = []; short = omega arith; fine = rw (append-nil m) h }
+made-now B m T h = record { more = []; short = omega arith; fine = rw (append-nil m) h; lacks = rw (append-nil m) (omega arith) }
 
 pub made-as : {B : ℕ} (C : ℕ) {m : List ℕ} {T : List ℕ → Trace} (U : List ℕ → Trace) → Made B m T → B ≤ C
-    → ((x : List ℕ) → Fine (length (m ++ x)) (T (m ++ x)) → Fine (length (m ++ x)) (U (m ++ x))) → Made C m U
-made-as C U d h k = record { more = d .more; short = omega (arith, d .short); fine = k (d .more) (d .fine) }
+    → ((x : List ℕ) → Fine (length (m ++ x)) (T (m ++ x)) → Fine (length (m ++ x)) (U (m ++ x)))
+    → ((x : List ℕ) → Lack (T (m ++ x)) ≤ Lack (T m) → Lack (U (m ++ x)) ≤ Lack (U m)) → Made C m U
+made-as C U d h k j = record { more = d .more; short = omega (arith, d .short); fine = k (d .more) (d .fine); lacks = j (d .more) (d .lacks) }
 
-pub made-more : {B : ℕ} (C : ℕ) (m w : List ℕ) (T : List ℕ → Trace) → Made B (m ++ w) T → length w + B ≤ C → Made C m T
-made-more C m w T d h =
+pub made-more : {B : ℕ} (C : ℕ) (m w : List ℕ) (T : List ℕ → Trace) → Made B (m ++ w) T → length w + B ≤ C → Lack (T (m ++ w)) ≤ Lack (T m) → Made C m T
+made-more C m w T d h j =
     record {
       more = w ++ d .more;
       short = omega (arith, length-append w (d .more), d .short);
       fine = rw (← append-assoc m w (d .more)) (d .fine);
+      lacks = rw (← append-assoc m w (d .more)) (omega (arith, d .lacks, j));
     }
 
 -- a text that fills what is due at the message's end
 module _ (F : List ℕ → ℕ → Trace) (y : List ℕ) (h : Fills F y) (m : List ℕ) where
-  pub filled : Fine (length (m ++ y)) (F (m ++ y) (length m))
-  filled =
-      whole-fine (F (m ++ y) (length m)) (length m + length y) (length (m ++ y)) (sym (length-append m y))
-      (h (m ++ y) (length m) [] (drop-append-seam m y ∙ sym (append-nil y)))
+  abbrev its : Whole (F (m ++ y) (length m)) (length m + length y) × (Lack (F (m ++ y) (length m)) ≡ 0)
+  its = h (m ++ y) (length m) [] (drop-append-seam m y ∙ sym (append-nil y))
+
+  pub filled : Fine (length (m ++ y)) (F (m ++ y) (length m)) × (Lack (F (m ++ y) (length m)) ≡ 0)
+  filled = (whole-fine (F (m ++ y) (length m)) (length m + length y) (length (m ++ y)) (sym (length-append m y)) (its .0), its .1)
 
   pub filled-up : Made (length y) m (λ n. F n (length m))
-  filled-up = record { more = y; short = omega arith; fine = filled }
+  filled-up = record { more = y; short = omega arith; fine = filled .0; lacks = omega (arith, filled .1) }
 
 -- ---- one part after another
 module _ (S : List ℕ → Trace) (F : List ℕ → ℕ → Trace) (m : List ℕ) (a bs be : ℕ)
     (ext : (n x : List ℕ) → length m ≤ length n → Extends (length n) a (S n) (S (n ++ x)))
-    (cs : Due (length m) (S m) → Made bs m S) (ef : (n : List ℕ) → Made be n (λ k. F k (length n))) where
+    (cs : Due (length m) (S m) → Made bs m S) (ef : (n : List ℕ) → Made be n (λ k. F k (length n))) (ez : (n : List ℕ) → Lack (F n (length n)) ≡ 0) where
+  -- a part that is whole is the same continued, and what follows it counts
+  whole-lacks : (n x : List ℕ) (q : ℕ) → length m ≤ length n → Whole (S n) q → Lack (andThen (S (n ++ x)) (F (n ++ x))) ≡ Lack (S n) + Lack (F (n ++ x) q)
+  whole-lacks n x q h w = rw (← extends-whole q (ext n x h) w .0) (lack-then (S n) (F (n ++ x)) q w)
+
   pub first-made : (B : ℕ) → bs + be ≤ B → Due (length m) (S m) → Made B m (λ n. andThen (S n) (F n))
   first-made B h d = go (cs d)
     where
       go : Made bs m S → Made B m (λ n. andThen (S n) (F n))
       go c = elim (fine-after (S n) (F n) (length n) (c .fine)) [
-        | inr f ↦ record { more = c .more; short = omega (arith, c .short); fine = f }
+        | inr f ↦ record { more = c .more; short = omega (arith, c .short); fine = f .0; lacks = omega (arith, f .1, c .lacks, lack-first (S m) (F m)) }
         | inl w ↦ made-more B m (c .more) (λ n. andThen (S n) (F n)) (made-as be (λ n. andThen (S n) (F n)) (ef n) (omega arith) (λ x f.
-            fine-then (S (n ++ x)) (F (n ++ x)) (length n) (length (n ++ x)) (rw (extends-whole (length n) (ext n x (omega (arith, length-append m (c .more)))) w .0) at w) f))
-            (omega (arith, c .short))
+            fine-then (S (n ++ x)) (F (n ++ x)) (length n) (length (n ++ x)) (rw (extends-whole (length n) (ext n x (omega (arith, length-append m (c .more)))) w .0) at w) f)
+            (λ x f. omega (arith, f, whole-lacks n x (length n) long w, lack-then (S n) (F n) (length n) w)))
+            (omega (arith, c .short)) (omega (arith, c .lacks, lack-then (S n) (F n) (length n) w, ez n, lack-first (S m) (F m)))
       ]
         where
           n : List ℕ
           n = m ++ c .more
+
+          long : length m ≤ length n
+          long = omega (arith, length-append m (c .more))
 
   pub then-made : (B : ℕ) → bs + be ≤ B → ((q : ℕ) → a ≤ q → q ≤ length m → Due (length m) (F m q) → Made B m (λ n. F n q))
       → Due (length m) (andThen (S m) (F m)) → Made B m (λ n. andThen (S n) (F n))
@@ -123,6 +136,7 @@ module _ (S : List ℕ → Trace) (F : List ℕ → ℕ → Trace) (m : List ℕ
       go o r =
           made-as B (λ n. andThen (S n) (F n)) (cf (o .at) (r .1) (r .2) (o .then)) (omega arith)
           (λ x f. fine-then (S (m ++ x)) (F (m ++ x)) (o .at) (length (m ++ x)) (rw (extends-whole (o .at) (ext m x (omega arith)) (o .first) .0) at (o .first)) f)
+          (λ x f. omega (arith, f, whole-lacks m x (o .at) (omega arith) (o .first), lack-then (S m) (F m) (o .at) (o .first)))
 
 -- ---- a run of bytes that pass ends where it did, if what comes behind the message begins with another
 pub run-same : (f : ℕ → Bool) → f 60 ≡ false → (m x : List ℕ) (p : ℕ) → p ≤ length m → (p + lead f (drop p m) ≡ length m → Starts x)

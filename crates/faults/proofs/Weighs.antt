@@ -5,7 +5,7 @@ use mathlib.Core.List.{List, [], _∷_}
 use Prim.Native.Nat.{ℕ, suc, _<_}
 use Prim.Native.String.{String}
 use native.Mathlib.Omega.{arith}
-use lib.Dec.{eqb}
+use lib.Dec.{eqb, ltb}
 use Rattle.text.specs.Truth.{both, some, between}
 use Rattle.text.specs.Quoted.{is, decimal}
 use Rattle.text.proofs.Truths.{both-true}
@@ -30,32 +30,41 @@ use Rattle.profile.specs.declared.Kind.{Kind}
 use Rattle.profile.specs.declared.Kind.the-variants.{Plain, Count, Total, Amount, Code}
 use Rattle.profile.specs.declared.Simple.{Simple}
 use Rattle.profile.specs.declared.Simple.the-variants.{Reference, EndToEnd, Text70, Text140, Date, Time, Bic, Iban, Identifier}
+use Rattle.profile.specs.Limits.{mostItems}
+use Rattle.profile.specs.Profile.{isType}
 use Rattle.kinds.specs.Given.{simpleGiven, kindGiven}
 use Rattle.reading.specs.Trace.{What, itemBegins, itemEnds, there, absent, value}
-use Rattle.reading.specs.Rules.{rules, ownKind, fitting, weighed}
+use Rattle.reading.specs.Rules.{itemsIn, typesIn, _so_, unlikeFirst, rules, ownKind, fitting, weighed}
 use Rattle.reading.proofs.Flat.{never}
 use Rattle.faults.specs.Refusals.{_among_, ofWhatIsSaid}
+use Rattle.faults.proofs.Numbers.{among-right, not-among}
 use Rattle.faults.proofs.Extends.{needs}
 
 -- no refusal, or one of these numbers
-abbrev pub Said : Given → Type 0
-Said yes = Unit {0}
-Said (worth v) = Unit {0}
-Said (refused n) = n among ofWhatIsSaid
+abbrev pub SaidIn : List ℕ → Given → Type 0
+SaidIn ns yes = Unit {0}
+SaidIn ns (worth v) = Unit {0}
+SaidIn ns (refused n) = n among ns
 
-abbrev allSaid : List Rule → Bool
-allSaid [] = true
-allSaid (r ∷ l) = both (some (eqb (r .number)) ofWhatIsSaid) (allSaid l)
+abbrev allSaid : List ℕ → List Rule → Bool
+allSaid ns [] = true
+allSaid ns (r ∷ l) = both (some (eqb (r .number)) ns) (allSaid ns l)
 
-in-order : (l : List Rule) (g : Given) → allSaid l ≡ true → Said g → Said (inOrder l g)
-in-order [] g e h = h
-in-order (r ∷ l) g e h =
-    let t = both-true (some (eqb (r .number)) ofWhatIsSaid) (allSaid l) e in
-    go (r .test) (t .0) (in-order l g (t .1) h)
+in-order-of : (ns : List ℕ) (l : List Rule) (g : Given) → allSaid ns l ≡ true → SaidIn ns g → SaidIn ns (inOrder l g)
+in-order-of ns [] g e h = h
+in-order-of ns (r ∷ l) g e h =
+    let t = both-true (some (eqb (r .number)) ns) (allSaid ns l) e in
+    go (r .test) (t .0) (in-order-of ns l g (t .1) h)
   where
-    go : (b : Bool) → r .number among ofWhatIsSaid → Said (inOrder l g) → Said (inOrder (record { test = b; number = r .number } ∷ l) g)
+    go : (b : Bool) → r .number among ns → SaidIn ns (inOrder l g) → SaidIn ns (inOrder (record { test = b; number = r .number } ∷ l) g)
     go true n k = k
     go false n k = n
+
+abbrev Said : Given → Type 0
+Said = SaidIn ofWhatIsSaid
+
+in-order : (l : List Rule) (g : Given) → allSaid ofWhatIsSaid l ≡ true → Said g → Said (inOrder l g)
+in-order = in-order-of ofWhatIsSaid
 
 -- ---- by the kinds
 simple-said : (s : Simple) (v : List ℕ) → Said (simpleGiven s v)
@@ -90,11 +99,14 @@ kind-said Total v = amount-said range.Total v
 kind-said Amount v = amount-said range.Item v
 kind-said (Code e) v = place-said 0 (codesOf e) v
 
--- ---- and by the rules
-fitting-said : (g h : Given) → Said g → Said h → Said (fitting g h)
+-- ---- and by the rules: or 4
+abbrev pub orFour : List ℕ
+orFour = 4 ∷ ofWhatIsSaid
+
+fitting-said : (g h : Given) → Said g → SaidIn orFour h → SaidIn orFour (fitting g h)
 fitting-said yes h a b = b
 fitting-said (worth n) h a b = b
-fitting-said (refused n) h a b = a
+fitting-said (refused n) h a b = among-right n (4 ∷ []) ofWhatIsSaid a
 
 own-said : (w : What) → Said (ownKind w)
 own-said itemBegins = tt
@@ -103,15 +115,55 @@ own-said (there n) = tt
 own-said (absent n) = tt
 own-said (value k f v) = kind-said k v
 
-rules-said : (before : List What) (w : What) → allSaid (rules before w) ≡ true
+rules-said : (before : List What) (w : What) → allSaid orFour (rules before w) ≡ true
 rules-said before itemBegins = refl
 rules-said before itemEnds = refl
 rules-said before (there n) = refl
 rules-said before (absent n) = refl
 rules-said before (value k f v) = refl
 
-pub weighed-said : (before : List What) (w : What) → Said (weighed before w)
-weighed-said before w = fitting-said (ownKind w) (inOrder (rules before w) yes) (own-said w) (in-order (rules before w) yes (rules-said before w) tt)
+pub weighed-said : (before : List What) (w : What) → SaidIn orFour (weighed before w)
+weighed-said before w = fitting-said (ownKind w) (inOrder (rules before w) yes) (own-said w) (in-order-of orFour (rules before w) yes (rules-said before w) tt)
+
+-- 4 comes only where the payment type is missing in both, header and item
+abbrev pub Misses : List What → What → Type 0
+Misses before itemBegins = ⊥
+Misses before itemEnds = ⊥
+Misses before (there n) = ⊥
+Misses before (absent n) = (isType n so unlikeFirst false (typesIn before)) ≡ false
+Misses before (value k f v) = ⊥
+
+pub weighed-four : (before : List What) (w : What) → weighed before w ≡ refused 4 → Misses before w
+weighed-four before itemBegins = go (ltb (itemsIn before) mostItems)
+  where
+    go : (b : Bool) → inOrder (b else 12 ∷ []) yes ≡ refused 4 → ⊥
+    go true e = never (cc)
+    go false e = never (let z : _≡_ {A = ℕ} 12 4 = cc in omega arith)
+weighed-four before itemEnds = λ e. never (cc)
+weighed-four before (there n) = go (isType n so unlikeFirst true (typesIn before))
+  where
+    go : (b : Bool) → inOrder (b else 23 ∷ []) yes ≡ refused 4 → ⊥
+    go true e = never (cc)
+    go false e = never (let z : _≡_ {A = ℕ} 23 4 = cc in omega arith)
+weighed-four before (absent n) = go (isType n so unlikeFirst false (typesIn before))
+  where
+    go : (b : Bool) → inOrder (b else 4 ∷ []) yes ≡ refused 4 → b ≡ false
+    go true e = never (cc)
+    go false e = refl
+weighed-four before (value k f v) = go (kindGiven k v) (kind-said k v) (inOrder (rules before (value k f v)) yes) (in-order (rules before (value k f v)) yes refl tt)
+  where
+    four : (n : ℕ) → n among ofWhatIsSaid → refused n ≡ refused 4 → ⊥
+    four n a e = not-among 4 ofWhatIsSaid n refl a (cc)
+
+    own : (h : Given) → Said h → h ≡ refused 4 → ⊥
+    own yes b e = never (cc)
+    own (worth n) b e = never (cc)
+    own (refused n) b e = four n b e
+
+    go : (g : Given) → Said g → (h : Given) → Said h → fitting g h ≡ refused 4 → ⊥
+    go yes a h b e = own h b e
+    go (worth n) a h b e = own h b e
+    go (refused n) a h b e = four n a e
 
 -- an entry that is refused has a byte there
 pub weighed-there : (before : List What) (w : What) (n : ℕ) → weighed before w ≡ refused n → 0 < needs w

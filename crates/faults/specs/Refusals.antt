@@ -26,9 +26,9 @@ _among_ n l = some (eqb n) l ≡ true
 abbrev pub ofForm : List ℕ
 ofForm = 2 ∷ 3 ∷ 4 ∷ 6 ∷ []
 
--- what is said: a value of its kind, an item, and what was said before
+-- what is said: a value of its kind, an item, what was said before (and 4, where the payment type is missing in both, header and item)
 abbrev pub ofWhatIsSaid : List ℕ
-ofWhatIsSaid = 7 ∷ 19 ∷ 8 ∷ 9 ∷ 10 ∷ 11 ∷ 12 ∷ 13 ∷ []
+ofWhatIsSaid = 7 ∷ 19 ∷ 8 ∷ 9 ∷ 10 ∷ 11 ∷ 12 ∷ 13 ∷ 23 ∷ []
 
 abbrev pub whileReading : List ℕ
 whileReading = ofForm ++ ofWhatIsSaid

@@ -16,9 +16,9 @@ use Rattle.kinds.specs.Given.{kindGiven}
 use Rattle.kinds.specs.Meant.{asMeant}
 use Rattle.kinds.proofs.Meant.{meant-given}
 use Rattle.reading.specs.Trace.{What, itemBegins, itemEnds, there, absent, value}
-use Rattle.reading.specs.Rules.{begun, itemsIn, ofKind, valuesOf, sumOf, centsIn, ownKind}
+use Rattle.reading.specs.Rules.{begun, itemsIn, ofKind, valuesOf, sumOf, centsIn, ownKind, ofType, typesIn}
 use Rattle.documents.specs.Document.{Each}
-use Rattle.documents.specs.Holds.{Passes, Alike, numbers, amounts, Holds}
+use Rattle.documents.specs.Holds.{Passes, Alike, TypeStands, inHeader, inItems, numbers, amounts, Holds}
 use Rattle.forms.proofs.Said.{meantIn, meantAll}
 
 -- what passes is not refused
@@ -50,6 +50,22 @@ meant-begun (value k f v) = refl
 pub meant-items : (ws : List What) → itemsIn (meantAll ws) ≡ itemsIn ws
 meant-items [] = refl
 meant-items (w ∷ l) = rw (meant-begun w, meant-items l)
+
+-- ---- the payment type
+meant-type : (w : What) → ofType (meantIn w) ≡ ofType w
+meant-type itemBegins = refl
+meant-type itemEnds = refl
+meant-type (there n) = refl
+meant-type (absent n) = refl
+meant-type (value k f v) = refl
+
+meant-types : (ws : List What) → typesIn (meantAll ws) ≡ typesIn ws
+meant-types [] = refl
+meant-types (w ∷ l) = rw (meant-type w, meant-types l)
+
+meant-stands : (ws : List What) → TypeStands ws → TypeStands (meantAll ws)
+meant-stands ws (inHeader e) = inHeader (meant-types ws ∙ (e ∙ rw (meant-items ws)))
+meant-stands ws (inItems e) = inItems (meant-types ws ∙ (e ∙ rw (meant-items ws)))
 
 -- ---- the values of a kind, by what is asked of them: a number of each, which is the same as meant
 abbrev pub each : {A : Type 0} → (List ℕ → A) → List (List ℕ) → List A
@@ -142,6 +158,7 @@ sum-each (v ∷ l) = ap (λ (n : ℕ). cents v + n) (sum-each l)
 pub meant-holds : (ws : List What) (n c : ℕ) → Holds ws n c → Holds (meantAll ws) n c
 meant-holds ws n c h = record {
   kinds = meant-kinds ws (h .kinds);
+  type = meant-stands ws (h .type);
   alike = subst Alike (sym (meant-services ws)) (h .alike);
   items = meant-items ws ∙ h .items;
   few = h .few;

@@ -4,5 +4,6 @@ pub mod Longest
 pub mod Bounded
 pub mod Same
 pub mod Forms
+pub mod Typed
 pub mod Records
 pub mod Once

@@ -163,52 +163,65 @@ module _ (h : List ℕ → List ℕ) (t : Kind → Bool) (same : (k : Kind) → 
   values-same (w ∷ l) k =
       each-append h (ofField g (meantIn w)) (valuesAt g (meantAll l)) ∙ (rw (k .0, values-same l (k .1)) (sym (each-append h (ofField g w) (valuesAt g l))))
 
-  value-is : (v : Version) → held (inItem v) ≡ true → (d : Doc (inItem v)) → h (valueFor (meantAll (said (inItem v) d)) g) ≡ h (valueFor (said (inItem v) d) g)
-  value-is v e d =
-      let ws = said (inItem v) d in
-      sym (last-of h [] (valuesAt g (meantAll ws))) ∙ ap (lastIn (h [])) (values-same ws (said-same (inItem v) e d)) ∙ last-of h [] (valuesAt g ws)
+  value-is : (sh : Shape) → held sh ≡ true → (th : Shape) → held th ≡ true → (c : Doc sh) (d : Doc th)
+      → h (valueFor (meantAll (said sh c ++ said th d)) g) ≡ h (valueFor (said sh c ++ said th d) g)
+  value-is sh e th f c d =
+      let ws = said sh c ++ said th d in
+      sym (last-of h [] (valuesAt g (meantAll ws)))
+      ∙ (ap (lastIn (h [])) (values-same ws (each-both Same (said sh c) (said th d) (said-same sh e c) (said-same th f d))) ∙ last-of h [] (valuesAt g ws))
 
 -- ---- an item's cents
 cents-is : (ws : List What) → centsFor (meantAll ws) ≡ centsFor ws
 cents-is ws = sym (last-of cents [] (valuesOf Amount (meantAll ws))) ∙ ap (lastIn (cents [])) (meant-amounts ws) ∙ last-of cents [] (valuesOf Amount ws)
 
--- ---- an item's record
-read-is : (g : Field) (v : Version) → held (λ v. v) isRead read-meant g (inItem v) ≡ true → (d : Doc (inItem v)) → valueFor (meantAll (said (inItem v) d)) g ≡ valueFor (said (inItem v) d) g
-read-is = value-is (λ v. v) isRead read-meant
+-- ---- an item's record, under its header
+module _ (v : Version) (c : Doc (inHeader v)) (d : Doc (inItem v)) where
+  abbrev Both : List What
+  Both = said (inHeader v) c ++ said (inItem v) d
 
-words-are : (g : Field) (v : Version) → held collapsed isWords words-meant g (inItem v) ≡ true → (d : Doc (inItem v))
-    → collapsed (valueFor (meantAll (said (inItem v) d)) g) ≡ collapsed (valueFor (said (inItem v) d) g)
-words-are = value-is collapsed isWords words-meant
+  read-is : (g : Field) → held (λ v. v) isRead read-meant g (inHeader v) ≡ true → held (λ v. v) isRead read-meant g (inItem v) ≡ true → valueFor (meantAll Both) g ≡ valueFor Both g
+  read-is g e f = value-is (λ v. v) isRead read-meant g (inHeader v) e (inItem v) f c d
 
-record-is : (v : Version) (d : Doc (inItem v)) → recordFor (meantAll (said (inItem v) d)) ≡ recordFor (said (inItem v) d)
-unfolding recordFor inItem
-record-is v02 d =
+  words-are : (g : Field) → held collapsed isWords words-meant g (inHeader v) ≡ true → held collapsed isWords words-meant g (inItem v) ≡ true
+      → collapsed (valueFor (meantAll Both) g) ≡ collapsed (valueFor Both g)
+  words-are g e f = value-is collapsed isWords words-meant g (inHeader v) e (inItem v) f c d
+
+record-is : (v : Version) (c : Doc (inHeader v)) (d : Doc (inItem v)) → recordFor (meantAll (Both v c d)) ≡ recordFor (Both v c d)
+unfolding recordFor inHeader inItem
+record-is v02 c d =
     rw (
-      cents-is (said (inItem v02) d),
-      read-is TxId v02 refl d,
-      words-are EndToEndId v02 refl d,
-      read-is MndtId v02 refl d,
-      read-is DbtrIban v02 refl d,
-      read-is CdtrIban v02 refl d,
-      read-is DbtrBic v02 refl d,
-      read-is ReqdColltnDt v02 refl d,
-      read-is SeqTp v02 refl d,
-      read-is CdtrId v02 refl d,
-      read-is CdtrBic v02 refl d,
+      cents-is (Both v02 c d),
+      read-is v02 c d TxId refl refl,
+      words-are v02 c d EndToEndId refl refl,
+      read-is v02 c d MndtId refl refl,
+      read-is v02 c d DbtrIban refl refl,
+      read-is v02 c d CdtrIban refl refl,
+      read-is v02 c d DbtrBic refl refl,
+      read-is v02 c d ReqdColltnDt refl refl,
+      read-is v02 c d SeqTp refl refl,
+      read-is v02 c d CdtrId refl refl,
+      read-is v02 c d CdtrBic refl refl,
     )
 
-records-are : (v : Version) (l : List (DocItem v)) → texts (itemRecord v) (bare (plain (inItem v)) l) ≡ texts (itemRecord v) l
-records-are v [] = refl
-records-are v (x ∷ l) =
-    let e : recordFor (said (inItem v) (plain (inItem v) (x .held))) ≡ recordFor (said (inItem v) (x .held)) =
-    ap recordFor (plain-said (inItem v) (x .held)) ∙ record-is v (x .held) in
-    rw (e, records-are v l)
+meant-append : (a b : List What) → meantAll (a ++ b) ≡ meantAll a ++ meantAll b
+meant-append [] b = refl
+meant-append (w ∷ a) b = ap (λ (l : List What). meantIn w ∷ l) (meant-append a b)
+
+abbrev plainHeader : (v : Version) → Led (Doc (inHeader v)) → Led (Doc (inHeader v))
+plainHeader v h = record { blank = []; held = plain (inHeader v) (h .held) }
+
+records-are : (v : Version) (h : Led (Doc (inHeader v))) (l : List (DocItem v)) → texts (itemRecord v (plainHeader v h)) (bare (plain (inItem v)) l) ≡ texts (itemRecord v h) l
+records-are v h [] = refl
+records-are v h (x ∷ l) =
+    let e : recordFor (said (inHeader v) (plain (inHeader v) (h .held)) ++ said (inItem v) (plain (inItem v) (x .held))) ≡ recordFor (Both v (h .held) (x .held)) =
+    rw (plain-said (inHeader v) (h .held), plain-said (inItem v) (x .held), ← meant-append (said (inHeader v) (h .held)) (said (inItem v) (x .held))) (record-is v (h .held) (x .held)) in
+    rw (e, records-are v h l)
 
 -- ---- a document and its plain form, as bulks
 pub record Bulks (m f : List ℕ) : Type 0 where
   pub one : Bulked m
   pub other : Bulked f
-  pub records : texts (itemRecord (other .version)) (other .bulk .items) ≡ texts (itemRecord (one .version)) (one .bulk .items)
+  pub records : texts (itemRecord (other .version) (other .bulk .header)) (other .bulk .items) ≡ texts (itemRecord (one .version) (one .bulk .header)) (one .bulk .items)
 
 abbrev plainBulk : {v : Version} → Bulk v → Bulk v
 plainBulk {v = v} b =
@@ -216,7 +229,7 @@ plainBulk {v = v} b =
       declared = true;
       before = [];
       blank = [];
-      header = record { blank = []; held = plain (inHeader v) (b .header .held) };
+      header = plainHeader v (b .header);
       items = bare (plain (inItem v)) (b .items);
       close = [];
       last = [];
@@ -230,7 +243,7 @@ bulks v m f d law e g =
     record {
       one = record { version = v; bulk = b .bulk; lawful = law′; is = e ∙ ap whole (b .is) };
       other = record { version = v; bulk = plainBulk (b .bulk); lawful = plain-lawful (message many (b .bulk)) law′; is = g ∙ ap (λ (x : Message v (tree many v)). whole (plainMessage x)) (b .is) };
-      records = records-are v (b .bulk .items);
+      records = records-are v (b .bulk .header) (b .bulk .items);
     }
 
 bulks-of : (v : Version) (m f : List ℕ) (d : Message v (profile v)) → Lawful d → m ≡ whole d → f ≡ whole (plainMessage d) → Bulks m f

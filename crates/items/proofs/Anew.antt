@@ -1,11 +1,12 @@
--- What goes on after something was read goes on with nothing read before: the rules ask no more of less.
+-- What goes on after something was read goes on with nothing read before, where the payment type may stand once in it: the rules ask no more of less.
 use mathlib.Core.Path.{_≡_, refl, ap, _∙_}
 use mathlib.Core.Bool.{Bool, true, false}
 use mathlib.Core.List.{List, [], _∷_, _++_, append-nil, append-assoc}
-use Prim.Native.Nat.{ℕ, _+_}
+use Prim.Native.Nat.{ℕ, _+_, _≤_}
 use native.Mathlib.Omega.{arith}
 use borrow.Author.Tests.{ltb-true, lt-ltb, leb-true, le-leb}
 use lib.Dec.{leb, ltb}
+use lib.ListN.{length, length-append}
 use Rattle.text.specs.Truth.{pick}
 use Rattle.text.specs.Quoted.{alike}
 use Rattle.answers.specs.Given.{Given, yes, worth, refused as no, _else_, inOrder}
@@ -15,12 +16,13 @@ use Rattle.money.specs.Amount.{cents, most}
 use Rattle.profile.specs.declared.Kind.the-variants.{Amount, Code}
 use Rattle.profile.specs.Limits.{mostItems}
 use Rattle.profile.specs.Kinds.{sameKind}
+use Rattle.profile.specs.Profile.{isType}
 use Rattle.kinds.specs.Given.{kindGiven}
 use Rattle.reading.specs.Trace.{What, itemBegins, itemEnds, there, absent, value, Entry, Trace, met, upTo, fault}
 use Rattle.reading.specs.Noted.{on, Ended, noted}
-use Rattle.reading.specs.Rules.{itemsIn, ofKind, valuesOf, centsIn, firstOf, _so_, fitting, weighed}
+use Rattle.reading.specs.Rules.{itemsIn, ofKind, valuesOf, centsIn, ofType, typesIn, firstOf, _so_, unlikeFirst, fitting, weighed}
 use Rattle.reading.specs.Judged.{whats, orRefused, listed}
-use Rattle.reading.proofs.Lists.{whats-append, items-append, values-append, cents-append, alike-itself, alike-same}
+use Rattle.reading.proofs.Lists.{whats-append, items-append, values-append, types-append, cents-append, alike-itself, alike-same}
 use Rattle.reading.proofs.Flat.{never, flat, Goes, goes-flat, through, taken}
 
 -- ---- an answer that lets pass
@@ -66,6 +68,12 @@ lets-more (x ∷ l) (y ∷ k) w g h = λ v e. g v e
 abbrev services : List What → List (List ℕ)
 services ws = valuesOf (Code LclInstrm) ws
 
+-- ---- the payment type: where it may stand once, nothing was said of it before
+type-alone : (i b : Bool) (l : List Bool) → length l + length (pick i (b ∷ []) []) ≤ 1 → (i so unlikeFirst b l) ≡ true
+type-alone false b l h = refl
+type-alone true b [] h = refl
+type-alone true b (x ∷ l) h = never (omega (arith, h))
+
 -- ---- one thing met
 module _ (pre ws : List What) (g : Lets (services pre) (services ws)) where
   record Less (w : What) : Type 0 where
@@ -75,18 +83,18 @@ module _ (pre ws : List What) (g : Lets (services pre) (services ws)) where
   silent : Lets (services pre) (services ws ++ [])
   silent = rw (append-nil (services ws)) g
 
-  less : (w : What) → Fine (weighed (pre ++ ws) w) → Less w
-  less itemBegins h = go (ltb (itemsIn (pre ++ ws)) mostItems) refl h
+  less : (w : What) → length (typesIn ws) + length (ofType w) ≤ 1 → Fine (weighed (pre ++ ws) w) → Less w
+  less itemBegins t h = go (ltb (itemsIn (pre ++ ws)) mostItems) refl h
     where
       go : (b : Bool) → ltb (itemsIn (pre ++ ws)) mostItems ≡ b → Fine (inOrder (b else 12 ∷ []) yes) → Less itemBegins
       go false z e = absurd e
       go true z e =
           let y : ltb (itemsIn ws) mostItems ≡ true = lt-ltb (itemsIn ws) mostItems (omega (arith, items-append pre ws, ltb-true (itemsIn (pre ++ ws)) mostItems z)) in
           record { fine = rw y tt; lets = silent }
-  less itemEnds h = record { fine = tt; lets = silent }
-  less (there n) h = record { fine = tt; lets = silent }
-  less (absent n) h = record { fine = tt; lets = silent }
-  less (value k f v) h = record { fine = x .0; lets = served (sameKind k (Code LclInstrm)) (x .1) }
+  less itemEnds t h = record { fine = tt; lets = silent }
+  less (there n) t h = record { fine = rw (type-alone (isType n) true (typesIn ws) t) tt; lets = silent }
+  less (absent n) t h = record { fine = rw (type-alone (isType n) false (typesIn ws) t) tt; lets = silent }
+  less (value k f v) t h = record { fine = x .0; lets = served (sameKind k (Code LclInstrm)) (x .1) }
     where
       joined : services (pre ++ ws) ≡ services pre ++ services ws
       joined = values-append (Code LclInstrm) pre ws
@@ -114,25 +122,34 @@ pub record Again (t : Trace) (es : List Entry) (at : ℕ) : Type 0 where
   pub notes : List Entry
   pub goes : Goes t es (record { at = at; notes = notes })
 
-anew : (t : Trace) (pre es : List Entry) → Lets (services (whats pre)) (services (whats es)) → (r : Ended (List Entry)) → Goes t (pre ++ es) r → Again t es (r .at)
-anew (upTo p) pre es g r e =
+abbrev types : List Entry → ℕ
+types es = length (typesIn (whats es))
+
+anew : (t : Trace) (pre es : List Entry) → Lets (services (whats pre)) (services (whats es)) → types es + types (flat t) ≤ 1
+    → (r : Ended (List Entry)) → Goes t (pre ++ es) r → Again t es (r .at)
+anew (upTo p) pre es g b r e =
     let z : p ≡ r .at = cc in
     record { notes = es; goes = rw z }
-anew (fault n q) pre es g r e = never (cc)
-anew (met x t) pre es g r e =
+anew (fault n q) pre es g b r e = never (cc)
+anew (met x t) pre es g b r e =
     let h = through (listed x (pre ++ es)) (noted listed t) r e in
     let f : Fine (weighed (whats pre ++ whats es) (x .what)) =
     rw (whats-append pre es) at (fine-of (weighed (whats (pre ++ es)) (x .what)) (x .place) ((pre ++ es) ++ (x ∷ [])) (h .mid) (h .first)) in
-    let y = less (whats pre) (whats es) g (x .what) f in
+    let n : length (typesIn (whats (flat (met x t)))) ≡ length (ofType (x .what)) + types (flat t) = length-append (ofType (x .what)) (typesIn (whats (flat t))) in
+    let y = less (whats pre) (whats es) g (x .what) (omega (arith, b, n)) f in
     let z : h .mid ≡ pre ++ (es ++ (x ∷ [])) = taken x (pre ++ es) (h .mid) (h .first) ∙ append-assoc pre es (x ∷ []) in
     let s : services (whats (es ++ (x ∷ []))) ≡ services (whats es) ++ ofKind (Code LclInstrm) (x .what) =
     ap services (whats-append es (x ∷ []))
     ∙ (values-append (Code LclInstrm) (whats es) (x .what ∷ []) ∙ ap (λ (l : List (List ℕ)). services (whats es) ++ l) (append-nil (ofKind (Code LclInstrm) (x .what)))) in
-    let k = anew t pre (es ++ (x ∷ [])) (rw s (y .lets)) r (rw z at (h .then)) in
+    let c : types (es ++ (x ∷ [])) ≡ types es + length (ofType (x .what)) =
+    ap (λ (l : List What). length (typesIn l)) (whats-append es (x ∷ []))
+    ∙ (ap length (types-append (whats es) (x .what ∷ [])) ∙ (length-append (typesIn (whats es)) (ofType (x .what) ++ [])
+    ∙ rw (append-nil (ofType (x .what))))) in
+    let k = anew t pre (es ++ (x ∷ [])) (rw s (y .lets)) (omega (arith, b, n, c)) r (rw z at (h .then)) in
     record { notes = k .notes; goes = rw (of-fine (weighed (whats es) (x .what)) (x .place) (es ++ (x ∷ [])) (y .fine)) (k .goes) }
 
 -- what is noted then is all that stands there
-pub goes-anew : (t : Trace) (pre : List Entry) (r : Ended (List Entry)) → Goes t pre r → Goes t [] (record { at = r .at; notes = flat t })
-goes-anew t pre r e =
-    let a = anew t pre [] (λ v h. alike-itself v) r (rw (append-nil pre) e) in
+pub goes-anew : (t : Trace) (pre : List Entry) (r : Ended (List Entry)) → length (typesIn (whats (flat t))) ≤ 1 → Goes t pre r → Goes t [] (record { at = r .at; notes = flat t })
+goes-anew t pre r b e =
+    let a = anew t pre [] (λ v h. alike-itself v) (omega (arith, b)) r (rw (append-nil pre) e) in
     rw (← goes-flat t [] (record { at = r .at; notes = a .notes }) (a .goes)) (a .goes)

@@ -84,7 +84,7 @@ module _ (v : Version) (m : List ℕ) where
   chain-skipped none = none
   chain-skipped {p} (next {x = x} s c) =
       let y : skipped m (skipped m p) ≡ skipped m p = skip-twice m p in
-      next {x = x} (record { from = y ∙ s .from; inner = s .inner; alone = rw y (s .alone); holds = s .holds; lie = s .lie; within = s .within; there = s .there }) c
+      next {x = x} (record { from = y ∙ s .from; inner = s .inner; alone = rw y (s .alone); holds = s .holds; lie = s .lie; within = s .within }) c
 
 module _ (m : List ℕ) where
   closed-flat : (n : String) (p : ℕ) → flat (closed n m p) ≡ []

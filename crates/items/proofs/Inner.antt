@@ -2,11 +2,15 @@
 use mathlib.Core.Path.{_≡_, refl}
 use mathlib.Core.Bool.{Bool, true, false}
 use mathlib.Core.List.{List}
-use Prim.Native.Nat.{ℕ}
+use Prim.Native.Nat.{ℕ, _+_, _≤_}
 use Prim.Native.String.{String}
+use native.Mathlib.Omega.{arith}
+use lib.ListN.{length, length-append}
 use Rattle.text.specs.Truth.{both}
 use Rattle.text.proofs.Truths.{both-true}
+use Rattle.tags.specs.Tags.{exactly, amountTag, currency, startTag}
 use Rattle.profile.specs.Version.{Version, v02}
+use Rattle.profile.specs.Kinds.{isAmount}
 use Rattle.profile.specs.Tree.{Occ, once, optional, many, more, Shape, end, leaf, group}
 use Rattle.profile.specs.Profile.{inHeader, inItem}
 use Rattle.reading.specs.Trace.{Entry, Trace, met, upTo, fault, begins, ends, trace}
@@ -48,6 +52,11 @@ all-single (group o n inner rest) e =
     let g = both-true (singles inner) (singles rest) (h .1) in
     (single o (h .0), all-single inner (g .0), all-single rest (g .1))
 
+-- ---- what lies behind a start tag
+pub behind-tag : (b : Bool) (n : String) (p q : ℕ) → q ≡ p + length (startTag b n) → 1 ≤ q
+behind-tag true n p q e = omega (arith, e, length-append (exactly (amountTag n)) currency)
+behind-tag false n p q e = omega (arith, e)
+
 -- ---- then each lies there
 module _ (m : List ℕ) where
   abbrev Lying : Entry → Type 0
@@ -71,7 +80,7 @@ module _ (m : List ℕ) where
   lying (fault n q) h = tt
 
   all-lie : (sh : Shape) → singles sh ≡ true → (p : ℕ) → AllLie m (flat (trace sh m p))
-  all-lie sh e p = lying (trace sh m p) (trace-all m Lying Single (λ k n. Unit {0}) (λ n k f b p q e w h. refl) begin (λ n q. tt) finish sh (all-single sh e) p)
+  all-lie sh e p = lying (trace sh m p) (trace-all m Lying Single (λ k n. Unit {0}) (λ n k f b p q e w h. (refl, behind-tag (isAmount k) n p q e)) begin (λ n q. tt) finish sh (all-single sh e) p)
 
   item-singles : (v : Version) → singles (inItem v) ≡ true
   unfolding inItem

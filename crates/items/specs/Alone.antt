@@ -6,8 +6,9 @@ use Rattle.tags.specs.Tags.{exactly, plainTag}
 use Rattle.profile.specs.Version.{Version}
 use Rattle.profile.specs.Tree.{once, many}
 use Rattle.profile.specs.Profile.{itemName, inItem}
-use Rattle.reading.specs.Trace.{What, itemBegins, itemEnds, there, absent, value, Entry, Trace, upTo, groupBody, turn, trace}
+use Rattle.reading.specs.Trace.{What, Entry, Trace, upTo, groupBody, turn, trace}
 use Rattle.reading.specs.Noted.{Reading, Ended, noted}
+use Rattle.reading.specs.Rules.{atItem}
 use Rattle.reading.specs.Judged.{listed}
 
 abbrev pub itemTag : List (ℕ → Bool)
@@ -25,11 +26,7 @@ readAlone v m p = noted listed (alone v m p) []
 
 -- the place of the first item's beginning, 0 where none begins
 abbrev pub beginOr : What → ℕ → ℕ → ℕ
-beginOr itemBegins p q = p
-beginOr itemEnds p q = q
-beginOr (there n) p q = q
-beginOr (absent n) p q = q
-beginOr (value k f v) p q = q
+beginOr w p q = atItem w p q q
 
 abbrev pub firstIn : List Entry → ℕ
 firstIn [] = 0

@@ -1,30 +1,26 @@
 -- Items that stand in a message one behind the other, each of which can be read again alone.
 use Prim.Native.Nat.{ℕ, _≤_}
 use mathlib.Core.Path.{_≡_}
-use mathlib.Core.Bool.{true}
 use mathlib.Core.List.{List, [], _∷_, _++_}
 use lib.ListN.{length}
 use Rattle.tags.specs.Tags.{skipped}
 use Rattle.tags.specs.Values.{valueAt}
-use Rattle.profile.specs.declared.Field.{Field}
 use Rattle.profile.specs.Version.{Version}
 use Rattle.profile.specs.Limits.{mostBytes}
-use Rattle.profile.specs.Profile.{profile, inItem}
+use Rattle.profile.specs.Profile.{profile}
 use Rattle.reading.specs.Trace.{What, itemBegins, itemEnds, there, absent, value, Entry, _at_, trace, from, opened, message}
 use Rattle.reading.specs.Noted.{on, Ended, noted}
-use Rattle.reading.specs.Rules.{valuesAt}
 use Rattle.reading.specs.Judged.{whats, listed}
 use Rattle.reading.specs.Items.{Item, theItems}
 use Rattle.items.specs.Alone.{readAlone, firstIn}
-use Rattle.items.specs.Sure.{sure}
 
--- a value's bytes are those that lie at its place, and no item begins or ends here
+-- a value's bytes are those that lie at its place, behind a tag; and no item begins or ends here
 abbrev pub LiesAt : List ℕ → What → ℕ → Type 0
 LiesAt m itemBegins p = ⊥
 LiesAt m itemEnds p = ⊥
 LiesAt m (there n) p = Unit {0}
 LiesAt m (absent n) p = Unit {0}
-LiesAt m (value k f v) p = valueAt m p ≡ v
+LiesAt m (value k f v) p = (valueAt m p ≡ v) × (1 ≤ p)
 
 abbrev pub AllLie : List ℕ → List Entry → Type 0
 AllLie m [] = Unit {0}
@@ -44,8 +40,6 @@ pub record Stands (v : Version) (m : List ℕ) (p : ℕ) (x : Item) : Type 0 whe
   -- each value as it lies in the message
   pub lie : AllLie m inner
   pub within : x .to ≤ length m
-  -- at least one value of each field that is surely there
-  pub there : (f : Field) → sure f (inItem v) ≡ true → 1 ≤ length (valuesAt f (x .holds))
 
 pub data Chained (v : Version) (m : List ℕ) : ℕ → List Item → Type 0 where
   none : {p : ℕ} → Chained v m p []

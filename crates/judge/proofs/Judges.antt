@@ -15,7 +15,8 @@ use Rattle.money.specs.Amount.{cents}
 use Rattle.tags.specs.Tags.{skipped}
 use Rattle.profile.specs.declared.Kind.the-variants.{Count, Total, Code}
 use Rattle.profile.specs.declared.Field.{Field}
-use Rattle.profile.specs.Fields.{fields, manyFields, fieldNumber}
+use Rattle.profile.specs.Fields.{fieldNumber}
+use Rattle.profile.specs.Listed.{fields, manyFields}
 use Rattle.profile.specs.Limits.{mostBytes}
 use Rattle.profile.specs.Profile.{profile}
 use Rattle.reading.specs.Trace.{Entry, upTo, fault, Opened, from, faulty, opened, trace, behindAll, inside, message}

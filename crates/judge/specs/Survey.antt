@@ -7,7 +7,7 @@ use Rattle.codes.specs.declared.Element.the-variants.{LclInstrm}
 use Rattle.codes.specs.Listed.{codeGiven}
 use Rattle.profile.specs.declared.Kind.the-variants.{Code}
 use Rattle.profile.specs.declared.Field.{Field}
-use Rattle.profile.specs.Fields.{fields, manyFields}
+use Rattle.profile.specs.Listed.{fields, manyFields}
 use Rattle.reading.specs.Trace.{What, Entry, message}
 use Rattle.reading.specs.Noted.{Reading, Ended, noted}
 use Rattle.reading.specs.Verdict.{Judged, accepted, refused}

@@ -1,4 +1,3 @@
 pub mod Parts
-pub mod Lies
 pub mod Whole
 pub mod One

@@ -11,6 +11,8 @@ use Rattle.codes.specs.declared.Element.the-variants.{LclInstrm}
 use Rattle.codes.specs.Listed.{orElse, codeGiven}
 use Rattle.profile.specs.declared.Kind.the-variants.{Code}
 use Rattle.profile.specs.declared.Field.the-variants.{MsgId, InstgBic, IntrBkSttlmDt}
+use Rattle.profile.specs.Version.{Version, v02}
+use Rattle.profile.specs.Profile.{profile}
 use Rattle.reading.specs.Trace.{Entry, message}
 use Rattle.reading.specs.Noted.{Reading, on, stop, Ended, noted}
 use Rattle.reading.specs.Verdict.{Judged, accepted, refused}
@@ -19,6 +21,8 @@ use Rattle.reading.specs.Judged.{whats, listed, judged}
 use Rattle.reading.specs.Items.{notesOf}
 use Rattle.reading.proofs.Lists.{alike-same}
 use Rattle.reading.proofs.Simulates.{Alike, going, stopped, Beside, simulates}
+use Rattle.items.specs.Sure.{sure}
+use Rattle.items.proofs.Places.{accepted-there}
 use Rattle.notes.specs.declared.Notes.{Notes}
 use Rattle.notes.specs.Notes.{fresh, inNotes}
 use Rattle.notes.proofs.Sums.{Served, Summed, summed-fresh, sums}
@@ -33,7 +37,19 @@ use Rattle.judge.proofs.Judges.{survey-found}
 use Rattle.judge.proofs.Walks.{found-verdict}
 use Rattle.keys.specs.declared.Keyed.{Keyed}
 use Rattle.keys.specs.Engine.{keyedAs, serviceText, fieldAt, keyFrom}
-use Rattle.keys.proofs.Lies.{value-lies, id-sure, bic-sure, date-sure}
+
+-- ---- the header's values of the key are surely there
+id-sure : (v : Version) → sure MsgId (profile v) ≡ true
+unfolding profile
+id-sure v02 = refl
+
+bic-sure : (v : Version) → sure InstgBic (profile v) ≡ true
+unfolding profile
+bic-sure v02 = refl
+
+date-sure : (v : Version) → sure IntrBkSttlmDt (profile v) ≡ true
+unfolding profile
+date-sure v02 = refl
 
 -- ---- the service, by its number
 code-text : (w : List ℕ) (i : ℕ) → codeGiven LclInstrm w ≡ worth i → serviceText (suc i) ≡ w
@@ -71,7 +87,7 @@ module _ (m : List ℕ) where
   key-is : (n c : ℕ) → judged m ≡ accepted n c → keyFrom m (serviceNumber (whats es)) (places es) ≡ keyOf (whats es)
   unfolding keyFrom places
   key-is n c e =
-      rw (service-text, value-lies m MsgId n c e id-sure, value-lies m InstgBic n c e bic-sure, value-lies m IntrBkSttlmDt n c e date-sure)
+      rw (service-text, accepted-there m MsgId n c e id-sure, accepted-there m InstgBic n c e bic-sure, accepted-there m IntrBkSttlmDt n c e date-sure)
 
   module _ (s : Survey) (e : surveyedAs s ≡ survey m) where
     pub verdict-is : meant (s .finding .verdict) ≡ judged m

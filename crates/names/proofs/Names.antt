@@ -28,7 +28,7 @@ use Rattle.reading.specs.Trace.{Entry, message}
 use Rattle.reading.specs.Noted.{Reading, Ended, noted}
 use Rattle.reading.specs.Judged.{listed, compared, verdict, judged}
 use Rattle.reading.specs.Verdict.{Judged, accepted, refused}
-use Rattle.reading.specs.Items.{notesOf, theItems, asked, item}
+use Rattle.reading.specs.Items.{notesOf, theHeader, theItems, asked, item}
 use Rattle.reading.proofs.Flat.{never}
 use Rattle.reading.proofs.Simulates as sim
 use Rattle.postings.specs.Area.{outcome, recorded}
@@ -37,7 +37,7 @@ use Rattle.replaced.proofs.Tests.{clear, sameTag, apart, opening, read-beside}
 use Rattle.replaced.proofs.Near.{Near, none, Unlike, Passing, near-items, near-place, near-values, noted-near}
 use Rattle.names.specs.Named.{tagName, named}
 use Rattle.names.proofs.Legal.{isText, legal-tagless, kind-given, unasked}
-use Rattle.names.proofs.Same.{recordedFields, noneOf, near-item, near-records}
+use Rattle.names.proofs.Same.{recordedFields, noneOf, near-item, above-alike, near-records}
 
 -- ---- the tags beside `<Nm>` and `<Ustrd>`: their own elements are texts that no record holds, and every other tag is clear of them
 abbrev fit : text.Field → Kind → Field → Bool
@@ -128,6 +128,6 @@ module _ (f : text.Field) (x v w y : List ℕ) (legal : textGiven f v ≡ yes) (
   unfolding recorded
   same-records a = rw (← same-verdict) (go (judged (named f x v y)))
     where
-      go : (j : Judged) → outcome (theItems (named f x v y)) a j ≡ outcome (theItems (named f x w y)) a j
-      go (accepted count cents) = rw (near-records Fit v w unrecorded (unlike Amount refl) notes-near)
+      go : (j : Judged) → outcome (theHeader (named f x v y)) (theItems (named f x v y)) a j ≡ outcome (theHeader (named f x w y)) (theItems (named f x w y)) a j
+      go (accepted count cents) = rw (near-records Fit v w unrecorded (unlike Amount refl) (above-alike Fit v w unrecorded (unlike Amount refl) notes-near) notes-near)
       go (refused n p) = refl

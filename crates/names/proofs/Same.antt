@@ -1,5 +1,5 @@
 -- Lists of what was read, the same but for names and remittance texts: the same items, and the same records.
-use mathlib.Core.Path.{_≡_, refl, ap}
+use mathlib.Core.Path.{_≡_, refl, sym, ap, _∙_}
 use mathlib.Core.Bool.{Bool, true, false, not}
 use mathlib.Core.List.{List, [], _∷_, _++_}
 use Prim.Native.Nat.{ℕ, zero, suc, _<_}
@@ -14,9 +14,11 @@ use Rattle.profile.specs.declared.Field.{Field}
 use Rattle.profile.specs.declared.Field.the-variants.{TxId, EndToEndId, MndtId, DbtrIban, CdtrIban, DbtrBic, ReqdColltnDt, SeqTp, CdtrId, CdtrBic}
 use Rattle.profile.specs.Fields.{sameField}
 use Rattle.reading.specs.Trace.{What, itemBegins, itemEnds, there, absent, value, Entry, _at_}
-use Rattle.reading.specs.Rules.{ofKind, valuesOf, ofField, valuesAt}
+use Rattle.reading.specs.Rules.{gathered, ofKind, valuesOf, ofField, valuesAt}
+use Rattle.reading.specs.Judged.{whats}
+use Rattle.reading.proofs.Lists.{values-append, at-append}
 use Rattle.reading.specs.Verdict.{lies}
-use Rattle.reading.specs.Items.{Item, orEnd, upToEnd, endOr, nextEnd, itemOr, itemsOf, itemFrom}
+use Rattle.reading.specs.Items.{Item, orEnd, upToEnd, endOr, nextEnd, itemOr, itemsOf, itemFrom, orItem, headerIn}
 use Rattle.postings.specs.Record.{recordFor}
 use Rattle.postings.specs.Area.{recordsFor}
 use Rattle.replaced.proofs.Near.{Near, none, like, changed, Unlike}
@@ -37,6 +39,34 @@ none-at (g ∷ l) f e (suc i) h = none-at l f (both-true (not (sameField f g)) (
 abbrev oneFrom : ℕ → List Entry → Item
 oneFrom p l = record { from = p; to = nextEnd l; holds = upToEnd l }
 
+-- two lists that give the same amounts and the same values of a record's fields
+pub record Recorded (a b : List What) : Type 0 where
+  pub cents : valuesOf Amount a ≡ valuesOf Amount b
+  pub values : (i : ℕ) → i < 10 → valuesAt (getD recordedFields i TxId) a ≡ valuesAt (getD recordedFields i TxId) b
+
+recorded-both : {a b c d : List What} → Recorded a b → Recorded c d → Recorded (a ++ c) (b ++ d)
+recorded-both {a} {b} {c} {d} h k = record {
+  cents = values-append Amount a c ∙ (rw (h .cents, k .cents) (sym (values-append Amount b d)));
+  values = λ i l. let g = getD recordedFields i TxId in at-append g a c ∙ (rw (h .values i l, k .values i l) (sym (at-append g b d)));
+}
+
+same-record : {a b : List What} → Recorded a b → recordFor a ≡ recordFor b
+unfolding recordFor
+same-record n =
+    rw (
+      n .cents,
+      n .values 0 (omega arith),
+      n .values 1 (omega arith),
+      n .values 2 (omega arith),
+      n .values 3 (omega arith),
+      n .values 4 (omega arith),
+      n .values 5 (omega arith),
+      n .values 6 (omega arith),
+      n .values 7 (omega arith),
+      n .values 8 (omega arith),
+      n .values 9 (omega arith),
+    )
+
 module _ (Fit : Kind → Field → Type 0) (v w : List ℕ) (unrecorded : (k : Kind) (f : Field) → Fit k f → noneOf recordedFields f ≡ true) (amounts : Unlike Fit v w Amount) where
   -- ---- where an item ends, and what it holds
   near-end : {l l′ : List Entry} → Near Fit v w l l′ → nextEnd l ≡ nextEnd l′
@@ -44,46 +74,55 @@ module _ (Fit : Kind → Field → Type 0) (v w : List ℕ) (unrecorded : (k : K
   near-end (like e n) = ap (endOr (e .what) (e .place)) (near-end n)
   near-end (changed f n) = near-end n
 
-  -- anything that is told of a list one by one, and is told alike of such values
-  module _ (F : List What → List (List ℕ)) (cong : (x : What) (a b : List What) → F a ≡ F b → F (x ∷ a) ≡ F (x ∷ b))
-      (swap : (k : Kind) (f : Field) → Fit k f → (a b : List What) → F a ≡ F b → F (value k f v ∷ a) ≡ F (value k f w ∷ b)) where
-    near-told : {l l′ : List Entry} → Near Fit v w l l′ → F (upToEnd l) ≡ F (upToEnd l′)
-    near-told none = refl
-    near-told (like e {l = l} {l′ = l′} n) = go (e .what) (near-told n)
+  -- anything that is told of a list one by one, and is told alike of such values: of what stands up to the end of an item, and of what stands before the first one
+  module _ (F : What → List (List ℕ)) (swap : (k : Kind) (f : Field) → Fit k f → F (value k f v) ≡ F (value k f w)) where
+    more : (x : What) (a b : List What) → gathered F a ≡ gathered F b → gathered F (x ∷ a) ≡ gathered F (x ∷ b)
+    more x a b h = ap (λ (y : List (List ℕ)). F x ++ y) h
+
+    other : {k : Kind} {f : Field} → Fit k f → (a b : List What) → gathered F a ≡ gathered F b → gathered F (value k f v ∷ a) ≡ gathered F (value k f w ∷ b)
+    other {k} {f} x a b h = rw (swap k f x, h)
+
+    near-held : {l l′ : List Entry} → Near Fit v w l l′ → gathered F (upToEnd l) ≡ gathered F (upToEnd l′)
+    near-held none = refl
+    near-held (like e {l = l} {l′ = l′} n) = go (e .what) (near-held n)
       where
-        go : (x : What) → F (upToEnd l) ≡ F (upToEnd l′) → F (orEnd x (upToEnd l)) ≡ F (orEnd x (upToEnd l′))
-        go itemBegins h = cong itemBegins (upToEnd l) (upToEnd l′) h
+        go : (x : What) → gathered F (upToEnd l) ≡ gathered F (upToEnd l′) → gathered F (orEnd x (upToEnd l)) ≡ gathered F (orEnd x (upToEnd l′))
+        go itemBegins h = more itemBegins (upToEnd l) (upToEnd l′) h
         go itemEnds h = refl
-        go (there i) h = cong (there i) (upToEnd l) (upToEnd l′) h
-        go (absent i) h = cong (absent i) (upToEnd l) (upToEnd l′) h
-        go (value k f u) h = cong (value k f u) (upToEnd l) (upToEnd l′) h
-    near-told (changed {k = k} {f = f} {l = l} {l′ = l′} x n) = swap k f x (upToEnd l) (upToEnd l′) (near-told n)
+        go (there i) h = more (there i) (upToEnd l) (upToEnd l′) h
+        go (absent i) h = more (absent i) (upToEnd l) (upToEnd l′) h
+        go (value k f u) h = more (value k f u) (upToEnd l) (upToEnd l′) h
+    near-held (changed {l = l} {l′ = l′} x n) = other x (upToEnd l) (upToEnd l′) (near-held n)
 
-  near-amounts : {l l′ : List Entry} → Near Fit v w l l′ → valuesOf Amount (upToEnd l) ≡ valuesOf Amount (upToEnd l′)
-  near-amounts =
-      near-told (valuesOf Amount) (λ x a b h. ap (λ (y : List (List ℕ)). ofKind Amount x ++ y) h) (λ k f x a b h. rw (amounts k f x) h)
+    near-above : {l l′ : List Entry} → Near Fit v w l l′ → gathered F (headerIn (whats l)) ≡ gathered F (headerIn (whats l′))
+    near-above none = refl
+    near-above (like e {l = l} {l′ = l′} n) = go (e .what) (near-above n)
+      where
+        go : (x : What) → gathered F (headerIn (whats l)) ≡ gathered F (headerIn (whats l′)) → gathered F (orItem x (headerIn (whats l))) ≡ gathered F (orItem x (headerIn (whats l′)))
+        go itemBegins h = refl
+        go itemEnds h = more itemEnds (headerIn (whats l)) (headerIn (whats l′)) h
+        go (there i) h = more (there i) (headerIn (whats l)) (headerIn (whats l′)) h
+        go (absent i) h = more (absent i) (headerIn (whats l)) (headerIn (whats l′)) h
+        go (value k f u) h = more (value k f u) (headerIn (whats l)) (headerIn (whats l′)) h
+    near-above (changed {l = l} {l′ = l′} x n) = other x (headerIn (whats l)) (headerIn (whats l′)) (near-above n)
 
-  near-at : (i : ℕ) → i < 10 → {l l′ : List Entry} → Near Fit v w l l′ → valuesAt (getD recordedFields i TxId) (upToEnd l) ≡ valuesAt (getD recordedFields i TxId) (upToEnd l′)
-  near-at i h =
-      let g = getD recordedFields i TxId in
-      near-told (valuesAt g) (λ x a b e. ap (λ (y : List (List ℕ)). ofField g x ++ y) e) (λ k f x a b e. rw (none-at recordedFields f (unrecorded k f x) i h) e)
+  no-amount : (k : Kind) (f : Field) → Fit k f → ofKind Amount (value k f v) ≡ ofKind Amount (value k f w)
+  no-amount k f x = rw (amounts k f x)
 
-  near-record : {l l′ : List Entry} → Near Fit v w l l′ → recordFor (upToEnd l) ≡ recordFor (upToEnd l′)
-  unfolding recordFor
-  near-record n =
-      rw (
-        near-amounts n,
-        near-at 0 (omega arith) n,
-        near-at 1 (omega arith) n,
-        near-at 2 (omega arith) n,
-        near-at 3 (omega arith) n,
-        near-at 4 (omega arith) n,
-        near-at 5 (omega arith) n,
-        near-at 6 (omega arith) n,
-        near-at 7 (omega arith) n,
-        near-at 8 (omega arith) n,
-        near-at 9 (omega arith) n,
-      )
+  no-field : (i : ℕ) → i < 10 → (k : Kind) (f : Field) → Fit k f → ofField (getD recordedFields i TxId) (value k f v) ≡ ofField (getD recordedFields i TxId) (value k f w)
+  no-field i h k f x = rw (none-at recordedFields f (unrecorded k f x) i h)
+
+  held-alike : {l l′ : List Entry} → Near Fit v w l l′ → Recorded (upToEnd l) (upToEnd l′)
+  held-alike n = record {
+    cents = near-held (ofKind Amount) no-amount n;
+    values = λ i h. near-held (ofField (getD recordedFields i TxId)) (no-field i h) n;
+  }
+
+  pub above-alike : {l l′ : List Entry} → Near Fit v w l l′ → Recorded (headerIn (whats l)) (headerIn (whats l′))
+  above-alike n = record {
+    cents = near-above (ofKind Amount) no-amount n;
+    values = λ i h. near-above (ofField (getD recordedFields i TxId)) (no-field i h) n;
+  }
 
   -- ---- the items
   pub near-item : (i : ℕ) {l l′ : List Entry} → Near Fit v w l l′ → itemFrom i (itemsOf l) ≡ itemFrom i (itemsOf l′)
@@ -100,15 +139,15 @@ module _ (Fit : Kind → Field → Type 0) (v w : List ℕ) (unrecorded : (k : K
       go (value k f u) i h = h i
   near-item i (changed f n) = near-item i n
 
-  pub near-records : {l l′ : List Entry} → Near Fit v w l l′ → recordsFor (itemsOf l) ≡ recordsFor (itemsOf l′)
-  near-records none = refl
-  near-records (like e {l = l} {l′ = l′} n) = go (e .what) (near-records n)
+  pub near-records : {h h′ : List What} → Recorded h h′ → {l l′ : List Entry} → Near Fit v w l l′ → recordsFor h (itemsOf l) ≡ recordsFor h′ (itemsOf l′)
+  near-records r none = refl
+  near-records {h} {h′} r (like e {l = l} {l′ = l′} n) = go (e .what) (near-records r n)
     where
-      go : (x : What) → recordsFor (itemsOf l) ≡ recordsFor (itemsOf l′)
-          → recordsFor (itemOr x (oneFrom (e .place) l) (itemsOf l)) ≡ recordsFor (itemOr x (oneFrom (e .place) l′) (itemsOf l′))
-      go itemBegins h = rw (near-record n, h)
-      go itemEnds h = h
-      go (there s) h = h
-      go (absent s) h = h
-      go (value k f u) h = h
-  near-records (changed f n) = near-records n
+      go : (x : What) → recordsFor h (itemsOf l) ≡ recordsFor h′ (itemsOf l′)
+          → recordsFor h (itemOr x (oneFrom (e .place) l) (itemsOf l)) ≡ recordsFor h′ (itemOr x (oneFrom (e .place) l′) (itemsOf l′))
+      go itemBegins k = rw (same-record (recorded-both r (held-alike n)), k)
+      go itemEnds k = k
+      go (there s) k = k
+      go (absent s) k = k
+      go (value i f u) k = k
+  near-records r (changed f n) = near-records r n

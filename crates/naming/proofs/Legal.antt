@@ -34,7 +34,8 @@ use Rattle.reading.specs.Rules.{ofField, valuesAt, ofKind, valuesOf, ownKind}
 use Rattle.reading.proofs.Lists.{alike-same}
 use Rattle.documents.specs.Document.{Each}
 use Rattle.documents.specs.Holds.{Passes}
-use Rattle.documents.proofs.Often.{weight}
+use Rattle.documents.proofs.Often.{Weighing, weight}
+use Rattle.documents.proofs.Typed.{values}
 use Rattle.naming.proofs.Padded.{noSpace, Held}
 
 -- ---- no character of a set is a space
@@ -98,11 +99,11 @@ service-held v = go (is "CORE" v) (is "B2B" v) refl refl
 
 -- ---- by field: the tree gives each of them its kind
 -- a value of the field that is of no kind that t allows
-abbrev pub aStranger : Field → (Kind → Bool) → Kind → Field → ℕ
-aStranger h t k f = pick (sameField f h) (pick (t k) 0 1) 0
+abbrev pub aStranger : Field → (Kind → Bool) → Weighing
+aStranger h t = values (λ k f. pick (sameField f h) (pick (t k) 0 1) 0)
 
 pub each-legal : (h : Field) (t : Kind → Bool) (P : List ℕ → Type 0) → ((k : Kind) (v : List ℕ) → t k ≡ true → Passes (kindGiven k v) → P v)
-    → (ws : List What) → weight (aStranger h t) 0 ws ≡ 0 → Each (λ w. Passes (ownKind w)) ws → Each P (valuesAt h ws)
+    → (ws : List What) → weight (aStranger h t) ws ≡ 0 → Each (λ w. Passes (ownKind w)) ws → Each P (valuesAt h ws)
 each-legal h t P g [] e p = tt
 each-legal h t P g (itemBegins ∷ l) e p = each-legal h t P g l (omega arith) (p .1)
 each-legal h t P g (itemEnds ∷ l) e p = each-legal h t P g l (omega arith) (p .1)
@@ -110,7 +111,7 @@ each-legal h t P g (there n ∷ l) e p = each-legal h t P g l (omega arith) (p .
 each-legal h t P g (absent n ∷ l) e p = each-legal h t P g l (omega arith) (p .1)
 each-legal h t P g (value k f v ∷ l) e p = go (sameField f h) (t k) refl e (each-legal h t P g l)
   where
-    go : (b c : Bool) → t k ≡ c → pick b (pick c 0 1) 0 + weight (aStranger h t) 0 l ≡ 0 → (weight (aStranger h t) 0 l ≡ 0 → Each (λ w. Passes (ownKind w)) l → Each P (valuesAt h l))
+    go : (b c : Bool) → t k ≡ c → pick b (pick c 0 1) 0 + weight (aStranger h t) l ≡ 0 → (weight (aStranger h t) l ≡ 0 → Each (λ w. Passes (ownKind w)) l → Each P (valuesAt h l))
         → Each P (pick b (v ∷ []) [] ++ valuesAt h l)
     go true true z y r = (g k v z (p .0), r (omega arith) (p .1))
     go true false z y r = never (omega arith)

@@ -14,16 +14,14 @@ use Rattle.profile.specs.declared.Kind.the-variants.{Code}
 use Rattle.profile.specs.declared.Simple.{Simple}
 use Rattle.profile.specs.declared.Simple.the-variants.{Reference, Date, Bic}
 use Rattle.profile.specs.declared.Field.{Field}
-use Rattle.profile.specs.declared.Field.the-variants.{MsgId, InstgBic, IntrBkSttlmDt}
-use Rattle.profile.specs.declared.Field.the-variants as field
-use Rattle.profile.specs.Fields.{sameField}
+use Rattle.profile.specs.declared.Field.the-variants.{MsgId, InstgBic, IntrBkSttlmDt, TxId}
 use Rattle.profile.specs.Kinds.{sameKind}
 use Rattle.profile.specs.Version.{Version, v02}
-use Rattle.profile.specs.Profile.{profile}
-use Rattle.reading.specs.Trace.{What, itemBegins, itemEnds, there, absent, value, Entry, trace, message}
+use Rattle.profile.specs.Profile.{isType, profile}
+use Rattle.reading.specs.Trace.{What, Entry, trace, message}
 use Rattle.reading.specs.Noted.{Ended, on, noted}
 use Rattle.reading.specs.Verdict.{accepted}
-use Rattle.reading.specs.Rules.{valuesOf, valuesAt, firstOf}
+use Rattle.reading.specs.Rules.{itemsIn, valuesOf, valuesAt, firstOf}
 use Rattle.reading.specs.Judged.{whats, lastOf, listed, judged}
 use Rattle.reading.specs.Items.{notesOf}
 use Rattle.reading.proofs.Flat.{flat, goes-flat, goes-whole}
@@ -31,8 +29,9 @@ use Rattle.postings.specs.Record.{padded}
 use Rattle.documents.specs.Document.{Doc, Proper, Each}
 use Rattle.documents.specs.Said.{said}
 use Rattle.documents.specs.Message.{Message, whole, Lawful}
-use Rattle.documents.specs.Holds.{Alike, Holds}
-use Rattle.documents.proofs.Often.{fixed, times, weight, as-often, aKind, aField, weight-kind, weight-field}
+use Rattle.documents.specs.Holds.{Alike, TypeStands, inHeader, inItems, Holds}
+use Rattle.documents.proofs.Often.{fixed, times, even, balance, as-often, anyItem, aField, weight-items, weight-kind, weight-field}
+use Rattle.documents.proofs.Typed.{InType, once-above, once-each}
 use Rattle.documents.proofs.Lists.{lone}
 use Rattle.documents.proofs.Messages.{Documented, message-found}
 use Rattle.documents.proofs.Exactly.{document-accepted}
@@ -60,8 +59,8 @@ unfolding profile
 date-once v02 = record { fixed = refl; once = refl }
 
 pub record KindAt (h : Field) (s : Simple) (v : Version) : Type 0 where
-  pub fixed : fixed (aStranger h (aPlain s)) 0 (profile v) ≡ true
-  pub none : times (aStranger h (aPlain s)) 0 (profile v) ≡ 0
+  pub fixed : fixed (aStranger h (aPlain s)) (profile v) ≡ true
+  pub none : times (aStranger h (aPlain s)) (profile v) ≡ 0
 
 pub id-kind : (v : Version) → KindAt MsgId Reference v
 unfolding profile
@@ -75,41 +74,18 @@ pub date-kind : (v : Version) → KindAt IntrBkSttlmDt Date v
 unfolding profile
 date-kind v02 = record { fixed = refl; none = refl }
 
--- ---- there is a LclInstrm: a field of its own, of its kind
-abbrev aService : Kind → Bool
-aService k = sameKind k (Code LclInstrm)
+-- ---- there is a LclInstrm: one in each payment type
+abbrev aService : Kind → Field → ℕ
+aService k f = pick (sameKind k (Code LclInstrm)) 1 0
 
-service-kind : (v : Version) → (fixed (aStranger field.LclInstrm aService) 0 (profile v) ≡ true) × (times (aStranger field.LclInstrm aService) 0 (profile v) ≡ 0)
-unfolding profile
-service-kind v02 = (refl, refl)
+-- a TxId in every item, and some item
+item-there : (v : Version) → (sure TxId (profile v) ≡ true) × (even (aField TxId) anyItem (profile v) ≡ true) × (times (aField TxId) (profile v) ≡ times anyItem (profile v))
+unfolding profile isType
+item-there v02 = (refl, refl, refl)
 
-service-sure : (v : Version) → sure field.LclInstrm (profile v) ≡ true
-unfolding profile
-service-sure v02 = refl
-
--- as many of the kind as of the field, where the field has no other
-fewer : (ws : List What) → weight (aStranger field.LclInstrm aService) 0 ws ≡ 0 → weight (aField field.LclInstrm) 0 ws ≤ weight (aKind (Code LclInstrm)) 0 ws
-fewer [] e = omega arith
-fewer (itemBegins ∷ l) e = omega (arith, fewer l (omega arith))
-fewer (itemEnds ∷ l) e = omega (arith, fewer l (omega arith))
-fewer (there n ∷ l) e = omega (arith, fewer l (omega arith))
-fewer (absent n ∷ l) e = omega (arith, fewer l (omega arith))
-fewer (value k f v ∷ l) e = go (sameField f field.LclInstrm) (sameKind k (Code LclInstrm)) e (fewer l)
-  where
-    x : ℕ
-    x = weight (aStranger field.LclInstrm aService) 0 l
-
-    y : ℕ
-    y = weight (aField field.LclInstrm) 0 l
-
-    z : ℕ
-    z = weight (aKind (Code LclInstrm)) 0 l
-
-    go : (a b : Bool) → pick a (pick b 0 1) 0 + x ≡ 0 → (x ≡ 0 → y ≤ z) → pick a 1 0 + y ≤ pick b 1 0 + z
-    go true true e h = omega (arith, h (omega arith))
-    go true false e h = never (omega arith)
-    go false true e h = omega (arith, h (omega arith))
-    go false false e h = omega (arith, h (omega arith))
+service-typed : (v : Version) → InType aService v
+unfolding profile isType
+service-typed v02 = record { level = refl; twice = refl; item = refl }
 
 -- ---- the four of an accepted message
 one-of : (l : List (List ℕ)) → length l ≡ 1 → l ≡ lastOf [] l ∷ []
@@ -147,21 +123,30 @@ module _ (m : List ℕ) (n c : ℕ) (e : judged m ≡ accepted n c) where
   proper : Proper (profile (doc .version)) (doc .document .inside)
   proper = doc .lawful .inside
 
+  -- it stands in the header or in every item
   service-there : 1 ≤ length (valuesOf (Code LclInstrm) ws)
-  service-there =
-      let t = trace (profile (read .version)) m (read .place) in
-      let z : ws ≡ whats (flat t) = sym read-said ∙ ap (λ q. whats (notesOf q)) (read .goes) ∙ ap whats (goes-flat t [] (read .ended) (read .reads)) in
-      let one : 1 ≤ length (valuesAt field.LclInstrm (whats (flat t))) =
-      surely m field.LclInstrm (profile (read .version)) (service-sure (read .version)) (read .place) (read .ended .at) (goes-whole t [] (read .ended) (read .reads)) in
-      let k = service-kind (doc .version) in
-      omega (
-        arith,
-        ap (λ (l : List What). length (valuesAt field.LclInstrm l)) z,
-        one,
-        weight-field field.LclInstrm ws,
-        weight-kind (Code LclInstrm) ws,
-        fewer ws (as-often (aStranger field.LclInstrm aService) 0 (profile (doc .version)) (k .0) (doc .document .inside) proper ∙ k .1),
-      )
+  service-there = go (holds .type)
+    where
+      some : 1 ≤ itemsIn ws
+      some =
+          let t = trace (profile (read .version)) m (read .place) in
+          let z : ws ≡ whats (flat t) = sym read-said ∙ ap (λ q. whats (notesOf q)) (read .goes) ∙ ap whats (goes-flat t [] (read .ended) (read .reads)) in
+          let one : 1 ≤ length (valuesAt TxId (whats (flat t))) =
+          surely m TxId (profile (read .version)) (item-there (read .version) .0) (read .place) (read .ended .at) (goes-whole t [] (read .ended) (read .reads)) in
+          let k = item-there (doc .version) in
+          omega (
+            arith,
+            ap (λ (l : List What). length (valuesAt TxId l)) z,
+            one,
+            weight-field TxId ws,
+            weight-items ws,
+            balance (aField TxId) anyItem (profile (doc .version)) (k .1) (doc .document .inside) proper,
+            k .2,
+          )
+
+      go : TypeStands ws → 1 ≤ length (valuesOf (Code LclInstrm) ws)
+      go (inHeader t) = omega (arith, weight-kind (Code LclInstrm) ws, once-above aService (doc .version) (service-typed (doc .version)) (doc .document .inside) proper t)
+      go (inItems t) = omega (arith, weight-kind (Code LclInstrm) ws, once-each aService (doc .version) (service-typed (doc .version)) (doc .document .inside) proper t, some)
 
   pub four : Four
   four = record { service = firstOf [] (valuesOf (Code LclInstrm) ws); id = lastOf [] (valuesAt MsgId ws); bic = lastOf [] (valuesAt InstgBic ws); date = lastOf [] (valuesAt IntrBkSttlmDt ws) }
@@ -192,7 +177,7 @@ module _ (m : List ℕ) (n c : ℕ) (e : judged m ≡ accepted n c) where
   -- what each of them is
   held-at : (h : Field) (s : Simple) → KindAt h s (doc .version) → OnceAt h (profile (doc .version)) → Fits s (lastOf [] (valuesAt h ws))
   held-at h s k o =
-      let l = each-legal h (aPlain s) (Fits s) (plain-fits s) ws (as-often (aStranger h (aPlain s)) 0 (profile (doc .version)) (k .fixed) (doc .document .inside) proper ∙ k .none) (holds .kinds) in
+      let l = each-legal h (aPlain s) (Fits s) (plain-fits s) ws (as-often (aStranger h (aPlain s)) (profile (doc .version)) (k .fixed) (doc .document .inside) proper ∙ k .none) (holds .kinds) in
       (rw (one-of (valuesAt h ws) (one-at (doc .document .inside) proper h o)) at l) .0
 
   pub record FourHeld (f : Four) : Type 0 where

@@ -28,7 +28,7 @@ use Rattle.reading.specs.Noted.{Reading, on, stop, onward, Ended}
 use Rattle.reading.proofs.Flat.{never}
 use Rattle.notes.specs.declared.Notes.{Notes}
 use Rattle.notes.specs.declared.State.{State}
-use Rattle.notes.specs.Notes.{onGiven, withItem, withCents, withService, withStart, addedUp, serviceKept, kept, Listed, valueNoted, itemNoted}
+use Rattle.notes.specs.Notes.{onGiven, withItem, typeNumber, withType, withCents, withService, withStart, addedUp, serviceKept, kept, Listed, valueNoted, itemNoted, typeRefusal, typeNoted}
 use Rattle.notes.specs.Steps.{staying}
 
 abbrev pub here : ℕ → Notes → Ended Notes
@@ -43,6 +43,20 @@ module _ (p : ℕ) (n : Notes) where
   pub too-many : mostItems ≤ n .count → stop 12 p ≡ staying p (itemNoted p n)
   unfolding itemNoted
   too-many h = rw (le-ltb (n .count) mostItems h)
+
+-- ---- the payment type: i is the number of what is said
+module _ (b : Bool) (i p : ℕ) (n : Notes) (mine : i ≡ typeNumber b) where
+  pub first-type : n .typed ≡ 0 → on (here p (withType i n)) ≡ staying p (typeNoted b p n)
+  unfolding typeNoted
+  first-type h = rw (mine, eq-eqb (n .typed) 0 h)
+
+  pub same-type : (n .typed ≡ 0 → ⊥) → n .typed ≡ i → (r : ℕ) → r ≡ typeRefusal b → stop r p ≡ staying p (typeNoted b p n)
+  unfolding typeNoted
+  same-type h g r e = rw (e, ne-eqb (n .typed) 0 h, eq-eqb (n .typed) (typeNumber b) (g ∙ mine))
+
+  pub other-type : (n .typed ≡ 0 → ⊥) → (n .typed ≡ i → ⊥) → on (here p n) ≡ staying p (typeNoted b p n)
+  unfolding typeNoted
+  other-type h g = rw (ne-eqb (n .typed) 0 h, ne-eqb (n .typed) (typeNumber b) (λ e. g (e ∙ sym mine)))
 
 -- ---- the running sum, as the code asks for it
 module _ (c p : ℕ) (n : Notes) where

@@ -20,7 +20,7 @@ use Rattle.profile.specs.Limits.{mostItems}
 use Rattle.kinds.specs.Given.{kindGiven}
 use Rattle.reading.specs.Noted.{Reading, on, stop, onward, Ended}
 use Rattle.notes.specs.declared.Notes.{Notes}
-use Rattle.notes.specs.Notes.{onGiven, withItem, withCents, withService, withStart, addedUp, serviceKept, coded, kept, valueNoted, itemNoted}
+use Rattle.notes.specs.Notes.{onGiven, withItem, typeNumber, withType, withCents, withService, withStart, addedUp, serviceKept, coded, kept, valueNoted, itemNoted, typeRefusal, typeNoted}
 use Rattle.notes.specs.Steps.{staying, Good, Fine}
 use Rattle.notes.proofs.Notings.{here}
 
@@ -91,3 +91,12 @@ module _ (m : List ℕ) (p : ℕ) (n : Notes) (g : Good m (here p n)) where
       go : (b : Bool) → ltb (n .count) mostItems ≡ b → Stays (pick b (on (withItem p n)) (stop 12 p))
       go true e = (record { small = g .small; within = g .within; counted = omega (arith, ltb-true (n .count) mostItems e); summed = g .summed }, omega arith)
       go false e = g .within
+
+  pub type-fine : (b : Bool) → Stays (typeNoted b p n)
+  unfolding typeNoted
+  type-fine b = go (eqb (n .typed) 0) (eqb (n .typed) (typeNumber b))
+    where
+      go : (x y : Bool) → Stays (pick x (on (withType (typeNumber b) n)) (pick y (stop (typeRefusal b) p) (on n)))
+      go true y = stays (withType (typeNumber b) n) refl refl
+      go false true = g .within
+      go false false = stays n refl refl

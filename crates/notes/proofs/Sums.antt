@@ -1,8 +1,9 @@
 -- The code's notes are the sum of the list: noting an entry in the one and in the other goes alike.
-use mathlib.Core.Path.{_≡_, refl, sym, ap, _∙_}
+use mathlib.Core.Path.{_≡_, refl, sym, ap, subst, _∙_}
 use mathlib.Core.Bool.{Bool, true, false}
 use mathlib.Core.List.{List, [], _∷_, _++_, append-nil}
 use Prim.Native.Nat.{ℕ, zero, suc, _+_}
+use Prim.Native.String.{String}
 use native.Mathlib.Nat.{zero-add}
 use native.Mathlib.Omega.{arith}
 use borrow.Author.Tests.{eqb-true, eqb-false, ne-eqb}
@@ -22,21 +23,24 @@ use Rattle.profile.specs.declared.Kind.{Kind}
 use Rattle.profile.specs.declared.Kind.the-variants.{Plain, Count, Total, Amount, Code}
 use Rattle.profile.specs.declared.Field.{Field}
 use Rattle.profile.specs.Limits.{mostItems}
-use Rattle.profile.specs.Fields.{manyFields, fieldNumber, sameField}
+use Rattle.profile.specs.Fields.{fieldNumber, sameField}
+use Rattle.profile.specs.Listed.{manyFields}
 use Rattle.profile.specs.Kinds.{sameKind}
+use Rattle.profile.specs.Profile.{isType}
 use Rattle.profile.proofs.Fields.{number-below}
 use Rattle.kinds.specs.Given.{simpleGiven, kindGiven}
 use Rattle.reading.specs.Trace.{What, itemBegins, itemEnds, there, absent, value, Entry, _at_}
 use Rattle.reading.specs.Noted.{Reading, on, stop, onward}
-use Rattle.reading.specs.Rules.{begun as one, itemsIn, ofKind, valuesOf, ofField, sumOf, centsIn, firstOf, _so_, fitting}
+use Rattle.reading.specs.Rules.{begun as one, itemsIn, ofKind, valuesOf, ofField, sumOf, centsIn, ofType, typesIn, firstOf, _so_, unlikeFirst, fitting}
 use Rattle.reading.specs.Judged.{whats, orRefused, listed, lastOf, onlyOf, placeIn, placeFrom, placeOf}
-use Rattle.reading.proofs.Lists.{whats-append, items-append, values-append, sum-append, place-append, last-more, alike-itself, alike-same}
+use Rattle.reading.proofs.Lists.{whats-append, items-append, values-append, types-append, sum-append, place-append, last-more, alike-itself, alike-same}
 use Rattle.reading.proofs.Flat.{never}
 use Rattle.reading.proofs.Simulates.{Alike, going, stopped, Keeps}
 use Rattle.items.specs.Alone.{beginOr, firstIn}
 use Rattle.items.specs.Places.{fieldFrom, fieldPlace}
 use Rattle.notes.specs.declared.Notes.{Notes}
-use Rattle.notes.specs.Notes.{onGiven, fresh, withNumber, withTotal, withCents, withService, withItem, started, withStart, addedUp, serviceKept, kept, valueNoted, itemNoted, inNotes}
+use Rattle.notes.specs.Notes.{fresh, withItem, withNumber, withTotal, typeNumber, withType, withCents, withService, started, withStart}
+use Rattle.notes.specs.Notes.{addedUp, serviceKept, onGiven, valueNoted, itemNoted, typeRefusal, typeNoted, inNotes}
 
 -- ---- two codes that are listed are the same bytes where they stand at the same place
 code-same : (w v : List ℕ) (j i : ℕ) → codeGiven LclInstrm w ≡ worth j → codeGiven LclInstrm v ≡ worth i → alike w v ≡ eqb (suc j) (suc i)
@@ -82,6 +86,11 @@ abbrev pub Served : List (List ℕ) → ℕ → Type 0
 Served [] n = n ≡ 0
 Served (w ∷ l) n = (i : ℕ) × (codeGiven LclInstrm w ≡ worth i) × (n ≡ suc i)
 
+-- what is said first of the payment type, as a number
+abbrev pub typedBy : List Bool → ℕ
+typedBy [] = 0
+typedBy (b ∷ l) = typeNumber b
+
 abbrev lclInstrm : Kind
 lclInstrm = Code LclInstrm
 
@@ -94,6 +103,7 @@ pub record Summed (es : List Entry) (n : Notes) : Type 0 where
   pub numberat : n .numberat ≡ placeOf Count es
   pub total : n .total ≡ worthOf (onlyOf Total es)
   pub totalat : n .totalat ≡ placeOf Total es
+  pub typed : n .typed ≡ typedBy (typesIn (whats es))
   pub service : Served (valuesOf lclInstrm (whats es)) (n .service)
   pub long : length (n .starts) ≡ manyFields
   pub starts : (f : Field) → getD (n .starts) (fieldNumber f) 0 ≡ fieldPlace f es
@@ -117,6 +127,7 @@ summed-fresh = record {
   numberat = refl;
   total = refl;
   totalat = refl;
+  typed = refl;
   service = refl;
   long = refl;
   starts = zeros;
@@ -135,6 +146,13 @@ module _ (es : List Entry) (e : Entry) where
 
   values-more : (k : Kind) → valuesOf k (whats more) ≡ valuesOf k (whats es) ++ ofKind k (e .what)
   values-more k = ap (valuesOf k) said-more ∙ (values-append k (whats es) (e .what ∷ []) ∙ ap (λ (l : List (List ℕ)). valuesOf k (whats es) ++ l) (append-nil (ofKind k (e .what))))
+
+  types-more : typesIn (whats more) ≡ typesIn (whats es) ++ ofType (e .what)
+  types-more = ap typesIn said-more ∙ (types-append (whats es) (e .what ∷ []) ∙ ap (λ (l : List Bool). typesIn (whats es) ++ l) (append-nil (ofType (e .what))))
+
+  -- an entry that says nothing of the payment type
+  types-same : ofType (e .what) ≡ [] → typesIn (whats more) ≡ typesIn (whats es)
+  types-same h = types-more ∙ rw h (append-nil (typesIn (whats es)))
 
   place-more : (k : Kind) → placeOf k more ≡ placeIn (ofKind k (e .what)) (e .place) (placeOf k es)
   place-more k = place-append k es (e ∷ []) 0
@@ -192,6 +210,7 @@ module _ (es : List Entry) (n : Notes) (r : Summed es n) where
             numberat = rw (place-more es e Count) (r .numberat);
             total = rw (same Total) (r .total);
             totalat = rw (place-more es e Total) (r .totalat);
+            typed = rw (types-same es e refl) (r .typed);
             service = rw (same lclInstrm) (r .service);
             long = r .long;
             starts = λ f. rw (field-more es e f) (r .starts f);
@@ -201,9 +220,10 @@ module _ (es : List Entry) (n : Notes) (r : Summed es n) where
       go true = going told
       go false = stopped
 
-  -- an entry that says nothing
-  mark-keeps : (e : Entry) → one (e .what) ≡ 0 → ((k : Kind) → ofKind k (e .what) ≡ []) → ((f : Field) → ofField f (e .what) ≡ []) → Summed (es ++ (e ∷ [])) n
-  mark-keeps e z v w =
+  -- an entry that says nothing but of the payment type, by its number
+  mark-keeps : (e : Entry) → one (e .what) ≡ 0 → ((k : Kind) → ofKind k (e .what) ≡ []) → ((f : Field) → ofField f (e .what) ≡ [])
+      → (i : ℕ) → i ≡ typedBy (typesIn (whats es) ++ ofType (e .what)) → Summed (es ++ (e ∷ [])) (withType i n)
+  mark-keeps e z v w i t =
       record {
         count = omega (arith, items-more es e, r .count);
         first = rw (first-other es e z) (r .first);
@@ -213,6 +233,7 @@ module _ (es : List Entry) (n : Notes) (r : Summed es n) where
         numberat = rw (place-more es e Count, v Count) (r .numberat);
         total = rw (same Total) (r .total);
         totalat = rw (place-more es e Total, v Total) (r .totalat);
+        typed = rw (types-more es e) t;
         service = rw (same lclInstrm) (r .service);
         long = r .long;
         starts = λ f. rw (field-more es e f, w f) (r .starts f);
@@ -220,6 +241,42 @@ module _ (es : List Entry) (n : Notes) (r : Summed es n) where
     where
       same : (k : Kind) → valuesOf k (whats (es ++ (e ∷ []))) ≡ valuesOf k (whats es)
       same k = values-more es e k ∙ rw (v k) (append-nil (valuesOf k (whats es)))
+
+  -- nothing is said of the payment type
+  still-typed : n .typed ≡ typedBy (typesIn (whats es) ++ [])
+  still-typed = r .typed ∙ ap typedBy (sym (append-nil (typesIn (whats es))))
+
+  ended-keeps : (p : ℕ) → Summed (es ++ ((itemEnds at p) ∷ [])) n
+  ended-keeps p = mark-keeps (itemEnds at p) refl (λ k. refl) (λ f. refl) (n .typed) still-typed
+
+  -- an element that is 0 or 1 is there, or absent: of the payment type it is said
+  module _ (s : String) (p : ℕ) where
+    abbrev saying : Bool → Entry
+    saying true = there s at p
+    saying false = absent s at p
+
+    said-keeps : (b c : Bool) → isType s ≡ c → (i : ℕ) → i ≡ typedBy (typesIn (whats es) ++ pick c (b ∷ []) []) → Summed (es ++ (saying b ∷ [])) (withType i n)
+    said-keeps true c h i t = mark-keeps (there s at p) refl (λ k. refl) (λ f. refl) i (rw h t)
+    said-keeps false c h i t = mark-keeps (absent s at p) refl (λ k. refl) (λ f. refl) i (rw h t)
+
+    abbrev Says : Bool → Bool → List Bool → ℕ → Type 0
+    Says b c ts i =
+        Alike Summed (orRefused (inOrder ((c so unlikeFirst b ts) else typeRefusal b ∷ []) yes) p (es ++ (saying b ∷ [])))
+        (pick c (pick (eqb i 0) (on (withType (typeNumber b) n)) (pick (eqb i (typeNumber b)) (stop (typeRefusal b) p) (on n))) (on n))
+
+    type-keeps : (b : Bool) → Says b (isType s) (typesIn (whats es)) (n .typed)
+    type-keeps b = go (isType s) refl
+      where
+        first : isType s ≡ true → (ts : List Bool) → typesIn (whats es) ≡ ts → (b : Bool) → Says b true ts (typedBy ts)
+        first h [] e b = going (said-keeps b true h (typeNumber b) (rw e))
+        first h (true ∷ l) e true = stopped
+        first h (true ∷ l) e false = going (said-keeps false true h (n .typed) (r .typed ∙ rw e))
+        first h (false ∷ l) e true = going (said-keeps true true h (n .typed) (r .typed ∙ rw e))
+        first h (false ∷ l) e false = stopped
+
+        go : (c : Bool) → isType s ≡ c → Says b c (typesIn (whats es)) (n .typed)
+        go true h = subst (λ (i : ℕ). Says b true (typesIn (whats es)) i) (sym (r .typed)) (first h (typesIn (whats es)) refl b)
+        go false h = going (said-keeps b false h (n .typed) still-typed)
 
   -- a value more, which its kind and then the rules let pass
   module _ (f : Field) (p : ℕ) (v : List ℕ) where
@@ -250,7 +307,7 @@ module _ (es : List Entry) (n : Notes) (r : Summed es n) where
       next = es ++ (entry k ∷ [])
 
       kept-summed : (u : Notes)
-          → u .count ≡ n .count → u .first ≡ n .first → u .starts ≡ n .starts
+          → u .count ≡ n .count → u .first ≡ n .first → u .typed ≡ n .typed → u .starts ≡ n .starts
           → u .cents ≡ worthOf (lastOf [] (valuesOf Amount (whats es) ++ pick (sameKind k Amount) (v ∷ []) []))
           → u .sum ≡ sumOf (valuesOf Amount (whats es) ++ pick (sameKind k Amount) (v ∷ []) [])
           → u .number ≡ decimal (lastOf [] (valuesOf Count (whats es) ++ pick (sameKind k Count) (v ∷ []) []))
@@ -259,7 +316,7 @@ module _ (es : List Entry) (n : Notes) (r : Summed es n) where
           → u .totalat ≡ placeIn (pick (sameKind k Total) (v ∷ []) []) p (placeOf Total es)
           → Served (valuesOf lclInstrm (whats es) ++ pick (sameKind k lclInstrm) (v ∷ []) []) (u .service)
           → Summed next (withStart f p u)
-      kept-summed u c b s x y a i t j w =
+      kept-summed u c b d s x y a i t j w =
           record {
             count = c ∙ omega (arith, items-more es (entry k), r .count);
             first = b ∙ (r .first ∙ sym (first-other es (entry k) refl));
@@ -269,6 +326,7 @@ module _ (es : List Entry) (n : Notes) (r : Summed es n) where
             numberat = i ∙ sym (place-more es (entry k) Count);
             total = t ∙ ap (λ (l : List (List ℕ)). worthOf (lastOf [] l)) (sym (with Total k));
             totalat = j ∙ sym (place-more es (entry k) Total);
+            typed = d ∙ (r .typed ∙ ap typedBy (sym (types-same es (entry k) refl)));
             service = rw (with lclInstrm k) w;
             long = rw s (length-set (n .starts) (fieldNumber f) p ∙ r .long);
             starts = λ g. rw s (starts-more k g);
@@ -280,7 +338,7 @@ module _ (es : List Entry) (n : Notes) (r : Summed es n) where
     -- a value that adds nothing but its start
     plain-summed : (k : Kind) → sameKind k Amount ≡ false → sameKind k Count ≡ false → sameKind k Total ≡ false → sameKind k lclInstrm ≡ false → Summed (es ++ (entry k ∷ [])) (withStart f p n)
     plain-summed k a c t s =
-        kept-summed k n refl refl refl
+        kept-summed k n refl refl refl refl
         (rw (a, none (valuesOf Amount (whats es))) (r .cents)) (rw (a, none (valuesOf Amount (whats es))) (r .sum))
         (rw (c, none (valuesOf Count (whats es))) (r .number)) (rw c (r .numberat))
         (rw (t, none (valuesOf Total (whats es))) (r .total)) (rw t (r .totalat))
@@ -299,7 +357,7 @@ module _ (es : List Entry) (n : Notes) (r : Summed es n) where
         go : (b : Bool) → Alike Summed (orRefused (fitting (inOrder (b else 7 ∷ []) (worth (decimal v))) yes) p (es ++ (entry Count ∷ [])))
             (onGiven (inOrder (b else 7 ∷ []) (worth (decimal v))) p (λ c. on (withStart f p (withNumber c p n))))
         go true =
-            going (kept-summed Count (withNumber (decimal v) p n) refl refl refl
+            going (kept-summed Count (withNumber (decimal v) p n) refl refl refl refl
             (rw (none (valuesOf Amount (whats es))) (r .cents)) (rw (none (valuesOf Amount (whats es))) (r .sum))
             (rw (last-more [] (valuesOf Count (whats es)) v)) refl
             (rw (none (valuesOf Total (whats es))) (r .total)) (r .totalat)
@@ -313,7 +371,7 @@ module _ (es : List Entry) (n : Notes) (r : Summed es n) where
         go : (a b : Bool) → Alike Summed (orRefused (fitting (inOrder (a else 7 ∷ b else 9 ∷ []) (worth (worthOf v))) yes) p (es ++ (entry Total ∷ [])))
             (onGiven (inOrder (a else 7 ∷ b else 9 ∷ []) (worth (worthOf v))) p (λ c. on (withStart f p (withTotal c p n))))
         go true true =
-            going (kept-summed Total (withTotal (worthOf v) p n) refl refl refl
+            going (kept-summed Total (withTotal (worthOf v) p n) refl refl refl refl
             (rw (none (valuesOf Amount (whats es))) (r .cents)) (rw (none (valuesOf Amount (whats es))) (r .sum))
             (rw (none (valuesOf Count (whats es))) (r .number)) (r .numberat)
             (rw (last-more [] (valuesOf Total (whats es)) v)) refl
@@ -327,7 +385,7 @@ module _ (es : List Entry) (n : Notes) (r : Summed es n) where
       where
         told : Summed (es ++ (entry Amount ∷ [])) (withStart f p (withCents (worthOf v) n))
         told =
-            kept-summed Amount (withCents (worthOf v) n) refl refl refl
+            kept-summed Amount (withCents (worthOf v) n) refl refl refl refl
             (rw (last-more [] (valuesOf Amount (whats es)) v)) (omega (arith, r .sum, sum-append (valuesOf Amount (whats es)) (v ∷ [])))
             (rw (none (valuesOf Count (whats es))) (r .number)) (r .numberat)
             (rw (none (valuesOf Total (whats es))) (r .total)) (r .totalat)
@@ -364,7 +422,7 @@ module _ (es : List Entry) (n : Notes) (r : Summed es n) where
             → Alike Summed (orRefused (inOrder (b else 11 ∷ []) yes) p (es ++ (entry lclInstrm ∷ [])))
             (onward (pick b (on (withService (suc i) n)) (stop 11 p)) (λ u. on (withStart f p u)))
         serving i e true z =
-            going (kept-summed lclInstrm (withService (suc i) n) refl refl refl
+            going (kept-summed lclInstrm (withService (suc i) n) refl refl refl refl
             (rw (none (valuesOf Amount (whats es))) (r .cents)) (rw (none (valuesOf Amount (whats es))) (r .sum))
             (rw (none (valuesOf Count (whats es))) (r .number)) (r .numberat)
             (rw (none (valuesOf Total (whats es))) (r .total)) (r .totalat)
@@ -392,11 +450,12 @@ module _ (es : List Entry) (n : Notes) (r : Summed es n) where
     value-keeps (Code Prtry) = plain-keeps (Code Prtry) (codeGiven Prtry v) (plain-summed (Code Prtry) refl refl refl refl)
 
 pub sums : Keeps Summed listed inNotes
+unfolding typeNoted
 sums e es n r = go (e .what)
   where
     go : (w : What) → Alike Summed (listed (w at e .place) es) (inNotes (w at e .place) n)
     go itemBegins = item-keeps es n r (e .place)
-    go itemEnds = going (mark-keeps es n r (itemEnds at e .place) refl (λ k. refl) (λ f. refl))
-    go (there s) = going (mark-keeps es n r (there s at e .place) refl (λ k. refl) (λ f. refl))
-    go (absent s) = going (mark-keeps es n r (absent s at e .place) refl (λ k. refl) (λ f. refl))
+    go itemEnds = going (ended-keeps es n r (e .place))
+    go (there s) = type-keeps es n r s (e .place) true
+    go (absent s) = type-keeps es n r s (e .place) false
     go (value k f v) = value-keeps es n r f (e .place) v k

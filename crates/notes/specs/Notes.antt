@@ -1,5 +1,6 @@
 -- The code's own way of noting what a message holds: a few sums, and where the last value of each field begins. That it says no more and no less than the list is proofs/Sums.antt.
 use Prim.Native.Nat.{ℕ, suc, _+_, _≤_}
+use mathlib.Core.Bool.{Bool, true, false}
 use mathlib.Core.List.{List}
 use lib.ListN.{set, replicate}
 use lib.Dec.{eqb, leb, ltb}
@@ -13,7 +14,9 @@ use Rattle.profile.specs.declared.Kind.{Kind}
 use Rattle.profile.specs.declared.Kind.the-variants.{Plain, Count, Total, Amount, Code}
 use Rattle.profile.specs.declared.Field.{Field}
 use Rattle.profile.specs.Limits.{mostItems}
-use Rattle.profile.specs.Fields.{manyFields, fieldNumber}
+use Rattle.profile.specs.Fields.{fieldNumber}
+use Rattle.profile.specs.Listed.{manyFields}
+use Rattle.profile.specs.Profile.{isType}
 use Rattle.kinds.specs.Given.{kindGiven}
 use Rattle.reading.specs.Trace.{What, itemBegins, itemEnds, there, absent, value}
 use Rattle.reading.specs.Noted.{Reading, on, stop, onward, Noting}
@@ -30,6 +33,7 @@ fresh = record {
   numberat = 0;
   total = 0;
   totalat = 0;
+  typed = 0;
   service = 0;
   starts = replicate manyFields 0;
 }
@@ -45,6 +49,7 @@ withItem p n = record {
   numberat = n .numberat;
   total = n .total;
   totalat = n .totalat;
+  typed = n .typed;
   service = n .service;
   starts = n .starts;
 }
@@ -60,6 +65,7 @@ withNumber c p n = record {
   numberat = p;
   total = n .total;
   totalat = n .totalat;
+  typed = n .typed;
   service = n .service;
   starts = n .starts;
 }
@@ -74,6 +80,7 @@ withTotal c p n = record {
   numberat = n .numberat;
   total = c;
   totalat = p;
+  typed = n .typed;
   service = n .service;
   starts = n .starts;
 }
@@ -89,6 +96,27 @@ withCents c n = record {
   numberat = n .numberat;
   total = n .total;
   totalat = n .totalat;
+  typed = n .typed;
+  service = n .service;
+  starts = n .starts;
+}
+
+-- what is said of the payment type first: 1 that it is there, 2 that it is absent
+abbrev pub typeNumber : Bool → ℕ
+typeNumber true = 1
+typeNumber false = 2
+
+abbrev pub withType : ℕ → Notes → Notes
+withType i n = record {
+  count = n .count;
+  first = n .first;
+  sum = n .sum;
+  cents = n .cents;
+  number = n .number;
+  numberat = n .numberat;
+  total = n .total;
+  totalat = n .totalat;
+  typed = i;
   service = n .service;
   starts = n .starts;
 }
@@ -104,6 +132,7 @@ withService i n = record {
   numberat = n .numberat;
   total = n .total;
   totalat = n .totalat;
+  typed = n .typed;
   service = i;
   starts = n .starts;
 }
@@ -122,6 +151,7 @@ withStart f p n = record {
   numberat = n .numberat;
   total = n .total;
   totalat = n .totalat;
+  typed = n .typed;
   service = n .service;
   starts = started f p (n .starts);
 }
@@ -168,11 +198,22 @@ valueNoted k f v p n = onGiven (kindGiven k v) p (λ c. onward (kept k c p n) (�
 unfoldable pub itemNoted : ℕ → Notes → Reading Notes
 itemNoted p n = pick (ltb (n .count) mostItems) (on (withItem p n)) (stop 12 p)
 
+-- the payment type where it may stand: whether it is there is kept the first time, and refused where the same is said again
+abbrev pub typeRefusal : Bool → ℕ
+typeRefusal true = 23
+typeRefusal false = 4
+
+unfoldable pub typeNoted : Bool → ℕ → Notes → Reading Notes
+typeNoted b p n =
+    pick (eqb (n .typed) 0)
+    (on (withType (typeNumber b) n))
+    (pick (eqb (n .typed) (typeNumber b)) (stop (typeRefusal b) p) (on n))
+
 abbrev pub whatNoted : What → ℕ → Notes → Reading Notes
 whatNoted itemBegins p n = itemNoted p n
 whatNoted itemEnds p n = on n
-whatNoted (there s) p n = on n
-whatNoted (absent s) p n = on n
+whatNoted (there s) p n = pick (isType s) (typeNoted true p n) (on n)
+whatNoted (absent s) p n = pick (isType s) (typeNoted false p n) (on n)
 whatNoted (value k f v) p n = valueNoted k f v p n
 
 abbrev pub inNotes : Noting Notes

@@ -8,7 +8,8 @@ ghost use Rattle.money.specs.declared.Range.the-variants.{Total};
 ghost use Rattle.money.specs.Amount.{most};
 ghost use Rattle.profile.specs.Limits.{mostItems};
 ghost use Rattle.reading.specs.Noted.{on, stop};
-ghost use Rattle.notes.specs.Notes.{fresh, withItem, withNumber, withTotal, withCents, withService, withStart, addedUp, serviceKept, coded, kept, Listed, valueNoted, itemNoted};
+ghost use Rattle.notes.specs.Notes.{fresh, withItem, withNumber, withTotal, typeNumber, withType, withCents, withService, withStart};
+ghost use Rattle.notes.specs.Notes.{addedUp, serviceKept, coded, kept, Listed, valueNoted, itemNoted, typeRefusal, typeNoted};
 ghost use Rattle.notes.specs.Steps.{stated, stepped, staying};
 
 pub struct Notes {
@@ -23,6 +24,8 @@ pub struct Notes {
     pub numberat: u32,
     pub total: u64,
     pub totalat: u32,
+    // What is said of the payment type first, of the header: 1 that it is there, 2 that it is absent, and 0 before.
+    pub typed: u8,
     // The items' LclInstrm: its place in its list from 1 on, and 0 before the first.
     pub service: u64,
     // Where the last value of each field begins.
@@ -61,6 +64,7 @@ impl State {
                 numberat: 0,
                 total: 0,
                 totalat: 0,
+                typed: 0,
                 service: 0,
                 starts: [0; profile::FIELDS],
             },
@@ -163,6 +167,29 @@ impl State {
         self
     }
 
+    // What is said of the payment type first.
+    fn with_type(mut self, i: u8) -> State
+        ensures { λ r. ⌜ stated r ≡ record { at = self .at; notes = withType i (self .notes) } ⌝ }
+    {
+        self.notes.typed = i;
+        self
+    }
+
+    // Whether the payment type is there, at the state's place: what is said first is kept, and refused where it is said again.
+    pub fn say_type(self, there: bool) -> Step
+        ensures { λ r. ⌜ stepped r ≡ staying (self .at) (typeNoted there (self .at) (self .notes)) ⌝ }
+    {
+        let said = type_number(there);
+        let first = self.notes.typed;
+        if first == 0 {
+            return self.with_type(said).read_on();
+        }
+        if first == said {
+            return self.refuse_here(type_refusal(there));
+        }
+        self.read_on()
+    }
+
     // The items' service.
     fn with_service(mut self, i: u64) -> State
         ensures { λ r. ⌜ stated r ≡ record { at = self .at; notes = withService i (self .notes) } ⌝ }
@@ -180,6 +207,20 @@ impl State {
         notes.starts[i] = p;
         State { at: self.at, notes }
     }
+}
+
+// What is noted of the payment type where it is there, and where not.
+fn type_number(there: bool) -> u8
+    ensures { λ r. ⌜ r ≡ typeNumber there ⌝ }
+{
+    if there { 1 } else { 2 }
+}
+
+// Why it is refused: it is there once more, or absent once more.
+fn type_refusal(there: bool) -> u8
+    ensures { λ r. ⌜ r ≡ typeRefusal there ⌝ }
+{
+    if there { 23 } else { 4 }
 }
 
 // The running sum with one item's cents more, or 13.

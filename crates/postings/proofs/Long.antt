@@ -1,6 +1,6 @@
 -- How long a record is, and its parts.
 use mathlib.Core.Path.{_≡_, refl, _∙_}
-use mathlib.Core.List.{List, [], _∷_}
+use mathlib.Core.List.{List, [], _∷_, _++_}
 use Prim.Native.Nat.{ℕ, zero, suc, _+_, _/_, _%_, _*_}
 use native.Mathlib.Omega.{arith}
 use lib.ListN.{length, length-append, length-take, length-replicate}
@@ -22,6 +22,6 @@ pub length-record : (ws : List What) → length (recordFor ws) ≡ recordLength
 unfolding recordFor
 length-record ws = simp (length-append, length-padded, length-digits)
 
-pub length-records : (l : List Item) → length (recordsFor l) ≡ recordLength * length l
-length-records [] = refl
-length-records (x ∷ l) = omega (arith, length-append (recordFor (x .holds)) (recordsFor l), length-record (x .holds), length-records l)
+pub length-records : (h : List What) (l : List Item) → length (recordsFor h l) ≡ recordLength * length l
+length-records h [] = refl
+length-records h (x ∷ l) = omega (arith, length-append (recordFor (h ++ x .holds)) (recordsFor h l), length-record (h ++ x .holds), length-records h l)

@@ -4,15 +4,16 @@ use mathlib.Core.List.{List, [], _∷_, _++_}
 use lib.ListN.{length, drop}
 use lib.Dec.{ltb}
 use Rattle.text.specs.Truth.{pick}
+use Rattle.reading.specs.Trace.{What}
 use Rattle.reading.specs.Verdict.{Judged, accepted, refused}
 use Rattle.reading.specs.Judged.{judged}
-use Rattle.reading.specs.Items.{Item, theItems}
+use Rattle.reading.specs.Items.{Item, theHeader, theItems}
 use Rattle.postings.specs.Record.{recordLength, recordFor}
 
--- the records of items, in their order
-abbrev pub recordsFor : List Item → List ℕ
-recordsFor [] = []
-recordsFor (x ∷ l) = recordFor (x .holds) ++ recordsFor l
+-- the records of items under a header, in their order: "Records take SeqTp from wherever it stands"
+abbrev pub recordsFor : List What → List Item → List ℕ
+recordsFor h [] = []
+recordsFor h (x ∷ l) = recordFor (h ++ x .holds) ++ recordsFor h l
 
 -- what is answered, and the area afterwards
 pub record Outcome : Type 0 where
@@ -25,12 +26,12 @@ asLent n p a = record { verdict = refused n p; area = a }
 
 -- the judge's own refusal; 17 "record area under 256 times the count", at 0; else "record i goes to bytes 256i to 256i+255" and
 -- "Bytes beyond the last record keep what they held."
-abbrev pub outcome : List Item → List ℕ → Judged → Outcome
-outcome l a (refused n p) = asLent n p a
-outcome l a (accepted count cents) =
+abbrev pub outcome : List What → List Item → List ℕ → Judged → Outcome
+outcome h l a (refused n p) = asLent n p a
+outcome h l a (accepted count cents) =
     pick (ltb (length a) (recordLength * count))
     (asLent 17 0 a)
-    (record { verdict = accepted count cents; area = recordsFor l ++ drop (recordLength * count) a })
+    (record { verdict = accepted count cents; area = recordsFor h l ++ drop (recordLength * count) a })
 
 unfoldable pub recorded : List ℕ → List ℕ → Outcome
-recorded m a = outcome (theItems m) a (judged m)
+recorded m a = outcome (theHeader m) (theItems m) a (judged m)

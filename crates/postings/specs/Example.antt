@@ -25,12 +25,12 @@ use Rattle.accounts.specs.Lengths.{lengths, lengthOf}
 use Rattle.accounts.specs.Iban.{ibanForm, ibanLength, ibanGiven}
 use Rattle.accounts.specs.Identifier.{identifierForm, identifierGiven}
 use Rattle.tags.specs.Tags.{white, currencyPlace, inEuro, startsQuestion}
-use Rattle.profile.specs.Profile.{profile}
+use Rattle.profile.specs.Profile.{isType, profile}
 use Rattle.kinds.specs.Given.{simpleGiven}
 use Rattle.reading.specs.Trace.{closed, valued, opened, behindAll, message}
 use Rattle.reading.specs.Verdict.{accepted}
 use Rattle.reading.specs.Judged.{compared, judged}
-use Rattle.reading.specs.Items.{theItems}
+use Rattle.reading.specs.Items.{theHeader, theItems}
 use Rattle.postings.specs.Record.{recordLength, padded, digits, recordFor}
 use Rattle.postings.specs.Area.{recordsFor, recorded}
 
@@ -84,11 +84,11 @@ exampleRecord =
     ++ (10 ∷ [])
 
 -- it is accepted, and its one item has this record: computed
-computed : (judged example ≡ accepted 1 1234) × (recordsFor (theItems example) ≡ exampleRecord)
+computed : (judged example ≡ accepted 1 1234) × (recordsFor (theHeader example) (theItems example) ≡ exampleRecord)
 unfolding
     allOf among decimal digit capital small capitalOrDigit letterOrDigit referenceSet textSet asSpace collapsed slashRule referenceForm referenceGiven endToEndForm endToEndGiven textForm textGiven codeGiven leap daysIn realDay dateForm
     dateGiven letter stands written clockForm offsetForm zoneForm endForm timeForm timeGiven spell leavesOne inRange ibanChecked identifierChecked countForm countGiven pointForm amountForm
-    cents amountGiven head bicForm bicGiven lengths lengthOf ibanForm ibanLength ibanGiven identifierForm identifierGiven white currencyPlace inEuro startsQuestion profile simpleGiven closed valued opened behindAll
+    cents amountGiven head bicForm bicGiven lengths lengthOf ibanForm ibanLength ibanGiven identifierForm identifierGiven white currencyPlace inEuro startsQuestion isType profile simpleGiven closed valued opened behindAll
     message compared judged padded digits recordFor
 computed = (refl, refl)
 

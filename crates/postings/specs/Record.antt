@@ -49,6 +49,6 @@ valueFor ws f = lastOf [] (valuesAt f ws)
 abbrev pub centsFor : List What → ℕ
 centsFor ws = cents (lastOf [] (valuesOf Amount ws))
 
--- the record of an item that holds these
+-- the record of what an item holds and of what stands above it
 unfoldable pub recordFor : List What → List ℕ
 recordFor ws = recordWith (valueFor ws) (centsFor ws)

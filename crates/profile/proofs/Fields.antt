@@ -7,7 +7,8 @@ use borrow.Author.Tests.{eqb-true}
 use lib.ListN.{getD}
 use Rattle.profile.specs.declared.Field.{Field}
 use Rattle.profile.specs.declared.Field.the-variants.{MsgId, CreDtTm, NbOfTxs, TtlIntrBkSttlmAmt, IntrBkSttlmDt, SttlmMtd, InstgBic, InstrId, EndToEndId, TxId, SvcLvl, LclInstrm, SeqTp, IntrBkSttlmAmt, ChrgBr, ReqdColltnDt, MndtId, DtOfSgntr, CdtrId, Prtry, CdtrNm, CdtrIban, CdtrBic, DbtrNm, DbtrIban, DbtrBic, Ustrd}
-use Rattle.profile.specs.Fields.{fields, manyFields, fieldNumber, sameField}
+use Rattle.profile.specs.Fields.{fieldNumber, sameField}
+use Rattle.profile.specs.Listed.{fields, manyFields}
 
 place : (f : Field) → getD fields (fieldNumber f) MsgId ≡ f
 place MsgId = refl

@@ -1,8 +1,6 @@
 -- Every element that holds a value has a name of its own, also where its tag is another element's too. The names are numbered in the order of the profile.
 use Prim.Native.Nat.{ℕ}
 use mathlib.Core.Bool.{Bool}
-use mathlib.Core.List.{List, [], _∷_}
-use lib.ListN.{getD}
 use lib.Dec.{eqb}
 use Rattle.profile.specs.declared.Field.{Field}
 use Rattle.profile.specs.declared.Field.the-variants.{
@@ -34,40 +32,6 @@ use Rattle.profile.specs.declared.Field.the-variants.{
   DbtrBic,
   Ustrd,
 }
-
-abbrev pub fields : List Field
-fields =
-    MsgId
-    ∷ CreDtTm
-    ∷ NbOfTxs
-    ∷ TtlIntrBkSttlmAmt
-    ∷ IntrBkSttlmDt
-    ∷ SttlmMtd
-    ∷ InstgBic
-    ∷ InstrId
-    ∷ EndToEndId
-    ∷ TxId
-    ∷ SvcLvl
-    ∷ LclInstrm
-    ∷ SeqTp
-    ∷ IntrBkSttlmAmt
-    ∷ ChrgBr
-    ∷ ReqdColltnDt
-    ∷ MndtId
-    ∷ DtOfSgntr
-    ∷ CdtrId
-    ∷ Prtry
-    ∷ CdtrNm
-    ∷ CdtrIban
-    ∷ CdtrBic
-    ∷ DbtrNm
-    ∷ DbtrIban
-    ∷ DbtrBic
-    ∷ Ustrd
-    ∷ []
-
-abbrev pub manyFields : ℕ
-manyFields = 27
 
 abbrev pub fieldNumber : Field → ℕ
 fieldNumber MsgId = 0

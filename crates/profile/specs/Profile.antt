@@ -4,7 +4,7 @@ use Prim.Native.String.{String}
 use mathlib.Core.List.{List, [], _∷_}
 use mathlib.Core.Bool.{Bool}
 use Rattle.text.specs.Truth.{either}
-use Rattle.text.specs.Quoted.{alike}
+use Rattle.text.specs.Quoted.{bytes, alike}
 use Rattle.codes.specs.declared.Element.the-variants as code
 use Rattle.tags.specs.Tags.{plainTag}
 use Rattle.profile.specs.declared.Kind.{Kind}
@@ -49,6 +49,20 @@ bicName v02 = "BIC"
 abbrev pub bicKind : Version → Kind
 bicKind v02 = Plain Bic
 
+-- ---- the payment type, in the header or in an item
+abbrev pub typeName : String
+typeName = "PmtTpInf"
+
+unfoldable pub isType : String → Bool
+isType n = alike (bytes typeName) (bytes n)
+
+abbrev pub paymentType : List Child
+paymentType =
+    "SvcLvl" ▹ "Cd" is SvcLvl of Code code.SvcLvl
+    ∷ "LclInstrm" ▹ "Cd" is LclInstrm of Code code.LclInstrm
+    ∷ "SeqTp" is SeqTp of Code code.SeqTp
+    ∷ []
+
 -- ---- the header
 abbrev pub header : Version → List Child
 header v =
@@ -58,6 +72,7 @@ header v =
     ∷ "TtlIntrBkSttlmAmt" is TtlIntrBkSttlmAmt of Total
     ∷ "IntrBkSttlmDt" is IntrBkSttlmDt of Plain Date
     ∷ "SttlmInf" ▹ "SttlmMtd" is SttlmMtd of Code code.SttlmMtd
+    ∷ typeName mayHold paymentType
     ∷ "InstgAgt" ▹ "FinInstnId" ▹ bicName v is InstgBic of bicKind v
     ∷ []
 
@@ -69,11 +84,7 @@ item v =
     ∷ "EndToEndId" is EndToEndId of Plain EndToEnd
     ∷ "TxId" is TxId of Plain Reference
     ∷ [])
-    ∷ "PmtTpInf" holds
-    ("SvcLvl" ▹ "Cd" is SvcLvl of Code code.SvcLvl
-    ∷ "LclInstrm" ▹ "Cd" is LclInstrm of Code code.LclInstrm
-    ∷ "SeqTp" is SeqTp of Code code.SeqTp
-    ∷ [])
+    ∷ typeName mayHold paymentType
     ∷ "IntrBkSttlmAmt" is IntrBkSttlmAmt of Amount
     ∷ "ChrgBr" is ChrgBr of Code code.ChrgBr
     ∷ "ReqdColltnDt" is ReqdColltnDt of Plain Date

@@ -4,24 +4,25 @@ use mathlib.Core.Bool.{Bool, true, false}
 use mathlib.Core.List.{List}
 use Prim.Native.Nat.{ℕ, zero, suc, _+_, _≤_, _<_}
 use native.Mathlib.Omega.{arith}
-use lib.ListN.{length}
+use lib.ListN.{length, drop}
 use Rattle.text.specs.Truth.{pick}
-use Rattle.tags.specs.Tags.{skipped}
+use Rattle.tags.specs.declared.Look.{Look}
+use Rattle.tags.specs.declared.Look.the-variants.{Whole, Cut, Other}
+use Rattle.tags.specs.Tags.{skipped, look}
 use Rattle.profile.specs.Version.{Version}
-use Rattle.profile.specs.Tree.{more, Shape}
-use Rattle.reading.specs.Trace.{Trace, trace}
+use Rattle.profile.specs.Tree.{more}
+use Rattle.reading.specs.Trace.{Trace, upTo, missing, trace}
 use Rattle.reading.specs.Noted.{Reading, on, stop, Ended}
+use Rattle.reading.proofs.Flat.{never}
 use Rattle.table.specs.declared.Row.{Row}
-use Rattle.table.specs.Table.{tags, occOf, opensBy, closesBy, due, manyRows}
+use Rattle.table.specs.Table.{tags, occOf, markName, opensBy, due, manyRows}
 use Rattle.notes.specs.declared.Notes.{Notes}
 use Rattle.notes.specs.Steps.{reads, Good, Fine}
 use Rattle.notes.proofs.Notings.{here}
 use Rattle.notes.proofs.Stays.{later}
-use Rattle.reader.specs.declared.Choice.{Choice}
-use Rattle.reader.specs.declared.Choice.the-variants.{Enter, Pass, Stop}
-use Rattle.reader.specs.Reader.{tagged, closedBy, elementIn, restIn}
-use Rattle.reader.proofs.Steps.{passed-on, fine-on, fine-stop, stop-within}
-use Rattle.reader.proofs.Turns.{from, start, Tells, stopped, passed, failed, gone-on, repeated, deep, rest-deep}
+use Rattle.reader.specs.Reader.{elementIn}
+use Rattle.reader.proofs.Steps.{passed-on, fine-on, halts, missing-fine}
+use Rattle.reader.proofs.Turns.{from, start, Tells, cut, missed, passed, failed, gone-on, repeated, deep, rest-deep}
 
 abbrev Found : Type 0
 Found = Reading (Ended Notes)
@@ -58,9 +59,9 @@ module _ (v : Version) (m : List ℕ) (first : ℕ) (s₀ : Ended Notes) (k : �
   loop-end x e f = (e ∙ sym (l .same), later m (s₀ .at) (q .at) (omega (arith, l .on)) x f)
 
   module _ (r : Row) (next-row : r .next < manyRows v) (names : List ℕ) (lent : names ≡ tags v) (t : Tells v k (due v k) r)
-      (occ : ℕ) (now : occOf occ ≡ pick seen more (occOf (r .occ))) (w : Choice) (chose : w ≡ tagged (occOf occ) (opensBy names r) m (q .at)) where
-    says : (c : Choice) → w ≡ c → c ≡ tagged (occOf occ) (opensBy (tags v) r) m (skipped m (s .at))
-    says c e = sym e ∙ (chose ∙ rw (lent, at))
+      (occ : ℕ) (now : occOf occ ≡ pick seen more (occOf (r .occ))) (w : Look) (lies : w ≡ look (opensBy names r) (drop (q .at) m)) where
+    says : (c : Look) → w ≡ c → c ≡ look (opensBy (tags v) r) (drop (skipped m (s .at)) m)
+    says c e = sym e ∙ (lies ∙ rw (lent, at))
 
     -- on to the row behind
     on-to-next : (u : Ended Notes) → Good m u → q .at ≤ u .at → reads (from m (l .left) seen (due v k) (s .at)) (s .notes) ≡ reads (trace (due v (r .next)) m (u .at)) (u .notes)
@@ -77,26 +78,37 @@ module _ (v : Version) (m : List ℕ) (first : ℕ) (s₀ : Ended Notes) (k : �
           same = l .same ∙ (e ∙ ap (λ (t : Trace). reads t (u .notes)) (start m (due v (r .next)) (u .at)));
         }
 
-    pub loop-stop : (n p : ℕ) → w ≡ Stop n p → (x : Found) → x ≡ stop n p → Reads x
-    loop-stop n p e x z =
-        passed-on m (s₀ .at) x (stop n p) (reads (trace (due v first) m (s₀ .at)) (s₀ .notes)) z
-        (sym (l .same ∙ stopped m v k (due v k) r t (l .left) seen occ now (s .at) (s .notes) n p (says (Stop n p) e)))
-        (stop-within (occOf occ) (opensBy names r) m (q .at) n p (good .within) (sym e ∙ chose))
+    -- a step ended the reading
+    stopped-by : (p : ℕ) (b : Found) → Fine m p b → ((n y : ℕ) → stop n y ≡ b → reads (from m (l .left) seen (due v k) (s .at)) (s .notes) ≡ stop n y) → halts b ≡ true → Reads b
+    stopped-by p (on u) f g h = never (cc)
+    stopped-by p (stop n y) f g h = (sym (l .same ∙ g n y refl), f)
 
-    pub loop-pass : w ≡ Pass → Loop v m first s₀ (r .next) false q
-    loop-pass e =
-        on-to-next q good (omega arith)
-        (passed m v k (due v k) r t (l .left) seen occ now (s .at) (s .notes) (says Pass e) ∙ rw at)
+    pub loop-cut : w ≡ Cut → (x : Found) → x ≡ stop 3 (length m) → Reads x
+    loop-cut e x z =
+        passed-on m (s₀ .at) x (stop 3 (length m)) (reads (trace (due v first) m (s₀ .at)) (s₀ .notes)) z
+        (sym (l .same ∙ cut m v k (due v k) r t (l .left) seen occ now (s .at) (s .notes) (says Cut e))) (omega arith)
 
-    module _ (e : w ≡ Enter) (b : Found) (held : b ≡ reads (elementIn (due v k) m (q .at)) (q .notes)) (fit : Fine m (q .at + 1) b) where
+    module _ (e : w ≡ Other) (b : Found) (held : b ≡ reads (missing (occOf occ) (markName (r .mark)) (q .at) (upTo (q .at))) (q .notes)) where
+      missed-in : b ≡ reads (missing (occOf occ) (markName (r .mark)) (skipped m (s .at)) (upTo (skipped m (s .at)))) (s .notes)
+      missed-in = held ∙ rw at
+
+      fine : Fine m (q .at) b
+      fine = rw held (missing-fine m (occOf occ) (markName (r .mark)) (q .at) (q .notes) good)
+
+      pub loop-miss : halts b ≡ true → Reads b
+      loop-miss h = stopped-by (q .at) b fine (λ n y z. missed m v k (due v k) r t (l .left) seen occ now (s .at) (s .notes) (says Other e) n y (z ∙ missed-in)) h
+
+      pub loop-pass : (u : Ended Notes) → on u ≡ b → Loop v m first s₀ (r .next) false u
+      loop-pass u z =
+          let g = fine-on m (q .at) b u z fine in
+          on-to-next u (g .0) (g .1) (passed m v k (due v k) r t (l .left) seen occ now (s .at) (s .notes) (says Other e) u (z ∙ missed-in))
+
+    module _ (e : w ≡ Whole) (b : Found) (held : b ≡ reads (elementIn (due v k) m (q .at)) (q .notes)) (fit : Fine m (q .at + 1) b) where
       in-place : b ≡ reads (elementIn (due v k) m (skipped m (s .at))) (s .notes)
       in-place = held ∙ rw at
 
-      pub loop-fail : (n p : ℕ) → stop n p ≡ b → (x : Found) → x ≡ stop n p → Reads x
-      loop-fail n p z x y =
-          passed-on m (s₀ .at) x (stop n p) (reads (trace (due v first) m (s₀ .at)) (s₀ .notes)) y
-          (sym (l .same ∙ failed m v k (due v k) r t (l .left) seen occ now (s .at) (s .notes) (says Enter e) n p (z ∙ in-place)))
-          (fine-stop m (q .at + 1) b n p z fit)
+      pub loop-fail : halts b ≡ true → Reads b
+      loop-fail h = stopped-by (q .at + 1) b fit (λ n y z. failed m v k (due v k) r t (l .left) seen occ now (s .at) (s .notes) (says Whole e) n y (z ∙ in-place)) h
 
       beyond : (u : Ended Notes) → on u ≡ b → Good m u × (q .at + 1 ≤ u .at)
       beyond u z = fine-on m (q .at + 1) b u z fit
@@ -104,7 +116,7 @@ module _ (v : Version) (m : List ℕ) (first : ℕ) (s₀ : Ended Notes) (k : �
       pub loop-next : (u : Ended Notes) → on u ≡ b → occ < 2 → Loop v m first s₀ (r .next) false u
       loop-next u z h =
           on-to-next u (beyond u z .0) (omega (arith, beyond u z .1))
-          (gone-on m v k (due v k) r t (l .left) seen occ now (s .at) (s .notes) (says Enter e) u (z ∙ in-place) h)
+          (gone-on m v k (due v k) r t (l .left) seen occ now (s .at) (s .notes) (says Whole e) u (z ∙ in-place) h)
 
       pub loop-more : (u : Ended Notes) → on u ≡ b → 2 ≤ occ → Loop v m first s₀ k true u
       loop-more u z h = go (l .left) refl
@@ -122,5 +134,5 @@ module _ (v : Version) (m : List ℕ) (first : ℕ) (s₀ : Ended Notes) (k : �
                 depth = l .depth;
                 left = j;
                 room = omega (arith, l .room, past);
-                same = l .same ∙ repeated m v k (due v k) r t (l .left) seen occ now (s .at) (s .notes) (says Enter e) u (z ∙ in-place) h j f;
+                same = l .same ∙ repeated m v k (due v k) r t (l .left) seen occ now (s .at) (s .notes) (says Whole e) u (z ∙ in-place) h j f;
               }

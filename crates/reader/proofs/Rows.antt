@@ -1,12 +1,13 @@
 -- A row of the table, as the code reads it: what it tells of the shape that is due there, and of its element.
 use mathlib.Core.Path.{_≡_, refl, sym, ap, _∙_}
-use mathlib.Core.Bool.{Bool, false}
+use mathlib.Core.Bool.{Bool}
 use mathlib.Core.List.{List}
-use Prim.Native.Nat.{ℕ, _+_, _≤_, _<_}
+use Prim.Native.Nat.{ℕ, _+_, _≤_}
 use Prim.Native.String.{String}
 use native.Mathlib.Omega.{arith}
-use lib.ListN.{length}
-use Rattle.tags.specs.Tags.{skipped, exactly, endTag, plainTag, startTag}
+use lib.ListN.{length, drop}
+use Rattle.tags.specs.declared.Look.the-variants.{Whole}
+use Rattle.tags.specs.Tags.{skipped, look, plainTag, startTag}
 use Rattle.tags.specs.Values.{behindValue}
 use Rattle.tags.proofs.Looks.{exactly-length}
 use Rattle.profile.specs.declared.Kind.{Kind}
@@ -14,17 +15,17 @@ use Rattle.profile.specs.declared.Field.{Field}
 use Rattle.profile.specs.Version.{Version}
 use Rattle.profile.specs.Kinds.{isAmount}
 use Rattle.profile.specs.Tree.{Occ, once, optional, many, more, Shape, end, leaf, group}
-use Rattle.reading.specs.Trace.{itemEnds, _at_, Trace, met, upTo, fault, andThen, begins, ends, priced, closed, valued, leafBody, groupBody, trace}
+use Rattle.profile.specs.Profile.{isType}
+use Rattle.reading.specs.Trace.{_at_, Trace, upTo, andThen, begins, ends, priced, valued, leafBody, groupBody, trace}
 use Rattle.reading.specs.Noted.{Reading, on, stop, onward, Ended}
 use Rattle.reading.proofs.Flat.{noted-then}
 use Rattle.table.specs.declared.Row.{Row}
-use Rattle.table.specs.Table.{tags, table, manyRows, rowIn, kindOf, fieldOf, occOf, amountKind, width, opensBy, closesBy, due, Element}
+use Rattle.table.specs.Table.{tags, table, rowIn, kindOf, fieldOf, occOf, markName, amountKind, width, opensBy, closesBy, due, Element}
 use Rattle.table.proofs.Tied.{Tied}
 use Rattle.notes.specs.declared.Notes.{Notes}
 use Rattle.notes.specs.Notes.{inNotes}
-use Rattle.notes.specs.Steps.{reads, Good}
-use Rattle.reader.specs.declared.Choice.the-variants.{Enter}
-use Rattle.reader.specs.Reader.{tagged, closedBy, entered, valuedBy, occIn, tagIn, elementIn, restIn}
+use Rattle.notes.specs.Steps.{reads}
+use Rattle.reader.specs.Reader.{closedBy, entered, valuedBy, elementIn}
 use Rattle.reader.proofs.Steps.{enter-fits, reads-begins}
 use Rattle.reader.proofs.Turns.{from, closed-by, Tells, deep, deepIn}
 
@@ -35,9 +36,9 @@ module _ (v : Version) (k : ℕ) (r : Row) where
   -- a row of no end is an element's
   pub tells : (sh : Shape) → Tied v k sh r → (r .kind ≡ 0 → ⊥) → Tells v k sh r
   tells (end n) t h = absurd (h (t .kind))
-  tells (leaf o n kd f rest) t h = record { element = tt; occ = t .occ; start = t .start; width = t .width; later = t .later; next = t .next }
+  tells (leaf o n kd f rest) t h = record { element = tt; occ = t .occ; name = t .name; start = t .start; width = t .width; later = t .later; next = t .next }
   tells (group o n inner rest) t h =
-      record { element = tt; occ = t .occ; start = t .start; width = t .width ∙ sym (exactly-length (plainTag n)); later = t .later; next = t .next }
+      record { element = tt; occ = t .occ; name = t .name; start = t .start; width = t .width ∙ sym (exactly-length (plainTag n)); later = t .later; next = t .next }
 
   -- ---- its end tag
   module _ (names : List ℕ) (lent : names ≡ tags v) where
@@ -49,7 +50,7 @@ module _ (v : Version) (k : ℕ) (r : Row) where
   -- ---- its element: past the start tag, then what it holds, then its end, of which nothing is noted
   module _ (m : List ℕ) (p : ℕ) (n : Notes) where
     abbrev In : Found
-    In = reads (entered (occOf (r .occ)) (amountKind (r .kind)) (width r) m p) n
+    In = reads (entered (occOf (r .occ)) (markName (r .mark)) (amountKind (r .kind)) (width r) m p) n
 
     ends-nothing : (o : Occ) (t : Trace) (n : Notes) → reads (andThen t (ends o)) n ≡ reads t n
     ends-nothing o t n = noted-then inNotes t (ends o) n ∙ go o (reads t n)
@@ -65,13 +66,13 @@ module _ (v : Version) (k : ℕ) (r : Row) where
     onward-twice (on s) f g = refl
     onward-twice (stop i q) f g = refl
 
-    body-reads : (o : Occ) (s : String) (first : Trace) (then : ℕ → Trace)
-        → reads (begins o s p (andThen (andThen first then) (ends o))) n ≡ onward (reads (begins o "" p first) n) (λ u. reads (then (u .at)) (u .notes))
-    body-reads o s first then =
-        reads-begins o s p (andThen (andThen first then) (ends o)) n
-        ∙ (alike (reads (begins o "" p (upTo p)) n)
-        ∙ (sym (onward-twice (reads (begins o "" p (upTo p)) n) (reads first) (λ u. reads (then (u .at)) (u .notes)))
-        ∙ ap (λ (x : Found). onward x (λ u. reads (then (u .at)) (u .notes))) (sym (reads-begins o "" p first n))))
+    body-reads : (o : Occ) (s a : String) → isType s ≡ isType a → (first : Trace) (then : ℕ → Trace)
+        → reads (begins o s p (andThen (andThen first then) (ends o))) n ≡ onward (reads (begins o a p first) n) (λ u. reads (then (u .at)) (u .notes))
+    body-reads o s a e first then =
+        reads-begins o s a e p (andThen (andThen first then) (ends o)) n
+        ∙ (alike (reads (begins o a p (upTo p)) n)
+        ∙ (sym (onward-twice (reads (begins o a p (upTo p)) n) (reads first) (λ u. reads (then (u .at)) (u .notes)))
+        ∙ ap (λ (x : Found). onward x (λ u. reads (then (u .at)) (u .notes))) (sym (reads-begins o a a refl p first n))))
       where
         alike : (x : Found) → onward x (λ s. reads (andThen (andThen first then) (ends o)) (s .notes)) ≡ onward x (λ s. onward (reads first (s .notes)) (λ u. reads (then (u .at)) (u .notes)))
         alike (on s) = ends-nothing o (andThen first then) (s .notes) ∙ noted-then inNotes first then (s .notes)
@@ -85,8 +86,8 @@ module _ (v : Version) (k : ℕ) (r : Row) where
     leaf-reads : (o : Occ) (a : String) (kd : Kind) (f : Field) (rest : Shape) → Tied v k (leaf o a kd f rest) r
         → reads (leafBody o a kd f m p) n ≡ onward In (λ u. reads (valuedBy (closesBy (tags v) r) (kindOf (r .kind)) (fieldOf (r .field)) m (u .at)) (u .notes))
     leaf-reads o a kd f rest t =
-        body-reads o a (priced (isAmount kd) m (p + length (startTag (isAmount kd) a))) (valued a kd f m)
-        ∙ rw (t .width, t .amount, t .occ) (alike (reads (entered o (isAmount kd) (length (startTag (isAmount kd) a)) m p) n))
+        body-reads o a (markName (r .mark)) (sym (t .name)) (priced (isAmount kd) m (p + length (startTag (isAmount kd) a))) (valued a kd f m)
+        ∙ rw (t .width, t .amount, t .occ) (alike (reads (entered o (markName (r .mark)) (isAmount kd) (length (startTag (isAmount kd) a)) m p) n))
       where
         alike : (x : Found) → onward x (λ u. reads (valued a kd f m (u .at)) (u .notes)) ≡ onward x (λ u. reads (valuedBy (closesBy (tags v) r) (kindOf (r .kind)) (fieldOf (r .field)) m (u .at)) (u .notes))
         alike (on s) = ap (λ (t : Trace). reads t (s .notes)) (value-by o a kd f rest t (s .at))
@@ -94,7 +95,7 @@ module _ (v : Version) (k : ℕ) (r : Row) where
 
     group-reads : (o : Occ) (a : String) (inner rest : Shape) → Tied v k (group o a inner rest) r → reads (groupBody o a (trace inner m) p) n ≡ onward In (λ u. reads (trace (due v (k + 1)) m (u .at)) (u .notes))
     group-reads o a inner rest t =
-        body-reads o a (upTo (p + length (plainTag a))) (trace inner m)
+        body-reads o a (markName (r .mark)) (sym (t .name)) (upTo (p + length (plainTag a))) (trace inner m)
         ∙ rw (t .first, t .width, t .amount, t .occ)
 
     pub element-stops : (sh : Shape) → Tied v k sh r → Element sh → (i q : ℕ) → stop i q ≡ In → stop i q ≡ reads (elementIn sh m p) n
@@ -121,9 +122,9 @@ module _ (v : Version) (k : ℕ) (r : Row) where
   inner-deep (group o n inner rest) t e z = ap deep (t .first)
 
 -- where an element's start tag lies whole, it lies within the message
-pub within : (v : Version) (k : ℕ) (r : Row) (names : List ℕ) → names ≡ tags v → (m : List ℕ) (rs : List (List ℕ)) → rs ≡ table v → r ≡ rowIn rs k → (p : ℕ) → p ≤ length m → (occ : ℕ)
-    → Tells v k (due v k) r → Enter ≡ tagged (occOf occ) (opensBy names r) m p → p + width (rowIn (table v) k) ≤ length m
-within v k r names e m rs f h p g occ t c =
+pub within : (v : Version) (k : ℕ) (r : Row) (names : List ℕ) → names ≡ tags v → (m : List ℕ) (rs : List (List ℕ)) → rs ≡ table v → r ≡ rowIn rs k → (p : ℕ) → p ≤ length m
+    → Tells v k (due v k) r → Whole ≡ look (opensBy names r) (drop p m) → p + width (rowIn (table v) k) ≤ length m
+within v k r names e m rs f h p g t c =
     let w : width (rowIn (table v) k) ≡ width r = ap width (sym (h ∙ ap (λ (l : List (List ℕ)). rowIn l k) f)) in
     let l : length (opensBy names r) ≡ width r = rw e (ap length (t .start) ∙ sym (t .width)) in
-    omega (arith, w, l, enter-fits (occOf occ) (opensBy names r) m p g c)
+    omega (arith, w, l, enter-fits (opensBy names r) m p g c)

@@ -11,25 +11,27 @@ use Rattle.text.specs.Truth.{pick, lead}
 use Rattle.text.proofs.Scan.{rest-of, lead-le}
 use Rattle.tags.specs.declared.Look.{Look}
 use Rattle.tags.specs.declared.Look.the-variants.{Whole, Cut, Other}
-use Rattle.tags.specs.Tags.{white, skipped, look, onLook, currencyPlace, inEuro}
+use Rattle.tags.specs.Tags.{white, skipped, look, currencyPlace, inEuro}
 use Rattle.tags.specs.Values.{inValue, valueAt}
 use Rattle.tags.proofs.Looks.{look-fits}
 use Rattle.profile.specs.declared.Kind.{Kind}
 use Rattle.profile.specs.declared.Field.{Field}
 use Rattle.profile.specs.Tree.{Occ, once, optional, many, more}
-use Rattle.reading.specs.Trace.{Trace, upTo, fault, begins, priced}
+use Rattle.profile.specs.Profile.{isType}
+use Rattle.reading.specs.Trace.{Trace, upTo, fault, begins, missing, priced}
 use Rattle.reading.specs.Noted.{Reading, on, stop, onward, Ended}
 use Rattle.reading.proofs.Flat.{never}
 use Rattle.table.specs.declared.Row.{Row}
-use Rattle.table.specs.Table.{occOf, width}
+use Rattle.table.specs.Table.{occOf, markName, width}
 use Rattle.notes.specs.declared.Notes.{Notes}
 use Rattle.notes.specs.declared.State.{State}
-use Rattle.notes.specs.Notes.{valueNoted, itemNoted}
-use Rattle.notes.specs.Steps.{stated, staying, reads, Good, Fine}
+use Rattle.notes.specs.declared.Met.{Met}
+use Rattle.notes.specs.declared.Met.the-variants.{On, Stopped}
+use Rattle.notes.specs.Notes.{valueNoted, itemNoted, typeNoted}
+use Rattle.notes.specs.Steps.{stated, metIn, staying, reads, Good, Fine}
 use Rattle.notes.proofs.Notings.{here}
-use Rattle.notes.proofs.Stays.{later, good-at, value-fine, begun-fine}
-use Rattle.reader.specs.declared.Choice.the-variants.{Enter, Pass, Stop}
-use Rattle.reader.specs.Reader.{whereMissing, tagged, closedBy, entered, valuedBy}
+use Rattle.notes.proofs.Stays.{later, good-at, value-fine, begun-fine, type-fine}
+use Rattle.reader.specs.Reader.{stops, closedBy, entered, valuedBy}
 
 abbrev Found : Type 0
 Found = Reading (Ended Notes)
@@ -44,6 +46,19 @@ fine-on m p r s e f = rw (sym e) at f
 
 pub fine-stop : (m : List ℕ) (p : ℕ) (r : Found) (n q : ℕ) → stop n q ≡ r → Fine m p r → q ≤ length m
 fine-stop m p r n q e f = rw (sym e) at f
+
+-- whether it is one that stops, as the code asks of a step
+abbrev pub halts : Found → Bool
+halts (on s) = false
+halts (stop n q) = true
+
+pub halted : (x : Met) (s : State) → stops x ≡ true → halts (metIn x s) ≡ true
+halted On s h = h
+halted (Stopped n q) s h = refl
+
+pub went-on : (x : Met) (s : State) → stops x ≡ false → on (stated s) ≡ metIn x s
+went-on On s h = refl
+went-on (Stopped n q) s h = never (cc)
 
 -- ---- white space
 pub spaces-fit : (m : List ℕ) (p n : ℕ) → p ≤ length m → n ≡ lead white (take (length m - p) (drop p m)) → p + n ≤ length m
@@ -81,91 +96,117 @@ module _ (m : List ℕ) (p : ℕ) (n : Notes) (t : List (ℕ → Bool)) (g : Goo
   unfolding closedBy
   closed-other h x w = passed-on m p x (stop 4 p) (reads (closedBy t m p) n) w (rw (looked, h)) (g .within)
 
--- ---- a start tag
-passes-by : (occ p : ℕ) → (occ ≡ 0 → ⊥) → (occ ≡ 2 → ⊥) → whereMissing (occOf occ) p ≡ Pass
-passes-by zero p h k = absurd (h refl)
-passes-by (suc zero) p h k = refl
-passes-by (suc (suc zero)) p h k = absurd (k refl)
-passes-by (suc (suc (suc n))) p h k = refl
-
-module _ (m : List ℕ) (p occ : ℕ) (t : List (ℕ → Bool)) (l : Look) (e : l ≡ look t (take (length m - p) (drop p m))) where
-  seen : look t (drop p m) ≡ l
-  seen = ap (look t) (sym (rest-of p m)) ∙ sym e
-
-  pub chosen-whole : l ≡ Whole → Enter ≡ tagged (occOf occ) t m p
-  unfolding tagged
-  chosen-whole h = rw (seen, h)
-
-  pub chosen-cut : l ≡ Cut → Stop 3 (length m) ≡ tagged (occOf occ) t m p
-  unfolding tagged
-  chosen-cut h = rw (seen, h)
-
-  pub chosen-once : l ≡ Other → occ ≡ 0 → Stop 4 p ≡ tagged (occOf occ) t m p
-  unfolding tagged
-  chosen-once h k = rw (seen, h, k)
-
-  pub chosen-many : l ≡ Other → occ ≡ 2 → Stop 4 p ≡ tagged (occOf occ) t m p
-  unfolding tagged
-  chosen-many h k = rw (seen, h, k)
-
-  pub chosen-pass : l ≡ Other → (occ ≡ 0 → ⊥) → (occ ≡ 2 → ⊥) → Pass ≡ tagged (occOf occ) t m p
-  unfolding tagged
-  chosen-pass h k j = rw (seen, h, passes-by occ p k j)
-
--- where the start tag lies whole, it lies within the message; a stop is within it
-pub enter-fits : (o : Occ) (t : List (ℕ → Bool)) (m : List ℕ) (p : ℕ) → p ≤ length m → Enter ≡ tagged o t m p → p + length t ≤ length m
-unfolding tagged
-enter-fits o t m p h = go (look t (drop p m)) o refl
-  where
-    go : (l : Look) (q : Occ) → look t (drop p m) ≡ l → Enter ≡ onLook l Enter (Stop 3 (length m)) (whereMissing q p) → p + length t ≤ length m
-    go Whole q e w = omega (arith, look-fits t (drop p m) e, length-drop p m)
-    go Cut q e w = never (cc)
-    go Other once e w = never (cc)
-    go Other optional e w = never (cc)
-    go Other many e w = never (cc)
-    go Other more e w = never (cc)
-
-pub stop-within : (o : Occ) (t : List (ℕ → Bool)) (m : List ℕ) (p n q : ℕ) → p ≤ length m → Stop n q ≡ tagged o t m p → q ≤ length m
-unfolding tagged
-stop-within o t m p n q h = go (look t (drop p m)) o
-  where
-    go : (l : Look) (x : Occ) → Stop n q ≡ onLook l Enter (Stop 3 (length m)) (whereMissing x p) → q ≤ length m
-    go Whole x w = never (cc)
-    go Cut x w = let z : q ≡ length m = cc in omega arith
-    go Other once w = let z : q ≡ p = cc in omega arith
-    go Other optional w = never (cc)
-    go Other many w = let z : q ≡ p = cc in omega arith
-    go Other more w = never (cc)
-
--- ---- entering
--- an item begins, or nothing is noted; then reading goes on in whatever way
-pub begun-plain : (occ p : ℕ) (n : Notes) → occ < 2 → on (here p n) ≡ reads (begins (occOf occ) "" p (upTo p)) n
-begun-plain zero p n h = refl
-begun-plain (suc zero) p n h = refl
-begun-plain (suc (suc k)) p n h = absurd (omega arith)
-
-pub begun-item : (occ p : ℕ) (n : Notes) → 2 ≤ occ → staying p (itemNoted p n) ≡ reads (begins (occOf occ) "" p (upTo p)) n
-begun-item zero p n h = absurd (omega arith)
-begun-item (suc zero) p n h = absurd (omega arith)
-begun-item (suc (suc zero)) p n h = refl
-begun-item (suc (suc (suc k))) p n h = refl
-
-then-on : (p : ℕ) (t : Trace) (x : Reading Notes) → onward x (reads t) ≡ onward (staying p x) (λ r. reads t (r .notes))
+-- ---- an element that comes or does not: what is noted first, and then reading goes on in whatever way
+then-on : (p : ℕ) (t : ℕ → Trace) (x : Reading Notes) → onward x (reads (t p)) ≡ onward (staying p x) (λ r. reads (t (r .at)) (r .notes))
 then-on p t (on u) = refl
 then-on p t (stop i q) = refl
 
-pub reads-begins : (o : Occ) (s : String) (p : ℕ) (t : Trace) (n : Notes) → reads (begins o s p t) n ≡ onward (reads (begins o "" p (upTo p)) n) (λ r. reads t (r .notes))
-reads-begins once s p t n = refl
-reads-begins optional s p t n = refl
-reads-begins many s p t n = then-on p t (itemNoted p n)
-reads-begins more s p t n = then-on p t (itemNoted p n)
+-- where an element is 0 or 1, its name counts by whether it is the payment type's
+abbrev typed : Bool → Bool → ℕ → Notes → Reading Notes
+typed c b p n = pick c (typeNoted b p n) (on n)
 
-begins-fine : (m : List ℕ) (o : Occ) (p : ℕ) (n : Notes) → Good m (here p n) → Fine m p (reads (begins o "" p (upTo p)) n)
-begins-fine m once p n g = (g, omega arith)
-begins-fine m optional p n g = (g, omega arith)
-begins-fine m many p n g = begun-fine m p n g
-begins-fine m more p n g = begun-fine m p n g
+typed-fine : (m : List ℕ) (c b : Bool) (p : ℕ) (n : Notes) → Good m (here p n) → Fine m p (staying p (typed c b p n))
+typed-fine m true b p n g = type-fine m p n g b
+typed-fine m false b p n g = (g, omega arith)
 
+-- mark is 0 for every other name
+untyped : (mark : ℕ) (b : Bool) (p : ℕ) (n : Notes) → mark ≡ 0 → on (here p n) ≡ staying p (typed (isType (markName mark)) b p n)
+unfolding isType
+untyped mark b p n h = rw h
+
+is-typed : (mark : ℕ) (b : Bool) (p : ℕ) (n : Notes) → (mark ≡ 0 → ⊥) → staying p (typeNoted b p n) ≡ staying p (typed (isType (markName mark)) b p n)
+unfolding isType
+is-typed zero b p n h = absurd (h refl)
+is-typed (suc i) b p n h = refl
+
+module _ (occ mark p : ℕ) (n : Notes) where
+  -- what is shown of `begin`
+  abbrev Begins : Found → Type 0
+  Begins x = x ≡ reads (begins (occOf occ) (markName mark) p (upTo p)) n
+
+  pub begun-once : occ ≡ 0 → Begins (on (here p n))
+  begun-once h = rw h
+
+  pub begun-item : (occ ≡ 0 → ⊥) → (occ ≡ 1 → ⊥) → Begins (staying p (itemNoted p n))
+  begun-item h k = go occ h k
+    where
+      go : (i : ℕ) → (i ≡ 0 → ⊥) → (i ≡ 1 → ⊥) → staying p (itemNoted p n) ≡ reads (begins (occOf i) (markName mark) p (upTo p)) n
+      go zero h k = absurd (h refl)
+      go (suc zero) h k = absurd (k refl)
+      go (suc (suc zero)) h k = refl
+      go (suc (suc (suc i))) h k = refl
+
+  pub begun-other : occ ≡ 1 → mark ≡ 0 → Begins (on (here p n))
+  begun-other h z = rw h (untyped mark true p n z)
+
+  pub begun-type : occ ≡ 1 → (mark ≡ 0 → ⊥) → Begins (staying p (typeNoted true p n))
+  begun-type h z = rw h (is-typed mark true p n z)
+
+  -- what is shown of `pass`
+  abbrev Misses : Found → Type 0
+  Misses x = x ≡ reads (missing (occOf occ) (markName mark) p (upTo p)) n
+
+  pub missed-once : occ ≡ 0 → Misses (stop 4 p)
+  missed-once h = rw h
+
+  pub missed-many : occ ≡ 2 → Misses (stop 4 p)
+  missed-many h = rw h
+
+  pub missed-more : (occ ≡ 0 → ⊥) → (occ ≡ 2 → ⊥) → (occ ≡ 1 → ⊥) → Misses (on (here p n))
+  missed-more h k j = go occ h k j
+    where
+      go : (i : ℕ) → (i ≡ 0 → ⊥) → (i ≡ 2 → ⊥) → (i ≡ 1 → ⊥) → on (here p n) ≡ reads (missing (occOf i) (markName mark) p (upTo p)) n
+      go zero h k j = absurd (h refl)
+      go (suc zero) h k j = absurd (j refl)
+      go (suc (suc zero)) h k j = absurd (k refl)
+      go (suc (suc (suc i))) h k j = refl
+
+  pub missed-other : occ ≡ 1 → mark ≡ 0 → Misses (on (here p n))
+  missed-other h z = rw h (untyped mark false p n z)
+
+  pub missed-type : occ ≡ 1 → (mark ≡ 0 → ⊥) → Misses (staying p (typeNoted false p n))
+  missed-type h z = rw h (is-typed mark false p n z)
+
+-- a is the element's name, and b one that stands for it
+module _ (o : Occ) (a b : String) (e : isType a ≡ isType b) (p : ℕ) where
+  named : (c : Bool) (n : Notes) → typed (isType a) c p n ≡ typed (isType b) c p n
+  named c n = ap (λ (i : Bool). typed i c p n) e
+
+  pub reads-begins : (t : Trace) (n : Notes) → reads (begins o a p t) n ≡ onward (reads (begins o b p (upTo p)) n) (λ r. reads t (r .notes))
+  reads-begins t n = go o
+    where
+      go : (o : Occ) → reads (begins o a p t) n ≡ onward (reads (begins o b p (upTo p)) n) (λ r. reads t (r .notes))
+      go once = refl
+      go optional = then-on p (λ q. t) (typed (isType a) true p n) ∙ ap (λ (x : Reading Notes). onward (staying p x) (λ r. reads t (r .notes))) (named true n)
+      go many = then-on p (λ q. t) (itemNoted p n)
+      go more = then-on p (λ q. t) (itemNoted p n)
+
+  pub reads-missing : (t : ℕ → Trace) (n : Notes) → reads (missing o a p (t p)) n ≡ onward (reads (missing o b p (upTo p)) n) (λ r. reads (t (r .at)) (r .notes))
+  reads-missing t n = go o
+    where
+      go : (o : Occ) → reads (missing o a p (t p)) n ≡ onward (reads (missing o b p (upTo p)) n) (λ r. reads (t (r .at)) (r .notes))
+      go once = refl
+      go optional = then-on p t (typed (isType a) false p n) ∙ ap (λ (x : Reading Notes). onward (staying p x) (λ r. reads (t (r .at)) (r .notes))) (named false n)
+      go many = refl
+      go more = refl
+
+begins-fine : (m : List ℕ) (o : Occ) (s : String) (p : ℕ) (n : Notes) → Good m (here p n) → Fine m p (reads (begins o s p (upTo p)) n)
+begins-fine m once s p n g = (g, omega arith)
+begins-fine m optional s p n g = typed-fine m (isType s) true p n g
+begins-fine m many s p n g = begun-fine m p n g
+begins-fine m more s p n g = begun-fine m p n g
+
+pub missing-fine : (m : List ℕ) (o : Occ) (s : String) (p : ℕ) (n : Notes) → Good m (here p n) → Fine m p (reads (missing o s p (upTo p)) n)
+missing-fine m once s p n g = g .within
+missing-fine m optional s p n g = typed-fine m (isType s) false p n g
+missing-fine m many s p n g = g .within
+missing-fine m more s p n g = (g, omega arith)
+
+-- where a start tag lies whole, it lies within the message
+pub enter-fits : (t : List (ℕ → Bool)) (m : List ℕ) (p : ℕ) → p ≤ length m → Whole ≡ look t (drop p m) → p + length t ≤ length m
+enter-fits t m p h e = omega (arith, look-fits t (drop p m) (sym e), length-drop p m)
+
+-- ---- entering
 module _ (m : List ℕ) (p : ℕ) (n : Notes) (b : Bool) (e : b ≡ inEuro m p) where
   pub in-euro : b ≡ true → on (here p n) ≡ reads (priced true m p) n
   in-euro h = rw (← e, h)
@@ -182,35 +223,35 @@ priced-fine m true p n g = go (inEuro m p)
     go true = (g, omega arith)
     go false = omega (arith, g .within)
 
-module _ (m : List ℕ) (p : ℕ) (n : Notes) (g : Good m (here p n)) (o : Occ) (amount : Bool) (w : ℕ) (fits : p + w ≤ length m) (some : 0 < w) where
+module _ (m : List ℕ) (p : ℕ) (n : Notes) (g : Good m (here p n)) (o : Occ) (a : String) (amount : Bool) (w : ℕ) (fits : p + w ≤ length m) (some : 0 < w) where
   -- what is shown of `enter`
   abbrev pub Enters : Found → Type 0
-  Enters x = (x ≡ reads (entered o amount w m p) n) × Fine m (p + 1) x
+  Enters x = (x ≡ reads (entered o a amount w m p) n) × Fine m (p + 1) x
 
   abbrev Begun : Found
-  Begun = reads (begins o "" p (upTo p)) n
+  Begun = reads (begins o a p (upTo p)) n
 
-  goes : (r : Found) → r ≡ Begun → onward r (λ s. reads (priced amount m (p + w)) (s .notes)) ≡ reads (entered o amount w m p) n
-  goes r e = rw e (sym (reads-begins o "" p (priced amount m (p + w)) n))
+  goes : (r : Found) → r ≡ Begun → onward r (λ s. reads (priced amount m (p + w)) (s .notes)) ≡ reads (entered o a amount w m p) n
+  goes r e = rw e (sym (reads-begins o a a refl p (priced amount m (p + w)) n))
 
   pub enters-not : (i q : ℕ) → stop i q ≡ Begun → (x : Found) → x ≡ stop i q → Enters x
-  enters-not i q c x e = passed-on m (p + 1) x (stop i q) (reads (entered o amount w m p) n) e (goes (stop i q) c) (fine-stop m p Begun i q c (begins-fine m o p n g))
+  enters-not i q c x e = passed-on m (p + 1) x (stop i q) (reads (entered o a amount w m p) n) e (goes (stop i q) c) (fine-stop m p Begun i q c (begins-fine m o a p n g))
 
   module _ (s : Ended Notes) (c : on s ≡ Begun) where
     pub past-good : Good m (here (p + w) (s .notes))
-    past-good = good-at m s (p + w) (fine-on m p Begun s c (begins-fine m o p n g) .0) fits
+    past-good = good-at m s (p + w) (fine-on m p Begun s c (begins-fine m o a p n g) .0) fits
 
     enters-on : (x : Found) → x ≡ reads (priced amount m (p + w)) (s .notes) → Enters x
     enters-on x e =
-        passed-on m (p + 1) x (reads (priced amount m (p + w)) (s .notes)) (reads (entered o amount w m p) n) e (goes (on s) c)
+        passed-on m (p + 1) x (reads (priced amount m (p + w)) (s .notes)) (reads (entered o a amount w m p) n) e (goes (on s) c)
         (later m (p + 1) (p + w) (omega arith) (reads (priced amount m (p + w)) (s .notes)) (priced-fine m amount (p + w) (s .notes) past-good))
 
     -- t is the state past the tag
     pub enters-amount : (t : Ended Notes) (k : ℕ) → k ≡ w → t ≡ here (p + k) (s .notes) → amount ≡ true → (x : Found) → x ≡ reads (priced true m (t .at)) (t .notes) → Enters x
-    enters-amount t k f a b x e = enters-on x (e ∙ rw (a, f, b))
+    enters-amount t k f h b x e = enters-on x (e ∙ rw (h, f, b))
 
     pub enters-plain : (t : Ended Notes) (k : ℕ) → k ≡ w → t ≡ here (p + k) (s .notes) → amount ≡ false → (x : Found) → x ≡ on t → Enters x
-    enters-plain t k f a b x e = enters-on x (e ∙ rw (a, f, b))
+    enters-plain t k f h b x e = enters-on x (e ∙ rw (h, f, b))
 
 -- a row's start tag is not empty
 pub width-some : (r : Row) → 0 < r .start → 0 < width r
@@ -252,7 +293,7 @@ module _ (m : List ℕ) (p : ℕ) (ns : Notes) (g : Good m (here p ns)) (t : Lis
 
     goes-on : (r : Found) → r ≡ staying p Noted → onward r (λ u. reads (closedBy t m (p + n)) (u .notes)) ≡ reads (valuedBy t k f m p) ns
     unfolding valuedBy
-    goes-on r w = rw (w, lent-is, ← found, lt-ltb (p + n) (length m) value-there) (sym (then-on p (closedBy t m (p + n)) (valueNoted k f (take n (drop p m)) p ns)))
+    goes-on r w = rw (w, lent-is, ← found, lt-ltb (p + n) (length m) value-there) (sym (then-on p (λ q. closedBy t m (p + n)) (valueNoted k f (take n (drop p m)) p ns)))
 
     pub value-stops : (c q : ℕ) → stop c q ≡ staying p Noted → (x : Found) → x ≡ stop c q → Values x
     value-stops c q w x z = passed-on m p x (stop c q) (reads (valuedBy t k f m p) ns) z (goes-on (stop c q) w) (fine-stop m p (staying p Noted) c q w (value-fine m p ns g k f lent))

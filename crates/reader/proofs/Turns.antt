@@ -1,8 +1,8 @@
--- One turn of the group reader: what is due from a shape on, where its element was seen already or not; and each way on, by what its start tag says.
+-- One turn of the group reader: what is due from a shape on, where its element was seen already or not; and each way on, by how its start tag lies.
 use mathlib.Core.Path.{_≡_, refl, sym, ap, _∙_}
 use mathlib.Core.Bool.{Bool, true, false}
 use mathlib.Core.List.{List}
-use Prim.Native.Nat.{ℕ, zero, suc, _+_, _≤_, _<_}
+use Prim.Native.Nat.{ℕ, zero, suc, _≤_, _<_}
 use Prim.Native.String.{String}
 use native.Mathlib.Omega.{arith}
 use borrow.Author.Tests.{leb-true, leb-false}
@@ -14,46 +14,39 @@ use Rattle.tags.specs.declared.Look.the-variants.{Whole, Cut, Other}
 use Rattle.tags.specs.Tags.{skipped, look, onLook, exactly, endTag}
 use Rattle.tags.proofs.Looks.{exactly-length}
 use Rattle.profile.specs.Version.{Version}
-use Rattle.profile.specs.Tree.{Occ, once, optional, many, more, Shape, end, leaf, group}
+use Rattle.profile.specs.Tree.{Occ, more, Shape, end, leaf, group}
+use Rattle.profile.specs.Profile.{isType}
 use Rattle.reading.specs.Trace.{Trace, upTo, fault, andThen, closed, missing, turn, again, follow, trace}
 use Rattle.reading.specs.Noted.{Reading, on, stop, onward, Ended}
 use Rattle.reading.proofs.Flat.{noted-then}
 use Rattle.table.specs.declared.Row.{Row}
-use Rattle.table.specs.Table.{occOf, opensBy, closesBy, width, tags, due, Element}
+use Rattle.table.specs.Table.{occOf, markName, opensBy, width, tags, due, Element}
 use Rattle.notes.specs.declared.Notes.{Notes}
 use Rattle.notes.specs.Notes.{inNotes}
 use Rattle.notes.specs.Steps.{reads}
-use Rattle.reader.specs.declared.Choice.{Choice}
-use Rattle.reader.specs.declared.Choice.the-variants.{Enter, Pass, Stop}
-use Rattle.reader.specs.Reader.{whereMissing, tagged, closedBy, occIn, nameIn, tagIn, elementIn, restIn}
+use Rattle.reader.specs.Reader.{closedBy, occIn, nameIn, tagIn, elementIn, restIn}
+use Rattle.reader.proofs.Steps.{reads-missing}
 
 abbrev Found : Type 0
 Found = Reading (Ended Notes)
 
--- ---- what a start tag says, and what is read then
-abbrev chosen : Choice → Found → Found → Found
-chosen Enter a b = a
-chosen Pass a b = b
-chosen (Stop n p) a b = stop n p
-
 module _ (m : List ℕ) where
-  turn-reads : (o : Occ) (n : String) (tag : List (ℕ → Bool)) (body next rest : ℕ → Trace) (p : ℕ) (x : Notes)
+  -- ---- what is read by how a start tag lies; a is a name in place of the element's
+  turn-reads : (o : Occ) (n a : String) → isType n ≡ isType a → (tag : List (ℕ → Bool)) (body next rest : ℕ → Trace) (p : ℕ) (x : Notes)
       → reads (turn o n tag m body next rest p) x
-      ≡ chosen (tagged o tag m (skipped m p)) (onward (reads (body (skipped m p)) x) (λ r. reads (next (r .at)) (r .notes))) (reads (rest (skipped m p)) x)
-  unfolding tagged
-  turn-reads o n tag body next rest p x = go o (look tag (drop (skipped m p) m))
+      ≡ onLook (look tag (drop (skipped m p) m)) (onward (reads (body (skipped m p)) x) (λ r. reads (next (r .at)) (r .notes)))
+      (stop 3 (length m)) (onward (reads (missing o a (skipped m p) (upTo (skipped m p))) x) (λ r. reads (rest (r .at)) (r .notes)))
+  turn-reads o n a e tag body next rest p x = go (look tag (drop (skipped m p) m))
     where
       q : ℕ
       q = skipped m p
 
-      go : (o : Occ) (l : Look) → reads (onLook l (andThen (body q) next) (fault 3 (length m)) (missing o n q (rest q))) x
-          ≡ chosen (onLook l Enter (Stop 3 (length m)) (whereMissing o q)) (onward (reads (body q) x) (λ r. reads (next (r .at)) (r .notes))) (reads (rest q) x)
-      go o Whole = noted-then inNotes (body q) next x
-      go o Cut = refl
-      go once Other = refl
-      go optional Other = refl
-      go many Other = refl
-      go more Other = refl
+      go : (l : Look) → reads (onLook l (andThen (body q) next) (fault 3 (length m)) (missing o n q (rest q))) x
+          ≡ onLook l (onward (reads (body q) x) (λ r. reads (next (r .at)) (r .notes)))
+          (stop 3 (length m)) (onward (reads (missing o a q (upTo q)) x) (λ r. reads (rest (r .at)) (r .notes)))
+      go Whole = noted-then inNotes (body q) next x
+      go Cut = refl
+      go Other = reads-missing o n a e q rest x
 
   -- ---- what is due from an element on; where it was seen already it may come again, i times more
   abbrev following : Occ → ℕ → Shape → ℕ → Trace
@@ -97,6 +90,7 @@ module _ (m : List ℕ) where
 pub record Tells (v : Version) (k : ℕ) (sh : Shape) (r : Row) : Type 0 where
   pub element : Element sh
   pub occ : occOf (r .occ) ≡ occIn sh
+  pub name : isType (markName (r .mark)) ≡ isType (nameIn sh)
   pub start : opensBy (tags v) r ≡ tagIn sh
   pub width : width r ≡ length (tagIn sh)
   pub later : k < r .next
@@ -109,33 +103,43 @@ module _ (m : List ℕ) (v : Version) (k : ℕ) (sh : Shape) (r : Row) (t : Tell
   is-now : occOf occ ≡ pick seen more (occIn sh)
   is-now = now ∙ ap (pick seen more) (t .occ)
 
-  -- the way that the row's start tag says
-  abbrev pub Says : Choice → Type 0
-  Says c = c ≡ tagged (occOf occ) (opensBy (tags v) r) m q
+  -- what is read where the element is not there
+  abbrev pub Missed : Found
+  Missed = reads (missing (occOf occ) (markName (r .mark)) q (upTo q)) x
 
-  turned : (c : Choice) → Says c
-      → reads (from m i seen sh p) x ≡ chosen c (onward (reads (elementIn sh m q) x) (λ s. reads (following m (occOf occ) i sh (s .at)) (s .notes))) (reads (trace (restIn sh) m q) x)
-  turned c e =
+  -- how the row's start tag lies
+  abbrev pub Says : Look → Type 0
+  Says l = l ≡ look (opensBy (tags v) r) (drop q m)
+
+  turned : (l : Look) → Says l
+      → reads (from m i seen sh p) x
+      ≡ onLook l (onward (reads (elementIn sh m q) x) (λ s. reads (following m (occOf occ) i sh (s .at)) (s .notes)))
+      (stop 3 (length m)) (onward Missed (λ s. reads (trace (restIn sh) m (s .at)) (s .notes)))
+  turned l e =
       ap (λ (t : Trace). reads t x) (here m sh (t .element) i seen p)
-      ∙ (turn-reads m (pick seen more (occIn sh)) (nameIn sh) (tagIn sh) (elementIn sh m) (following m (pick seen more (occIn sh)) i sh) (trace (restIn sh) m) p x
+      ∙ (turn-reads m (pick seen more (occIn sh)) (nameIn sh) (markName (r .mark)) (sym (t .name)) (tagIn sh) (elementIn sh m) (following m (pick seen more (occIn sh)) i sh) (trace (restIn sh) m) p x
       ∙ rw (← is-now, ← t .start, ← e))
 
-  pub stopped : (n y : ℕ) → Says (Stop n y) → reads (from m i seen sh p) x ≡ stop n y
-  stopped n y e = turned (Stop n y) e
+  pub cut : Says Cut → reads (from m i seen sh p) x ≡ stop 3 (length m)
+  cut e = turned Cut e
 
-  pub passed : Says Pass → reads (from m i seen sh p) x ≡ reads (trace (due v (r .next)) m q) x
-  passed e = rw (t .next) (turned Pass e)
+  module _ (e : Says Other) where
+    pub missed : (n y : ℕ) → stop n y ≡ Missed → reads (from m i seen sh p) x ≡ stop n y
+    missed n y c = turned Other e ∙ rw (← c)
 
-  module _ (e : Says Enter) where
+    pub passed : (u : Ended Notes) → on u ≡ Missed → reads (from m i seen sh p) x ≡ reads (trace (due v (r .next)) m (u .at)) (u .notes)
+    passed u c = turned Other e ∙ rw (← c, t .next)
+
+  module _ (e : Says Whole) where
     pub failed : (n y : ℕ) → stop n y ≡ reads (elementIn sh m q) x → reads (from m i seen sh p) x ≡ stop n y
-    failed n y c = turned Enter e ∙ rw (← c)
+    failed n y c = turned Whole e ∙ rw (← c)
 
     module _ (s : Ended Notes) (c : on s ≡ reads (elementIn sh m q) x) where
       pub gone-on : occ < 2 → reads (from m i seen sh p) x ≡ reads (trace (due v (r .next)) m (s .at)) (s .notes)
-      gone-on h = turned Enter e ∙ rw (← c, t .next, follow-rest m sh i occ h)
+      gone-on h = turned Whole e ∙ rw (← c, t .next, follow-rest m sh i occ h)
 
       pub repeated : 2 ≤ occ → (j : ℕ) → i ≡ suc j → reads (from m i seen sh p) x ≡ reads (from m j true sh (s .at)) (s .notes)
-      repeated h j f = turned Enter e ∙ rw (← c, follow-again m sh i occ h, f, here m sh (t .element) j true (s .at))
+      repeated h j f = turned Whole e ∙ rw (← c, follow-again m sh i occ h, f, here m sh (t .element) j true (s .at))
 
 -- ---- the remaining depth of the tree: a group's is one more than the deepest of its elements'
 abbrev deeper : ℕ → ℕ → ℕ

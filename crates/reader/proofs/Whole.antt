@@ -1,7 +1,7 @@
 -- The whole profile, or one item, read from a place on, where the message is not too long.
 use mathlib.Core.Path.{_≡_, refl, sym, ap, _∙_}
 use mathlib.Core.Bool.{true, false}
-use mathlib.Core.List.{List, []}
+use mathlib.Core.List.{List}
 use Prim.Native.Nat.{ℕ, _+_, _≤_, _<_}
 use native.Mathlib.Omega.{arith}
 use borrow.Author.Tests.{le-leb, lt-leb}
@@ -12,10 +12,10 @@ use Rattle.tags.specs.Tags.{skipped, look, onLook, plainTag}
 use Rattle.tags.proofs.Looks.{exactly-length}
 use Rattle.profile.specs.Version.{Version}
 use Rattle.profile.specs.Limits.{mostBytes}
-use Rattle.profile.specs.Tree.{once, many, Shape, end, group}
-use Rattle.profile.specs.Profile.{profile, inItem, itemName, bulkName}
-use Rattle.reading.specs.Trace.{Trace, met, upTo, fault, andThen, missing, trace}
-use Rattle.reading.specs.Noted.{Reading, on, stop, Ended}
+use Rattle.profile.specs.Tree.{many, Shape, end, group}
+use Rattle.profile.specs.Profile.{inItem, itemName, bulkName}
+use Rattle.reading.specs.Trace.{Trace, met, upTo, fault, andThen, trace}
+use Rattle.reading.specs.Noted.{Reading, stop, Ended}
 use Rattle.table.specs.declared.Row.{Row}
 use Rattle.table.specs.Table.{tags, table, manyRows, rowIn, width, opensBy, due, itemRow, Element}
 use Rattle.table.proofs.Tied.{Tied}
@@ -26,10 +26,8 @@ use Rattle.notes.specs.Notes.{fresh}
 use Rattle.notes.specs.Steps.{reads, Good, Fine}
 use Rattle.notes.proofs.Notings.{here}
 use Rattle.notes.proofs.Stays.{later}
-use Rattle.reader.specs.declared.Choice.{Choice}
-use Rattle.reader.specs.declared.Choice.the-variants.{Enter, Pass, Stop}
-use Rattle.reader.specs.Reader.{whereMissing, tagged, elementIn, fits, messageAt, itemAt}
-use Rattle.reader.proofs.Steps.{passed-on, stop-within, enter-fits}
+use Rattle.reader.specs.Reader.{elementIn, fits, messageAt, itemAt}
+use Rattle.reader.proofs.Steps.{passed-on, enter-fits}
 
 abbrev Found : Type 0
 Found = Reading (Ended Notes)
@@ -73,39 +71,39 @@ module _ (v : Version) (m : List ℕ) (p : ℕ) where
     message-is x w f = (w ∙ rw (near, e, due-first v), later m 0 (s .at) (omega arith) x f)
 
     -- ---- an item, whose start tag is due after white space
-    module _ (q : Ended Notes) (at : q ≡ here (skipped m (s .at)) (s .notes)) (good : Good m q) (w : Choice) (chose : w ≡ tagged once itemTag m (q .at)) where
+    module _ (q : Ended Notes) (at : q ≡ here (skipped m (s .at)) (s .notes)) (good : Good m q) (w : Look) (lies : w ≡ look itemTag (drop (q .at) m)) where
       then-upTo : (t : Trace) → andThen t upTo ≡ t
       then-upTo (met e t) = ap (met e) (then-upTo t)
       then-upTo (upTo p) = refl
       then-upTo (fault n q) = refl
 
-      abbrev chosen : Ended Notes → Choice → Found
-      chosen q Enter = reads (itemBody v m (q .at)) (q .notes)
-      chosen q Pass = stop 4 (q .at)
-      chosen q (Stop n i) = stop n i
+      abbrev chosen : Ended Notes → Look → Found
+      chosen q Whole = reads (itemBody v m (q .at)) (q .notes)
+      chosen q Cut = stop 3 (length m)
+      chosen q Other = stop 4 (q .at)
 
       is-at : q ≡ here (skipped m p) fresh
       is-at = at ∙ rw e
 
       here-is : itemAt v m p ≡ chosen q w
-      unfolding itemAt alone tagged
-      here-is = rw near (go (look itemTag (drop (skipped m p) m)) ∙ sym (ap (chosen q) chose ∙ ap (λ (u : Ended Notes). chosen u (tagged once itemTag m (u .at))) is-at))
+      unfolding itemAt alone
+      here-is = rw near (go (look itemTag (drop (skipped m p) m)) ∙ sym (ap (chosen q) lies ∙ ap (λ (u : Ended Notes). chosen u (look itemTag (drop (u .at) m))) is-at))
         where
           go : (l : Look) → reads (onLook l (andThen (itemBody v m (skipped m p)) upTo) (fault 3 (length m)) (fault 4 (skipped m p))) fresh
-              ≡ chosen (here (skipped m p) fresh) (onLook l Enter (Stop 3 (length m)) (Stop 4 (skipped m p)))
+              ≡ chosen (here (skipped m p) fresh) l
           go Whole = ap (λ (t : Trace). reads t fresh) (then-upTo (itemBody v m (skipped m p)))
           go Cut = refl
           go Other = refl
 
-      pub item-enters : w ≡ Enter → (x : Found) → x ≡ reads (elementIn (due v (itemRow v)) m (q .at)) (q .notes) → Fine m (q .at + 1) x → Told itemAt x
+      pub item-enters : w ≡ Whole → (x : Found) → x ≡ reads (elementIn (due v (itemRow v)) m (q .at)) (q .notes) → Fine m (q .at + 1) x → Told itemAt x
       item-enters c x y f =
           (y ∙ (ap (λ (sh : Shape). reads (elementIn sh m (q .at)) (q .notes)) (due-item v) ∙ sym (here-is ∙ ap (chosen q) c)), later m 0 (q .at + 1) (omega arith) x f)
 
-      pub item-passes : w ≡ Pass → (x : Found) → x ≡ stop 4 (q .at) → Told itemAt x
-      item-passes c x y = passed-on m 0 x (stop 4 (q .at)) (itemAt v m p) y (sym (here-is ∙ ap (chosen q) c)) (good .within)
+      pub item-cut : w ≡ Cut → (x : Found) → x ≡ stop 3 (length m) → Told itemAt x
+      item-cut c x y = passed-on m 0 x (stop 3 (length m)) (itemAt v m p) y (sym (here-is ∙ ap (chosen q) c)) (omega arith)
 
-      pub item-stops : (n k : ℕ) → w ≡ Stop n k → (x : Found) → x ≡ stop n k → Told itemAt x
-      item-stops n k c x y = passed-on m 0 x (stop n k) (itemAt v m p) y (sym (here-is ∙ ap (chosen q) c)) (stop-within once itemTag m (q .at) n k (good .within) (sym c ∙ chose))
+      pub item-other : w ≡ Other → (x : Found) → x ≡ stop 4 (q .at) → Told itemAt x
+      item-other c x y = passed-on m 0 x (stop 4 (q .at)) (itemAt v m p) y (sym (here-is ∙ ap (chosen q) c)) (good .within)
 
 -- ---- the item's row: it may be entered where its start tag lies whole
 module _ (v : Version) (names : List ℕ) (rs : List (List ℕ)) (r : Row) (k : ℕ) (e : names ≡ tags v) (f : rs ≡ table v) (is : k ≡ itemRow v) (h : r ≡ rowIn rs k) where
@@ -121,9 +119,9 @@ module _ (v : Version) (names : List ℕ) (rs : List (List ℕ)) (r : Row) (k : 
   pub item-there : Element (due v k)
   item-there = rw is (item-element v)
 
-  pub item-within : (m : List ℕ) (p : ℕ) → p ≤ length m → Enter ≡ tagged once (opensBy names r) m p → p + width (rowIn (table v) k) ≤ length m
+  pub item-within : (m : List ℕ) (p : ℕ) → p ≤ length m → Whole ≡ look (opensBy names r) (drop p m) → p + width (rowIn (table v) k) ≤ length m
   item-within m p g c =
       let t : Tied v (itemRow v) (group many itemName (inItem v) (end bulkName)) r = rw (due-item v) at (row-tied v rs (itemRow v) r row-is f (item-row v) .0) in
       let w : width (rowIn (table v) k) ≡ width r = ap width (sym (h ∙ ap (λ (l : List (List ℕ)). rowIn l k) f)) in
       let l : length (opensBy names r) ≡ width r = ap length item-start ∙ (exactly-length (plainTag itemName) ∙ sym (t .width)) in
-      omega (arith, w, l, enter-fits once (opensBy names r) m p g c)
+      omega (arith, w, l, enter-fits (opensBy names r) m p g c)

@@ -1,7 +1,7 @@
 -- What each function of the table-led engine reads: parts of the trace, by the tests of a row's tags.
 use Prim.Native.Nat.{ℕ, _+_}
 use Prim.Native.String.{String}
-use mathlib.Core.Bool.{Bool}
+use mathlib.Core.Bool.{Bool, true, false}
 use mathlib.Core.List.{List}
 use lib.ListN.{length, drop}
 use lib.Dec.{leb, ltb}
@@ -13,35 +13,29 @@ use Rattle.profile.specs.declared.Field.{Field}
 use Rattle.profile.specs.Version.{Version}
 use Rattle.profile.specs.Limits.{mostBytes}
 use Rattle.profile.specs.Kinds.{isAmount}
-use Rattle.profile.specs.Tree.{Occ, once, optional, many, more, Shape, end, leaf, group}
+use Rattle.profile.specs.Tree.{Occ, once, Shape, end, leaf, group}
 use Rattle.profile.specs.Profile.{profile}
 use Rattle.reading.specs.Trace.{value, _at_, Trace, met, upTo, fault, begins, priced, leafBody, groupBody, trace}
 use Rattle.reading.specs.Noted.{Reading, stop, Ended}
 use Rattle.items.specs.Alone.{alone}
 use Rattle.notes.specs.declared.Notes.{Notes}
+use Rattle.notes.specs.declared.Met.{Met}
+use Rattle.notes.specs.declared.Met.the-variants.{On, Stopped}
 use Rattle.notes.specs.Notes.{fresh}
 use Rattle.notes.specs.Steps.{reads}
-use Rattle.reader.specs.declared.Choice.{Choice}
-use Rattle.reader.specs.declared.Choice.the-variants.{Enter, Pass, Stop}
 
--- where a start tag is not there: refused where its element is due, else on to what may come instead
-abbrev pub whereMissing : Occ → ℕ → Choice
-whereMissing once p = Stop 4 p
-whereMissing optional p = Pass
-whereMissing many p = Stop 4 p
-whereMissing more p = Pass
-
--- what a start tag at a place says
-unfoldable pub tagged : Occ → List (ℕ → Bool) → List ℕ → ℕ → Choice
-tagged o tag m p = onLook (look tag (drop p m)) Enter (Stop 3 (length m)) (whereMissing o p)
+-- whether a step ended the reading
+abbrev pub stops : Met → Bool
+stops On = false
+stops (Stopped n p) = true
 
 -- an end tag that is due at a place
 unfoldable pub closedBy : List (ℕ → Bool) → List ℕ → ℕ → Trace
 closedBy tag m p = onLook (look tag (drop p m)) (upTo (p + length tag)) (fault 3 (length m)) (fault 4 p)
 
 -- past a start tag of w bytes
-abbrev pub entered : Occ → Bool → ℕ → List ℕ → ℕ → Trace
-entered o amount w m p = begins o "" p (priced amount m (p + w))
+abbrev pub entered : Occ → String → Bool → ℕ → List ℕ → ℕ → Trace
+entered o n amount w m p = begins o n p (priced amount m (p + w))
 
 -- a value and its end tag
 unfoldable pub valuedBy : List (ℕ → Bool) → Kind → Field → List ℕ → ℕ → Trace

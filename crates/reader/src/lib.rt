@@ -7,22 +7,15 @@ use tags::Look;
 ghost use mathlib.Core.Path.{_≡_};
 ghost use mathlib.Core.Bool.{true};
 ghost use Prim.Native.Nat.{_+_, _≤_, _<_};
-ghost use lib.ListN.{length};
+ghost use lib.ListN.{length, drop};
 ghost use Rattle.text.specs.Truth.{pick};
-ghost use Rattle.tags.specs.Tags.{skipped};
+ghost use Rattle.tags.specs.Tags.{skipped, look};
 ghost use Rattle.profile.specs.Version.{v02};
 ghost use Rattle.profile.specs.Tree.{Occ};
-ghost use Rattle.reading.specs.Trace.{upTo, begins, priced, trace};
-ghost use Rattle.table.specs.Table.{tags, table, manyRows, rowIn, kindOf, fieldOf, occOf, amountKind, width, opensBy, closesBy, due, Element};
+ghost use Rattle.reading.specs.Trace.{upTo, begins, missing, priced, trace};
+ghost use Rattle.table.specs.Table.{tags, table, manyRows, rowIn, kindOf, fieldOf, occOf, markName, amountKind, width, opensBy, closesBy, due, Element};
 ghost use Rattle.notes.specs.Steps.{stated, stepped, reads, Good, Fine};
-ghost use Rattle.reader.specs.Reader.{tagged, closedBy, entered, valuedBy, elementIn, messageAt, itemAt};
-
-// What may come at a place: the element, what comes after it, or a refusal.
-pub enum Choice {
-    Enter,
-    Pass,
-    Stop(u8, usize),
-}
+ghost use Rattle.reader.specs.Reader.{stops, closedBy, entered, valuedBy, elementIn, messageAt, itemAt};
 
 // On past white space.
 fn skip(m: &[u8], st: State) -> State
@@ -47,34 +40,47 @@ fn close(m: &[u8], names: &[u8], r: Row, st: State) -> Step
     }
 }
 
-// Which way a row's start tag says to go on, where its element may come `occ`.
-fn choose(m: &[u8], names: &[u8], r: Row, occ: u16, at: usize) -> Choice
+// How a row's start tag lies at a place.
+fn start_at(m: &[u8], names: &[u8], r: Row, at: usize) -> Look
     requires { ⌜ at ≤ length (now m) ⌝ }
-    ensures { λ w. ⌜ w ≡ tagged (occOf occ) (opensBy (now (names .entry)) r) (now (m .entry)) at ⌝ }
+    ensures { λ l. ⌜ l ≡ look (opensBy (now (names .entry)) r) (drop at (now (m .entry))) ⌝ }
 {
-    match table::opening(names, r, &m[at..]) {
-        Look::Whole => Choice::Enter,
-        Look::Cut => Choice::Stop(3, m.len()),
-        Look::Other => {
-            if occ == 0 {
-                return Choice::Stop(4, at);
-            }
-            if occ == 2 {
-                return Choice::Stop(4, at);
-            }
-            Choice::Pass
-        }
-    }
+    table::opening(names, r, &m[at..])
 }
 
-// One item more, where the element is one.
-fn begin(occ: u16, st: State) -> Step
-    ensures { λ s. ⌜ stepped s ≡ reads (begins (occOf occ) "" (st .at) (upTo (st .at))) (st .notes) ⌝ }
+// Where an element that may come `occ` is not there: 4 where it is due; of the payment type it is noted.
+fn pass(occ: u16, mark: u16, st: State) -> Step
+    ensures { λ s. ⌜ stepped s ≡ reads (missing (occOf occ) (markName mark) (st .at) (upTo (st .at))) (st .notes) ⌝ }
 {
-    if occ < 2 {
+    if occ == 0 {
+        return st.refuse_here(4);
+    }
+    if occ == 2 {
+        return st.refuse_here(4);
+    }
+    if occ != 1 {
         return st.read_on();
     }
-    st.begin_item()
+    if mark == 0 {
+        return st.read_on();
+    }
+    st.say_type(false)
+}
+
+// One item more, where the element is one; of the payment type it is noted that it is there.
+fn begin(occ: u16, mark: u16, st: State) -> Step
+    ensures { λ s. ⌜ stepped s ≡ reads (begins (occOf occ) (markName mark) (st .at) (upTo (st .at))) (st .notes) ⌝ }
+{
+    if occ == 0 {
+        return st.read_on();
+    }
+    if occ != 1 {
+        return st.begin_item();
+    }
+    if mark == 0 {
+        return st.read_on();
+    }
+    st.say_type(true)
 }
 
 // Past an amount's start tag, which ends at the state's place: its currency is EUR, or 6.
@@ -91,9 +97,9 @@ fn check_currency(m: &[u8], st: State) -> Step
 // Past a row's start tag, which lies whole at the state's place.
 fn enter(m: &[u8], r: Row, st: State) -> Step
     requires { ⌜ Good (now m) (stated st) × (st .at + width r ≤ length (now m)) × (0 < r .start) ⌝ }
-    ensures { λ s. ⌜ (stepped s ≡ reads (entered (occOf (r .occ)) (amountKind (r .kind)) (width r) (now (m .entry)) (st .at)) (st .notes)) × Fine (now (m .entry)) (st .at + 1) (stepped s) ⌝ }
+    ensures { λ s. ⌜ (stepped s ≡ reads (entered (occOf (r .occ)) (markName (r .mark)) (amountKind (r .kind)) (width r) (now (m .entry)) (st .at)) (st .notes)) × Fine (now (m .entry)) (st .at + 1) (stepped s) ⌝ }
 {
-    let first = begin(r.occ, st);
+    let first = begin(r.occ, r.mark, st);
     let met = first.met;
     let s = first.state;
     match met {
@@ -140,6 +146,17 @@ fn due_now(seen: bool, occ: u16) -> u16
     if seen { 3 } else { occ }
 }
 
+// Whether a step ended the reading.
+fn is_stopped(s: Step) -> bool
+    ensures { λ r. ⌜ r ≡ stops (s .met) ⌝ }
+{
+    let met = s.met;
+    match met {
+        Met::On => false,
+        Met::Stopped(_, _) => true,
+    }
+}
+
 // What is due from row `first` up to the end of its group.
 fn group(m: &[u8], names: &[u8], rows: &[[u16; table::COLUMNS]], first: usize, start: State) -> Step
     requires { ⌜ Good (now m) (stated start) × (first < manyRows v02) × (now names ≡ tags v02) × (now rows ≡ table v02) ⌝ }
@@ -155,27 +172,27 @@ fn group(m: &[u8], names: &[u8], rows: &[[u16; table::COLUMNS]], first: usize, s
             return close(m, names, r, st);
         }
         let occ = due_now(seen, r.occ);
-        match choose(m, names, r, occ, st.at as usize) {
-            Choice::Stop(number, place) => return st.refuse(number, place),
-            Choice::Pass => {
+        seen = false;
+        match start_at(m, names, r, st.at as usize) {
+            Look::Cut => return st.refuse(3, m.len()),
+            Look::Other => {
+                let t = pass(occ, r.mark, st);
+                if is_stopped(t) {
+                    return t;
+                }
+                st = t.state;
                 k = r.next as usize;
-                seen = false;
             }
-            Choice::Enter => {
+            Look::Whole => {
                 let t = element(m, names, rows, k, st);
-                let met = t.met;
-                let s = t.state;
-                match met {
-                    Met::Stopped(number, place) => return s.refuse(number, place),
-                    Met::On => {
-                        st = s;
-                        if occ < 2 {
-                            k = r.next as usize;
-                            seen = false;
-                        } else {
-                            seen = true;
-                        }
-                    }
+                if is_stopped(t) {
+                    return t;
+                }
+                st = t.state;
+                if occ < 2 {
+                    k = r.next as usize;
+                } else {
+                    seen = true;
                 }
             }
         }
@@ -233,9 +250,9 @@ pub fn item(m: &[u8], at: usize) -> Step
     let rows = table::all_rows();
     let q = skip(m, st);
     let k = table::item_row();
-    match choose(m, &names, table::row_at(&rows, k), 0, q.at as usize) {
-        Choice::Enter => element(m, &names, &rows, k, q),
-        Choice::Pass => q.refuse_here(4),
-        Choice::Stop(number, place) => q.refuse(number, place),
+    match start_at(m, &names, table::row_at(&rows, k), q.at as usize) {
+        Look::Whole => element(m, &names, &rows, k, q),
+        Look::Cut => q.refuse(3, m.len()),
+        Look::Other => q.refuse_here(4),
     }
 }

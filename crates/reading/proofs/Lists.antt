@@ -13,7 +13,7 @@ use Rattle.profile.specs.declared.Kind.{Kind}
 use Rattle.profile.specs.declared.Kind.the-variants.{Amount}
 use Rattle.profile.specs.declared.Field.{Field}
 use Rattle.reading.specs.Trace.{What, Entry}
-use Rattle.reading.specs.Rules.{begun, itemsIn, ofKind, valuesOf, ofField, valuesAt, sumOf, centsIn}
+use Rattle.reading.specs.Rules.{begun, itemsIn, gathered, ofKind, valuesOf, ofField, valuesAt, ofType, typesIn, sumOf, centsIn}
 use Rattle.reading.specs.Judged.{whats, lastOf, placeIn, placeFrom}
 
 pub whats-append : (a b : List Entry) → whats (a ++ b) ≡ whats a ++ whats b
@@ -24,13 +24,18 @@ pub items-append : (a b : List What) → itemsIn (a ++ b) ≡ itemsIn a + itemsI
 items-append [] b = omega arith
 items-append (w ∷ a) b = omega (arith, items-append a b)
 
+pub gathered-append : {A : Type 0} (f : What → List A) (a b : List What) → gathered f (a ++ b) ≡ gathered f a ++ gathered f b
+gathered-append f [] b = refl
+gathered-append {A} f (w ∷ a) b = ap (λ (l : List A). f w ++ l) (gathered-append f a b) ∙ sym (append-assoc (f w) (gathered f a) (gathered f b))
+
 pub values-append : (k : Kind) (a b : List What) → valuesOf k (a ++ b) ≡ valuesOf k a ++ valuesOf k b
-values-append k [] b = refl
-values-append k (w ∷ a) b = ap (λ (l : List (List ℕ)). ofKind k w ++ l) (values-append k a b) ∙ sym (append-assoc (ofKind k w) (valuesOf k a) (valuesOf k b))
+values-append k = gathered-append (ofKind k)
 
 pub at-append : (f : Field) (a b : List What) → valuesAt f (a ++ b) ≡ valuesAt f a ++ valuesAt f b
-at-append f [] b = refl
-at-append f (w ∷ a) b = ap (λ (l : List (List ℕ)). ofField f w ++ l) (at-append f a b) ∙ sym (append-assoc (ofField f w) (valuesAt f a) (valuesAt f b))
+at-append f = gathered-append (ofField f)
+
+pub types-append : (a b : List What) → typesIn (a ++ b) ≡ typesIn a ++ typesIn b
+types-append = gathered-append ofType
 
 pub sum-append : (a b : List (List ℕ)) → sumOf (a ++ b) ≡ sumOf a + sumOf b
 sum-append [] b = omega arith

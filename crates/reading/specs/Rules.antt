@@ -1,6 +1,6 @@
 -- The rules of what a message says, each on the list of what was read before, in the paper's words.
 use Prim.Native.Nat.{ℕ, suc, _+_}
-use mathlib.Core.Bool.{Bool, true, false}
+use mathlib.Core.Bool.{Bool, true, false, not}
 use mathlib.Core.List.{List, [], _∷_, _++_}
 use lib.Dec.{leb, ltb}
 use Rattle.text.specs.Truth.{pick}
@@ -15,22 +15,32 @@ use Rattle.profile.specs.declared.Field.{Field}
 use Rattle.profile.specs.Limits.{mostItems}
 use Rattle.profile.specs.Kinds.{sameKind}
 use Rattle.profile.specs.Fields.{sameField}
+use Rattle.profile.specs.Profile.{isType}
 use Rattle.kinds.specs.Given.{kindGiven}
 use Rattle.reading.specs.Trace.{What, itemBegins, itemEnds, there, absent, value, Entry}
 
 -- ---- what stands in a list
+-- a where an item begins, b where it ends, and else c
+abbrev pub atItem : {A : Type 0} → What → A → A → A → A
+atItem itemBegins a b c = a
+atItem itemEnds a b c = b
+atItem (there n) a b c = c
+atItem (absent n) a b c = c
+atItem (value k f v) a b c = c
+
 abbrev pub begun : What → ℕ
-begun itemBegins = 1
-begun itemEnds = 0
-begun (there n) = 0
-begun (absent n) = 0
-begun (value k f v) = 0
+begun w = atItem w 1 0 0
 
 abbrev pub itemsIn : List What → ℕ
 itemsIn [] = 0
 itemsIn (w ∷ l) = begun w + itemsIn l
 
--- the values of a kind, and those of a field, in their order
+-- what each of a list gives, in their order
+abbrev pub gathered : {A : Type 0} → (What → List A) → List What → List A
+gathered f [] = []
+gathered f (w ∷ l) = f w ++ gathered f l
+
+-- the values of a kind, and those of a field
 abbrev pub ofKind : Kind → What → List (List ℕ)
 ofKind j itemBegins = []
 ofKind j itemEnds = []
@@ -39,8 +49,7 @@ ofKind j (absent n) = []
 ofKind j (value k f v) = pick (sameKind k j) (v ∷ []) []
 
 abbrev pub valuesOf : Kind → List What → List (List ℕ)
-valuesOf j [] = []
-valuesOf j (w ∷ l) = ofKind j w ++ valuesOf j l
+valuesOf j = gathered (ofKind j)
 
 abbrev pub ofField : Field → What → List (List ℕ)
 ofField g itemBegins = []
@@ -50,8 +59,7 @@ ofField g (absent n) = []
 ofField g (value k f v) = pick (sameField f g) (v ∷ []) []
 
 abbrev pub valuesAt : Field → List What → List (List ℕ)
-valuesAt g [] = []
-valuesAt g (w ∷ l) = ofField g w ++ valuesAt g l
+valuesAt g = gathered (ofField g)
 
 -- the cents of all items
 abbrev pub sumOf : List (List ℕ) → ℕ
@@ -60,6 +68,17 @@ sumOf (v ∷ l) = cents v + sumOf l
 
 abbrev pub centsIn : List What → ℕ
 centsIn ws = sumOf (valuesOf Amount ws)
+
+-- wherever the payment type may stand: whether it is there
+abbrev pub ofType : What → List Bool
+ofType itemBegins = []
+ofType itemEnds = []
+ofType (there n) = pick (isType n) (true ∷ []) []
+ofType (absent n) = pick (isType n) (false ∷ []) []
+ofType (value k f v) = []
+
+abbrev pub typesIn : List What → List Bool
+typesIn = gathered ofType
 
 -- the first of some values, or else v
 abbrev pub firstOf : List ℕ → List (List ℕ) → List ℕ
@@ -72,14 +91,25 @@ abbrev pub _so_ : Bool → Bool → Bool
 _so_ true b = b
 _so_ false b = true
 
+-- "It may stand [in the header], and then no item has it; otherwise every item has it": what is said first is said of the header, and of each item the other
+abbrev pub unlikeFirst : Bool → List Bool → Bool
+unlikeFirst b [] = true
+unlikeFirst b (x ∷ l) = pick x (not b) b
+
 abbrev pub rules : List What → What → List Rule
 rules before itemBegins =
     -- "item 10,001 begins"
     ltb (itemsIn before) mostItems else 12
     ∷ []
 rules before itemEnds = []
-rules before (there n) = []
-rules before (absent n) = []
+rules before (there n) =
+    -- "an item's complete PmtTpInf tag though the header has one"
+    (isType n so unlikeFirst true (typesIn before)) else 23
+    ∷ []
+rules before (absent n) =
+    -- "missing in both is 4 at the tag found instead"
+    (isType n so unlikeFirst false (typesIn before)) else 4
+    ∷ []
 rules before (value k f v) =
     -- "LclInstrm differs from the first item's"
     (sameKind k (Code code.the-variants.LclInstrm) so alike (firstOf v (valuesOf (Code code.the-variants.LclInstrm) before)) v) else 11

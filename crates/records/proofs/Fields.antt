@@ -1,23 +1,28 @@
 -- Fields laid one behind the other into a record of spaces.
 use mathlib.Core.Path.{_≡_, refl, ap, sym, _∙_}
+use mathlib.Core.Bool.{Bool, true, false}
 use mathlib.Core.List.{List, [], _∷_, _++_, append-assoc}
 use Prim.Native.Nat.{ℕ, zero, suc, _+_, _-_, _≤_, _<_}
 use native.Mathlib.Numerals.{add-one}
 use native.Mathlib.Nat.{add-zero}
 use native.Mathlib.Omega.{arith}
+use borrow.Author.Tests.{eq-eqb, ne-eqb, ltb-true, ltb-false}
+use lib.Dec.{eqb, ltb}
 use lib.ListN.{length, take, drop, getD, set, replicate, length-append, length-take, length-replicate, take-append-drop, drop-of-length-le, replicate-append-replicate}
 use lib.Seq.{paste, paste-suc, take-all, take-length, take-nil, take-take, take-at, drop-at, set-at, drop-drop}
-use Rattle.text.specs.Truth.{lead}
+use Rattle.text.specs.Truth.{either, pick, lead}
 use Rattle.text.proofs.Scan.{rest-of, lead-le}
 use Rattle.text.proofs.Truths.{never}
 use Rattle.tags.specs.Values.{inValue, valueAt}
+use Rattle.profile.specs.declared.Field.{Field}
 use Rattle.profile.specs.declared.Field.the-variants.{TxId, EndToEndId, MndtId, DbtrIban, CdtrIban, DbtrBic, ReqdColltnDt, SeqTp, CdtrId, CdtrBic}
 use Rattle.words.specs.Collapsed.{collapsed}
 use Rattle.words.specs.Walk.{overwritten}
 use Rattle.postings.specs.Record.{recordLength, padded, digits}
-use Rattle.notes.specs.declared.Notes.{Notes}
-use Rattle.records.specs.Engine.{fieldAt, recordOf, laid}
 use Rattle.postings.proofs.Long.{length-padded, length-digits}
+use Rattle.items.specs.Places.{heldAt}
+use Rattle.notes.specs.declared.Notes.{Notes}
+use Rattle.records.specs.Engine.{startOf, ownOr, recordOf, laid}
 
 -- ---- a value laid byte by byte
 module _ (rec : List ℕ) (at : ℕ) (v : List ℕ) where
@@ -36,30 +41,60 @@ pub laid-none : (at : ℕ) (rec : List ℕ) → rec ≡ laid at [] rec
 unfolding laid
 laid-none at rec = rw (add-zero at) (sym (take-append-drop at rec))
 
--- ---- the value at a place of the message, as much of it as a field holds
-module _ (m : List ℕ) (start width : ℕ) where
-  pub field-none : length m < start → take width (valueAt m start) ≡ []
-  field-none h =
-      let g : length m ≤ start = omega arith in
-      rw (drop-of-length-le m g) (take-nil width)
+-- ---- a place of the item's own, or else the one above
+module _ (own above p : ℕ) (e : p ≡ own) where
+  pub take-above : (r : ℕ) → p ≡ 0 → r ≡ above → r ≡ ownOr above own
+  take-above r z f = rw (← e, eq-eqb p 0 z) f
 
-  module _ (n : ℕ) (e : n ≡ lead inValue (take (length m - start) (drop start m))) where
-    n-is : n ≡ lead inValue (drop start m)
-    n-is = e ∙ ap (lead inValue) (rest-of start m)
+  pub take-own : (p ≡ 0 → ⊥) → p ≡ ownOr above own
+  take-own z = rw (← e, ne-eqb p 0 z)
 
-    pub held : n ≤ length (take (length m - start) (drop start m))
-    held = rw (rest-of start m) (rw n-is (lead-le inValue (drop start m)))
+-- ---- the value at a place of the message, as much of it as a field holds; b is whether there is none, as the code tests it
+module _ (m : List ℕ) (start width : ℕ) (b : Bool) (t : b ≡ either (eqb start 0) (ltb (length m) start)) where
+  pub none-held : b ≡ true → heldAt m start ≡ []
+  none-held h = go (eqb start 0) (sym t ∙ h)
+    where
+      go : (z : Bool) → either z (ltb (length m) start) ≡ true → pick z [] (valueAt m start) ≡ []
+      go true e = refl
+      go false e =
+          let g : length m ≤ start = omega (arith, ltb-true (length m) start e) in
+          rw (drop-of-length-le m g)
 
-    pub field-short : n < width → take n (take (length m - start) (drop start m)) ≡ take width (valueAt m start)
-    field-short h =
-        rw (rest-of start m)
-        (rw (← n-is) (sym (take-all width (take n (drop start m)) (simp length-take (omega arith)))))
+  pub field-none : b ≡ true → take width (heldAt m start) ≡ []
+  field-none h = rw (none-held h) (take-nil width)
 
-    pub field-long : width ≤ n → take width (take (length m - start) (drop start m)) ≡ take width (valueAt m start)
-    field-long h = rw (rest-of start m) (rw (← n-is) (sym (take-take width n (drop start m) h)))
+  module _ (h : b ≡ false) where
+    pub start-within : start ≤ length m
+    start-within = go (eqb start 0) (sym t ∙ h)
+      where
+        go : (z : Bool) → either z (ltb (length m) start) ≡ false → start ≤ length m
+        go true e = never (cc)
+        go false e = ltb-false (length m) start e
 
-    pub field-whole : take n (take (length m - start) (drop start m)) ≡ valueAt m start
-    field-whole = rw (rest-of start m) (rw n-is)
+    held-is : heldAt m start ≡ valueAt m start
+    held-is = go (eqb start 0) (sym t ∙ h)
+      where
+        go : (z : Bool) → either z (ltb (length m) start) ≡ false → pick z [] (valueAt m start) ≡ valueAt m start
+        go true e = never (cc)
+        go false e = refl
+
+    module _ (n : ℕ) (e : n ≡ lead inValue (take (length m - start) (drop start m))) where
+      n-is : n ≡ lead inValue (drop start m)
+      n-is = e ∙ ap (lead inValue) (rest-of start m)
+
+      pub held : n ≤ length (take (length m - start) (drop start m))
+      held = rw (rest-of start m) (rw n-is (lead-le inValue (drop start m)))
+
+      pub field-whole : take n (take (length m - start) (drop start m)) ≡ heldAt m start
+      field-whole = rw (rest-of start m, held-is) (rw n-is)
+
+      pub field-short : n < width → take n (take (length m - start) (drop start m)) ≡ take width (heldAt m start)
+      field-short g =
+          rw (rest-of start m, held-is)
+          (rw (← n-is) (sym (take-all width (take n (drop start m)) (simp length-take (omega arith)))))
+
+      pub field-long : width ≤ n → take width (take (length m - start) (drop start m)) ≡ take width (heldAt m start)
+      field-long g = rw (rest-of start m, held-is) (rw (← n-is) (sym (take-take width n (drop start m) g)))
 
 -- ---- the record as far as it is written: its fields, and spaces behind them
 pub record So (at : ℕ) (d r : List ℕ) : Type 0 where
@@ -107,19 +142,18 @@ unfolding padded
 none-written w v e = rw e (sym (take-all w (replicate w 32) (omega (arith, length-replicate {A = ℕ} w 32))))
 
 -- EndToEndId, where nothing stands at its place, and where something does
-module _ (m : List ℕ) (start : ℕ) where
+module _ (m : List ℕ) (start : ℕ) (b : Bool) (t : b ≡ either (eqb start 0) (ltb (length m) start)) where
   abbrev collapsedAt : List ℕ
-  collapsedAt = collapsed (valueAt m start)
+  collapsedAt = collapsed (heldAt m start)
 
-  pub end-none : length m < start → replicate 35 32 ≡ padded 35 collapsedAt
+  pub end-none : b ≡ true → replicate 35 32 ≡ padded 35 collapsedAt
   unfolding collapsed
-  end-none h =
-      let g : length m ≤ start = omega arith in
-      none-written 35 collapsedAt (rw (drop-of-length-le m g))
+  end-none h = none-written 35 collapsedAt (rw (none-held m start 35 b t h))
 
-  pub end-written : (n : ℕ) → n ≡ lead inValue (take (length m - start) (drop start m)) → (x : List ℕ) → x ≡ overwritten (collapsed (take n (take (length m - start) (drop start m)))) (replicate 35 32)
-      → x ≡ padded 35 collapsedAt
-  end-written n e x g = g ∙ ap (λ (v : List ℕ). overwritten (collapsed v) (replicate 35 32)) (field-whole m start 35 n e) ∙ field-written 35 collapsedAt
+  pub end-written : b ≡ false → (n : ℕ) → n ≡ lead inValue (take (length m - start) (drop start m))
+      → (x : List ℕ) → x ≡ overwritten (collapsed (take n (take (length m - start) (drop start m)))) (replicate 35 32) → x ≡ padded 35 collapsedAt
+  end-written h n e x g =
+      g ∙ ap (λ (v : List ℕ). overwritten (collapsed v) (replicate 35 32)) (field-whole m start 35 b t h n e) ∙ field-written 35 collapsedAt
 
 module _ {at : ℕ} {d r : List ℕ} (s : So at d r) where
   -- whatever is laid next
@@ -161,30 +195,33 @@ ended {d} s = rw (s .is) (set-at d 32 [] 10 255 (s .long))
 pub blank : So 0 [] (replicate recordLength 32)
 blank = record { is = refl; long = refl }
 
-module _ (m : List ℕ) (n : Notes) where
+module _ (m : List ℕ) (n : Notes) (above : List ℕ) where
+  abbrev pub own : Field → List ℕ
+  own f = heldAt m (startOf (n .starts) f)
+
   pub whole : {r0 r1 r2 r3 r4 r5 r6 r7 r8 r9 r10 : List ℕ}
-      → r0 ≡ laid 0 (take 35 (fieldAt m n TxId)) (replicate recordLength 32)
-      → r1 ≡ laid 35 (padded 35 (collapsed (fieldAt m n EndToEndId))) r0
-      → r2 ≡ laid 70 (take 35 (fieldAt m n MndtId)) r1
-      → r3 ≡ laid 105 (take 34 (fieldAt m n DbtrIban)) r2
-      → r4 ≡ laid 139 (take 34 (fieldAt m n CdtrIban)) r3
-      → r5 ≡ laid 173 (take 11 (fieldAt m n DbtrBic)) r4
+      → r0 ≡ laid 0 (take 35 (own TxId)) (replicate recordLength 32)
+      → r1 ≡ laid 35 (padded 35 (collapsed (own EndToEndId))) r0
+      → r2 ≡ laid 70 (take 35 (own MndtId)) r1
+      → r3 ≡ laid 105 (take 34 (own DbtrIban)) r2
+      → r4 ≡ laid 139 (take 34 (own CdtrIban)) r3
+      → r5 ≡ laid 173 (take 11 (own DbtrBic)) r4
       → r6 ≡ laid 184 (digits 11 (n .cents)) r5
-      → r7 ≡ laid 195 (take 10 (fieldAt m n ReqdColltnDt)) r6
-      → r8 ≡ laid 205 (take 4 (fieldAt m n SeqTp)) r7
-      → r9 ≡ laid 209 (take 35 (fieldAt m n CdtrId)) r8
-      → r10 ≡ laid 244 (take 11 (fieldAt m n CdtrBic)) r9
-      → set r10 255 10 ≡ recordOf m n
+      → r7 ≡ laid 195 (take 10 (own ReqdColltnDt)) r6
+      → r8 ≡ laid 205 (take 4 (heldAt m (ownOr (startOf above SeqTp) (startOf (n .starts) SeqTp)))) r7
+      → r9 ≡ laid 209 (take 35 (own CdtrId)) r8
+      → r10 ≡ laid 244 (take 11 (own CdtrBic)) r9
+      → set r10 255 10 ≡ recordOf m n above
   unfolding recordOf
   whole e0 e1 e2 e3 e4 e5 e6 e7 e8 e9 e10 =
-      let s0 = next-padded blank 35 (fieldAt m n TxId) (omega arith) e0 in
-      let s1 = next-whole s0 35 (padded 35 (collapsed (fieldAt m n EndToEndId))) (length-padded 35 (collapsed (fieldAt m n EndToEndId))) e1 in
-      let s2 = next-padded s1 35 (fieldAt m n MndtId) (omega arith) e2 in
-      let s3 = next-padded s2 34 (fieldAt m n DbtrIban) (omega arith) e3 in
-      let s4 = next-padded s3 34 (fieldAt m n CdtrIban) (omega arith) e4 in
-      let s5 = next-padded s4 11 (fieldAt m n DbtrBic) (omega arith) e5 in
+      let s0 = next-padded blank 35 (own TxId) (omega arith) e0 in
+      let s1 = next-whole s0 35 (padded 35 (collapsed (own EndToEndId))) (length-padded 35 (collapsed (own EndToEndId))) e1 in
+      let s2 = next-padded s1 35 (own MndtId) (omega arith) e2 in
+      let s3 = next-padded s2 34 (own DbtrIban) (omega arith) e3 in
+      let s4 = next-padded s3 34 (own CdtrIban) (omega arith) e4 in
+      let s5 = next-padded s4 11 (own DbtrBic) (omega arith) e5 in
       let s6 = next-whole s5 11 (digits 11 (n .cents)) (length-digits 11 (n .cents)) e6 in
-      let s7 = next-padded s6 10 (fieldAt m n ReqdColltnDt) (omega arith) e7 in
-      let s8 = next-padded s7 4 (fieldAt m n SeqTp) (omega arith) e8 in
-      let s9 = next-padded s8 35 (fieldAt m n CdtrId) (omega arith) e9 in
-      ended (next-padded s9 11 (fieldAt m n CdtrBic) (omega arith) e10)
+      let s7 = next-padded s6 10 (own ReqdColltnDt) (omega arith) e7 in
+      let s8 = next-padded s7 4 (heldAt m (ownOr (startOf above SeqTp) (startOf (n .starts) SeqTp))) (omega arith) e8 in
+      let s9 = next-padded s8 35 (own CdtrId) (omega arith) e9 in
+      ended (next-padded s9 11 (own CdtrBic) (omega arith) e10)

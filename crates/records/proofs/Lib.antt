@@ -1,4 +1,5 @@
 pub mod Digits
 pub mod Fields
+pub mod Values
 pub mod Areas
 pub mod Once

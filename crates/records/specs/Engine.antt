@@ -2,32 +2,42 @@
 use Prim.Native.Nat.{ℕ, _+_, _*_, _≤_}
 use mathlib.Core.Path.{_≡_}
 use mathlib.Core.List.{List, _++_}
+use lib.Dec.{eqb}
 use lib.ListN.{length, take, drop, getD}
-use Rattle.tags.specs.Values.{valueAt}
+use Rattle.text.specs.Truth.{pick}
 use Rattle.profile.specs.declared.Field.{Field}
-use Rattle.profile.specs.Version.{v02}
-use Rattle.profile.specs.Limits.{mostBytes}
-use Rattle.profile.specs.Fields.{fieldNumber}
-use Rattle.reading.specs.Items.{theItems}
+use Rattle.profile.specs.declared.Field.the-variants.{SeqTp}
+use Rattle.profile.specs.Fields.{fieldNumber, sameField}
+use Rattle.reading.specs.Verdict.{accepted}
+use Rattle.reading.specs.Judged.{judged}
 use Rattle.postings.specs.Record.{recordLength, recordWith}
-use Rattle.items.specs.Chain.{Chained}
+use Rattle.items.specs.Places.{heldAt}
 use Rattle.notes.specs.declared.Notes.{Notes}
+use Rattle.judge.specs.Survey.{survey}
 
--- the value of a field, where its start was noted
-abbrev pub fieldAt : List ℕ → Notes → Field → List ℕ
-fieldAt m n f = valueAt m (getD (n .starts) (fieldNumber f) 0)
+-- where a field was noted
+abbrev pub startOf : List ℕ → Field → ℕ
+startOf starts f = getD starts (fieldNumber f) 0
 
-unfoldable pub recordOf : List ℕ → Notes → List ℕ
-recordOf m n = recordWith (fieldAt m n) (n .cents)
+-- an item's own place, or else the one above it
+abbrev pub ownOr : ℕ → ℕ → ℕ
+ownOr above own = pick (eqb own 0) above own
+
+-- "Records take SeqTp from wherever it stands"; every other field stands in the item
+abbrev pub placeFor : List ℕ → Notes → Field → ℕ
+placeFor above n f = pick (sameField f SeqTp) (ownOr (startOf above f) (startOf (n .starts) f)) (startOf (n .starts) f)
+
+unfoldable pub recordOf : List ℕ → Notes → List ℕ → List ℕ
+recordOf m n above = recordWith (λ f. heldAt m (placeFor above n f)) (n .cents)
 
 -- "into which each field is written at its offset": bytes from `at` on replaced by v
 unfoldable pub laid : ℕ → List ℕ → List ℕ → List ℕ
 laid at v r = take at r ++ (v ++ drop (at + length v) r)
 
--- so many items stand from a place on, and the area has room for their records
-pub record Room (m : List ℕ) (count first : ℕ) (area : List ℕ) : Type 0 where
-  pub small : length m ≤ mostBytes
-  pub within : first ≤ length m
-  pub chain : Chained v02 m first (theItems m)
-  pub many : length (theItems m) ≡ count
+-- a message is accepted with so many items, the first one and the last value of each field are where the judge found them, and the area has room for the records
+pub record Room (m : List ℕ) (count first : ℕ) (above area : List ℕ) : Type 0 where
+  pub cents : ℕ
+  pub accepted : judged m ≡ accepted count cents
+  pub begins : first ≡ survey m .found .first
+  pub noted : above ≡ survey m .places
   pub room : recordLength * count ≤ length area

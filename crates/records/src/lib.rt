@@ -6,15 +6,16 @@ use profile::Field;
 ghost use mathlib.Core.Path.{_≡_};
 ghost use mathlib.Core.List.{_++_};
 ghost use Prim.Native.Nat.{_+_, _*_, _≤_};
-ghost use lib.ListN.{length, take, drop, getD};
-ghost use Rattle.tags.specs.Values.{valueAt};
-ghost use Rattle.profile.specs.Fields.{fieldNumber};
-ghost use Rattle.reading.specs.Items.{theItems};
+ghost use lib.Dec.{eqb, ltb};
+ghost use lib.ListN.{length, take, drop};
+ghost use Rattle.text.specs.Truth.{either};
+ghost use Rattle.reading.specs.Items.{theHeader, theItems};
 ghost use Rattle.words.specs.Collapsed.{collapsed};
 ghost use Rattle.postings.specs.Record.{recordLength, padded, digits};
 ghost use Rattle.postings.specs.Area.{recordsFor, recorded};
+ghost use Rattle.items.specs.Places.{heldAt};
 ghost use Rattle.judge.specs.Verdict.{meant};
-ghost use Rattle.records.specs.Engine.{recordOf, laid, Room};
+ghost use Rattle.records.specs.Engine.{startOf, ownOr, recordOf, laid, Room};
 
 // How many bytes a record has.
 pub const LENGTH: usize = 256;
@@ -35,26 +36,39 @@ fn lay(rec: [u8; LENGTH], at: usize, v: &[u8]) -> [u8; LENGTH]
 
 // Where the last value of a field begins.
 fn start_of(starts: [u32; profile::FIELDS], f: Field) -> usize
-    ensures { λ r. ⌜ r ≡ getD starts (fieldNumber f) 0 ⌝ }
+    ensures { λ r. ⌜ r ≡ startOf starts f ⌝ }
 {
     let i = profile::number_of(f);
     starts[i] as usize
 }
 
-// The value of a field, from where its start was noted up to the next `<`: at most so many bytes of it, laid at an offset.
-fn put(
-    rec: [u8; LENGTH],
-    at: usize,
-    width: usize,
-    m: &[u8],
-    starts: [u32; profile::FIELDS],
-    f: Field,
-) -> [u8; LENGTH]
-    requires { ⌜ at + width ≤ recordLength ⌝ }
-    ensures { λ r. ⌜ r ≡ laid at (take width (valueAt (now (m .entry)) (getD starts (fieldNumber f) 0))) rec ⌝ }
+// Where a field that may stand above an item is to be had: the item's own place, or else the place above.
+fn wherever(starts: [u32; profile::FIELDS], above: [u32; profile::FIELDS], f: Field) -> usize
+    ensures { λ r. ⌜ r ≡ ownOr (startOf above f) (startOf starts f) ⌝ }
 {
-    let start = start_of(starts, f);
-    if m.len() < start {
+    let own = start_of(starts, f);
+    if own == 0 {
+        return start_of(above, f);
+    }
+    own
+}
+
+// Whether no value is to be had at a place: it is 0, or behind the message.
+fn none_at(m: &[u8], start: usize) -> bool
+    ensures { λ r. ⌜ r ≡ either (eqb start 0) (ltb (length (now (m .entry))) start) ⌝ }
+{
+    if start == 0 {
+        return true;
+    }
+    m.len() < start
+}
+
+// The value at a place, up to the next `<`: at most so many bytes of it, laid at an offset; nothing at place 0.
+fn put_at(rec: [u8; LENGTH], at: usize, width: usize, m: &[u8], start: usize) -> [u8; LENGTH]
+    requires { ⌜ at + width ≤ recordLength ⌝ }
+    ensures { λ r. ⌜ r ≡ laid at (take width (heldAt (now (m .entry)) start)) rec ⌝ }
+{
+    if none_at(m, start) {
         return rec;
     }
     let s = &m[start..];
@@ -65,12 +79,27 @@ fn put(
     lay(rec, at, &s[..width])
 }
 
+// The value of a field, where its start was noted, laid at an offset.
+fn put(
+    rec: [u8; LENGTH],
+    at: usize,
+    width: usize,
+    m: &[u8],
+    starts: [u32; profile::FIELDS],
+    f: Field,
+) -> [u8; LENGTH]
+    requires { ⌜ at + width ≤ recordLength ⌝ }
+    ensures { λ r. ⌜ r ≡ laid at (take width (heldAt (now (m .entry)) (startOf starts f))) rec ⌝ }
+{
+    put_at(rec, at, width, m, start_of(starts, f))
+}
+
 // EndToEndId, from where its start was noted up to the next `<`, collapsed, laid at its offset.
 fn put_end_to_end(rec: [u8; LENGTH], m: &[u8], start: usize) -> [u8; LENGTH]
-    ensures { λ r. ⌜ r ≡ laid 35 (padded 35 (collapsed (valueAt (now (m .entry)) start))) rec ⌝ }
+    ensures { λ r. ⌜ r ≡ laid 35 (padded 35 (collapsed (heldAt (now (m .entry)) start))) rec ⌝ }
 {
     let mut field = [32; 35];
-    if m.len() < start {
+    if none_at(m, start) {
         return lay(rec, 35, &field);
     }
     let s = &m[start..];
@@ -94,9 +123,9 @@ fn put_cents(rec: [u8; LENGTH], cents: u64) -> [u8; LENGTH]
     out
 }
 
-// The record of an item, from what reading it noted: all spaces, then each field at its offset.
-fn make_record(m: &[u8], n: Notes) -> [u8; LENGTH]
-    ensures { λ r. ⌜ r ≡ recordOf (now (m .entry)) n ⌝ }
+// The record of an item, from what reading it noted and what was noted above it: all spaces, then each field at its offset.
+fn make_record(m: &[u8], n: Notes, above: [u32; profile::FIELDS]) -> [u8; LENGTH]
+    ensures { λ r. ⌜ r ≡ recordOf (now (m .entry)) n above ⌝ }
 {
     let s = n.starts;
     let mut rec = [32; LENGTH];
@@ -108,7 +137,7 @@ fn make_record(m: &[u8], n: Notes) -> [u8; LENGTH]
     rec = put(rec, 173, 11, m, s, Field::DbtrBic);
     rec = put_cents(rec, n.cents);
     rec = put(rec, 195, 10, m, s, Field::ReqdColltnDt);
-    rec = put(rec, 205, 4, m, s, Field::SeqTp);
+    rec = put_at(rec, 205, 4, m, wherever(s, above, Field::SeqTp));
     rec = put(rec, 209, 35, m, s, Field::CdtrId);
     rec = put(rec, 244, 11, m, s, Field::CdtrBic);
     rec[255] = 10;
@@ -128,9 +157,9 @@ fn write(part: &mut [u8], rec: [u8; LENGTH])
 }
 
 // The second walk over the items: each is read again, and its record goes to its part of the area.
-fn fill(m: &[u8], count: usize, first: usize, area: &mut [u8])
-    requires { ⌜ Room (now m) count first (now area) ⌝ }
-    ensures { λ _. ⌜ now (area .exit) ≡ recordsFor (theItems (now (m .entry))) ++ drop (recordLength * count) (now (area .entry)) ⌝ }
+fn fill(m: &[u8], count: usize, first: usize, above: [u32; profile::FIELDS], area: &mut [u8])
+    requires { ⌜ Room (now m) count first above (now area) ⌝ }
+    ensures { λ _. ⌜ now (area .exit) ≡ recordsFor (theHeader (now (m .entry))) (theItems (now (m .entry))) ++ drop (recordLength * count) (now (area .entry)) ⌝ }
 {
     let mut i = 0;
     let mut at = first;
@@ -144,7 +173,7 @@ fn fill(m: &[u8], count: usize, first: usize, area: &mut [u8])
                 let from = LENGTH * i;
                 let to = from + LENGTH;
                 let notes = st.notes;
-                write(&mut area[from..to], make_record(m, notes));
+                write(&mut area[from..to], make_record(m, notes, above));
                 at = st.at as usize;
                 i += 1;
             }
@@ -156,16 +185,18 @@ fn fill(m: &[u8], count: usize, first: usize, area: &mut [u8])
 pub fn records(m: &[u8], area: &mut [u8]) -> Verdict
     ensures { λ r. ⌜ (meant r ≡ recorded (now (m .entry)) (now (area .entry)) .verdict) × (now (area .exit) ≡ recorded (now (m .entry)) (now (area .entry)) .area) ⌝ }
 {
-    let f = judge::find(m);
+    let r = judge::read(m);
+    let f = r.finding;
     let v = f.verdict;
     let first = f.first;
+    let above = r.starts;
     match v {
         Verdict::Refused(number, place) => Verdict::Refused(number, place),
         Verdict::Accepted(count, cents) => {
             if ((area.len() / LENGTH) as u64) < count {
                 return Verdict::Refused(17, 0);
             }
-            fill(m, count as usize, first, area);
+            fill(m, count as usize, first, above, area);
             Verdict::Accepted(count, cents)
         }
     }

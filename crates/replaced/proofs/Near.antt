@@ -13,7 +13,7 @@ use Rattle.profile.specs.Kinds.{sameKind}
 use Rattle.kinds.specs.Given.{kindGiven}
 use Rattle.reading.specs.Trace.{What, itemBegins, itemEnds, there, absent, value, Entry, _at_, Trace}
 use Rattle.reading.specs.Noted.{Reading, onward, noted}
-use Rattle.reading.specs.Rules.{begun, itemsIn, ofKind, valuesOf, fitting, weighed}
+use Rattle.reading.specs.Rules.{begun, itemsIn, ofKind, valuesOf, ofType, typesIn, fitting, weighed}
 use Rattle.reading.specs.Judged.{whats, orRefused, listed, placeIn, placeFrom}
 use Rattle.reading.proofs.Simulates as sim
 use Rattle.reading.proofs.Simulates.{Alike, going, stopped, simulates}
@@ -44,6 +44,11 @@ module _ (Fit : Kind → Field → Type 0) (v w : List ℕ) where
   near-items (like e n) = ap (λ (i : ℕ). begun (e .what) + i) (near-items n)
   near-items (changed f n) = ap (λ (i : ℕ). 0 + i) (near-items n)
 
+  pub near-types : {l l′ : List Entry} → Near l l′ → typesIn (whats l) ≡ typesIn (whats l′)
+  near-types none = refl
+  near-types (like e n) = ap (λ (x : List Bool). ofType (e .what) ++ x) (near-types n)
+  near-types (changed f n) = near-types n
+
   pub near-place : (j : Kind) {l l′ : List Entry} (q : ℕ) → Near l l′ → placeFrom q j l ≡ placeFrom q j l′
   near-place j q none = refl
   near-place j q (like e n) = near-place j (placeIn (ofKind j (e .what)) (e .place) q) n
@@ -68,8 +73,8 @@ module _ (Fit : Kind → Field → Type 0) (v w : List ℕ) where
     near-weighed : {l l′ : List Entry} → Near l l′ → (x : What) → weighed (whats l) x ≡ weighed (whats l′) x
     near-weighed n itemBegins = rw (near-items n)
     near-weighed n itemEnds = refl
-    near-weighed n (there i) = refl
-    near-weighed n (absent i) = refl
+    near-weighed n (there i) = rw (near-types n)
+    near-weighed n (absent i) = rw (near-types n)
     near-weighed n (value k f u) = rw (near-values (Code code.the-variants.LclInstrm) services n, near-values Amount amounts n)
 
     or-refused : (g : Given) (p : ℕ) {l l′ : List Entry} → Near l l′ → Alike Near (orRefused g p l) (orRefused g p l′)

@@ -29,7 +29,7 @@ use Rattle.documents.specs.Holds.{Passes}
 use Rattle.documents.specs.Standing.{OneHeader}
 use Rattle.documents.proofs.Each.{each-both, each-first, each-rest}
 use Rattle.documents.proofs.Lists.{Kept, kept-first, kept-listed, listed-stops, listedAll, Compared, decided}
-use Rattle.replaced.proofs.Near.{Near, changed, Unlike, near-append, near-itself, near-items, near-place, near-values}
+use Rattle.replaced.proofs.Near.{Near, changed, Unlike, near-append, near-itself, near-items, near-types, near-place, near-values}
 use Rattle.slips.specs.Slip.{Slip, Refused}
 use Rattle.slips.proofs.Values.{plain-slip, count-slip, amount-slip, unwatched}
 use Rattle.slips.proofs.Few.{sum-in-range}
@@ -132,6 +132,7 @@ module _ (k : Kind) (f : Field) (q : ℕ) (v w : List ℕ) (xs ys : List Entry) 
       kept-too =
           record {
             kinds = kinds-too;
+            typed = rw (near-types This v w near) at (s .kept .typed);
             alike = rw (near-values This v w (Code LclInstrm) (unlike (Code LclInstrm) service) near) at (s .kept .alike);
             few = omega (arith, near-items This v w near, s .kept .few);
             summed = sum-in-range (whats (with w)) kinds-too (omega (arith, as-many, s .few, s .kept .few));

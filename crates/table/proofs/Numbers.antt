@@ -1,19 +1,24 @@
--- The numbers of kinds, fields and occurrences name what they are the numbers of.
+-- The numbers of kinds, fields, occurrences and names name what they are the numbers of.
 use mathlib.Core.Path.{_≡_, refl, sym}
+use mathlib.Core.Bool.{Bool, true, false}
 use mathlib.Core.List.{List}
 use Prim.Native.Nat.{ℕ, zero, suc, _+_, _-_, _≤_, _<_}
+use Prim.Native.String.{String}
 use native.Mathlib.Omega.{arith}
 use lib.ListN.{length, getD, List·getD-eq-default}
+use Rattle.text.specs.Truth.{pick}
 use Rattle.codes.specs.declared.Element.the-variants as code
 use Rattle.profile.specs.declared.Kind.{Kind}
 use Rattle.profile.specs.declared.Kind.the-variants.{Plain, Count, Total, Amount, Code}
 use Rattle.profile.specs.declared.Simple.the-variants.{Reference, EndToEnd, Text70, Text140, Date, Time, Bic, Iban, Identifier}
 use Rattle.profile.specs.declared.Field.{Field}
 use Rattle.profile.specs.declared.Field.the-variants as field
-use Rattle.profile.specs.Fields.{fields, fieldNumber}
+use Rattle.profile.specs.Fields.{fieldNumber}
+use Rattle.profile.specs.Listed.{fields}
 use Rattle.profile.specs.Kinds.{isAmount}
 use Rattle.profile.specs.Tree.{Occ, once, optional, many, more}
-use Rattle.table.specs.Table.{kinds, kindOf, kindInTable, amountKind, fieldOf, occOf, occNumber}
+use Rattle.profile.specs.Profile.{isType}
+use Rattle.table.specs.Table.{kinds, kindOf, kindInTable, amountKind, fieldOf, occOf, occNumber, markName, nameMark}
 
 -- ---- a number that is none of the m numbers behind b lies outside a list of their entries
 abbrev None : ℕ → ℕ → ℕ → Type 0
@@ -42,6 +47,14 @@ occ-of once = refl
 occ-of optional = refl
 occ-of many = refl
 occ-of more = refl
+
+marked : (b : Bool) → isType (markName (pick b 1 0)) ≡ b
+unfolding isType
+marked true = refl
+marked false = refl
+
+pub name-of : (n : String) → isType (markName (nameMark n)) ≡ isType n
+name-of n = marked (isType n)
 
 pub record Numbers (k : Kind) (n : ℕ) : Type 0 where
   pub kind : 2 ≤ n

@@ -19,7 +19,7 @@ use Rattle.profile.specs.Tree.{Shape, end, leaf, group, many}
 use Rattle.profile.specs.Profile.{bulkName, itemName, inHeader, inItem, profile}
 use Rattle.table.specs.declared.Row.{Row}
 use Rattle.table.specs.Table.{rowsOf, startText, tagsOf, numbersAt, numbersOf, rowOf, rowIn, opensBy, closesBy, tags, table, due, manyRows, itemRow, Element}
-use Rattle.table.proofs.Numbers.{occ-of, kind-numbers, field-of}
+use Rattle.table.proofs.Numbers.{occ-of, name-of, kind-numbers, field-of}
 use Rattle.table.proofs.Opens.{opens-by, width-by}
 use Rattle.table.proofs.Tied.{TiedBy, KeptBy, Tied, RowKept}
 
@@ -155,6 +155,7 @@ module _ (S : Shape) where
                 number = refl;
                 amount = x .amount;
                 occ = occ-of o;
+                name = name-of n;
                 some = some-tag (isAmount kd) n;
                 start = opens-by (isAmount kd) n r (x .amount) (tagsOf S) (t .one);
                 width = width-by (isAmount kd) n r (x .amount) refl;
@@ -193,6 +194,7 @@ module _ (S : Shape) where
                 kind = refl;
                 amount = refl;
                 occ = occ-of o;
+                name = name-of n;
                 some = some-tag false n;
                 start = opens-by false n r refl (tagsOf S) (t .one);
                 width = width-by false n r refl refl ∙ exactly-length (plainTag n);

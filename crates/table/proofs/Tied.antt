@@ -14,8 +14,9 @@ use Rattle.profile.specs.Version.{Version}
 use Rattle.profile.specs.Fields.{fieldNumber}
 use Rattle.profile.specs.Kinds.{isAmount}
 use Rattle.profile.specs.Tree.{Occ, Shape, end, leaf, group}
+use Rattle.profile.specs.Profile.{isType}
 use Rattle.table.specs.declared.Row.{Row}
-use Rattle.table.specs.Table.{kindOf, fieldOf, occOf, amountKind, opensBy, closesBy, width, tags, due, manyRows, Element}
+use Rattle.table.specs.Table.{kindOf, fieldOf, occOf, markName, amountKind, opensBy, closesBy, width, tags, due, manyRows, Element}
 
 -- by the text of all tags, the shape that is due from each row on, and how many rows there are
 module _ (t : List ℕ) (d : ℕ → Shape) (rows : ℕ) where
@@ -31,6 +32,7 @@ module _ (t : List ℕ) (d : ℕ → Shape) (rows : ℕ) where
     pub number : r .field ≡ fieldNumber f
     pub amount : amountKind (r .kind) ≡ isAmount kd
     pub occ : occOf (r .occ) ≡ o
+    pub name : isType (markName (r .mark)) ≡ isType n
     pub some : 0 < r .start
     pub start : opensBy t r ≡ startTag (isAmount kd) n
     pub width : width r ≡ length (startTag (isAmount kd) n)
@@ -43,6 +45,7 @@ module _ (t : List ℕ) (d : ℕ → Shape) (rows : ℕ) where
     pub kind : r .kind ≡ 1
     pub amount : amountKind (r .kind) ≡ false
     pub occ : occOf (r .occ) ≡ o
+    pub name : isType (markName (r .mark)) ≡ isType n
     pub some : 0 < r .start
     pub start : opensBy t r ≡ exactly (plainTag n)
     pub width : width r ≡ length (plainTag n)

@@ -15,10 +15,11 @@ use Rattle.profile.specs.declared.Simple.the-variants.{Reference, EndToEnd, Tex
 use Rattle.profile.specs.declared.Field.{Field}
 use Rattle.profile.specs.declared.Field.the-variants.{MsgId}
 use Rattle.profile.specs.Version.{Version}
-use Rattle.profile.specs.Fields.{fields, fieldNumber}
+use Rattle.profile.specs.Fields.{fieldNumber}
+use Rattle.profile.specs.Listed.{fields}
 use Rattle.profile.specs.Kinds.{isAmount}
 use Rattle.profile.specs.Tree.{Occ, once, optional, many, more, Shape, end, leaf, group}
-use Rattle.profile.specs.Profile.{inHeader, profile}
+use Rattle.profile.specs.Profile.{typeName, isType, inHeader, profile}
 use Rattle.table.specs.declared.Row.{Row}
 
 -- ---- what a row's numbers mean
@@ -90,6 +91,14 @@ occNumber optional = 1
 occNumber many = 2
 occNumber more = 3
 
+-- a name by its mark: the payment type's, or one that is not
+abbrev pub markName : ℕ → String
+markName zero = ""
+markName (suc n) = typeName
+
+abbrev pub nameMark : String → ℕ
+nameMark n = pick (isType n) 1 0
+
 -- the fields by their numbers
 unfoldable pub fieldOf : ℕ → Field
 fieldOf n = getD fields n MsgId
@@ -111,13 +120,13 @@ tagsOf (leaf o n k f rest) = startText (isAmount k) n ++ (endTag n ++ tagsOf res
 tagsOf (group o n inner rest) = plainTag n ++ (tagsOf inner ++ tagsOf rest)
 
 -- the numbers of row k, whose tags stand from p on: where they stand; how many bytes its start tag has there, and its end tag behind it; 0 for an end, 1 for a group, else the kind;
--- how often it may come; the row of what is due after it (a group's first child is the row below); a value's field
+-- how often it may come; the row of what is due after it (a group's first child is the row below); a value's field; the mark of its name
 abbrev pub numbersAt : ℕ → ℕ → Shape → List ℕ
-numbersAt k p (end n) = p ∷ 0 ∷ length (endTag n) ∷ 0 ∷ 0 ∷ 0 ∷ 0 ∷ []
+numbersAt k p (end n) = p ∷ 0 ∷ length (endTag n) ∷ 0 ∷ 0 ∷ 0 ∷ 0 ∷ 0 ∷ []
 numbersAt k p (leaf o n kd f rest) =
-    p ∷ length (startText (isAmount kd) n) ∷ length (endTag n) ∷ kindInTable kd ∷ occNumber o ∷ suc k ∷ fieldNumber f ∷ []
+    p ∷ length (startText (isAmount kd) n) ∷ length (endTag n) ∷ kindInTable kd ∷ occNumber o ∷ suc k ∷ fieldNumber f ∷ nameMark n ∷ []
 numbersAt k p (group o n inner rest) =
-    p ∷ length (plainTag n) ∷ 0 ∷ 1 ∷ occNumber o ∷ (suc k + length (rowsOf inner)) ∷ 0 ∷ []
+    p ∷ length (plainTag n) ∷ 0 ∷ 1 ∷ occNumber o ∷ (suc k + length (rowsOf inner)) ∷ 0 ∷ nameMark n ∷ []
 
 -- the numbers of all rows, of which the first is row k
 abbrev pub numbersOf : ℕ → ℕ → Shape → List (List ℕ)
@@ -158,6 +167,7 @@ rowOf r =
       occ = getD r 4 0;
       next = getD r 5 0;
       field = getD r 6 0;
+      mark = getD r 7 0;
     }
 
 abbrev pub rowIn : List (List ℕ) → ℕ → Row

@@ -6,16 +6,16 @@ use borrow.Author.Needs.{needs}
 use Prim.Native.Nat.{ℕ, _+_, _-_, _*_, _<_}
 use lib.ListN.{length}
 use Rattle.profile.specs.Version.{v02}
-use Rattle.table.specs.Table.{due, closesBy}
+use Rattle.table.specs.Table.{due, occOf, markName, closesBy}
 use Rattle.table.proofs.Tied.{element-row, some-start, end-finish, leaf-finish, group-below as group-below-row}
 use Rattle.table.proofs.Rows.{row-tied, few-rows}
 use Rattle.notes.specs.Steps.{stated, metIn, stepped, reads}
 use Rattle.notes.proofs.Stays.{later}
 use Rattle.reader.specs.Reader.{closedBy, elementIn}
-use Rattle.reader.proofs.Steps.{passed-on, fine-on, fine-stop}
+use Rattle.reader.proofs.Steps.{passed-on, fine-on, fine-stop, halted, went-on, missing-fine}
 use Rattle.reader.proofs.Turns.{deep, deepIn, element-deep}
 use Rattle.reader.proofs.Rows.{tells, ended, element-stops, element-group, element-value, inner-deep, within}
-use Rattle.reader.proofs.Loops.{Loop, begin, loop-end, loop-stop, loop-pass, loop-fail, loop-next, loop-more}
+use Rattle.reader.proofs.Loops.{Loop, begin, loop-end, loop-cut, loop-miss, loop-pass, loop-fail, loop-next, loop-more}
 use borrow.Fn.Kinds.{In}
 use borrow.Fn.PlainCycle.{Measures, is, falls, and}
 use Rattle.reader.proofs.element.Reads as element
@@ -25,11 +25,13 @@ use Rattle.reader.proofs.group.Reads as group
 use Rattle.reader.proofs.group.Kinds as group-kinds
 use Rattle.reader.proofs.+element+group.Lts-group as group-lts
 use Rattle.notes.proofs.State.refuse.Reads as refuse-reads
-use Rattle.reader.proofs.choose.Reads as choose-reads
 use Rattle.reader.proofs.close.Reads as close-reads
 use Rattle.reader.proofs.due_now.Reads as due-now-reads
 use Rattle.reader.proofs.enter.Reads as enter-reads
+use Rattle.reader.proofs.is_stopped.Reads as is-stopped-reads
+use Rattle.reader.proofs.pass.Reads as pass-reads
 use Rattle.reader.proofs.skip.Reads as skip-reads
+use Rattle.reader.proofs.start_at.Reads as start-at-reads
 use Rattle.reader.proofs.value.Reads as value-reads
 use Rattle.table.proofs.row_at.Reads as row-at-reads
 use Rattle.reader.proofs.+element+group.{statement}
@@ -78,10 +80,14 @@ group-calls t = (
   close-reads.Learnt,
   due-now-reads.Asked,
   due-now-reads.Learnt,
-  choose-reads.Asked,
-  choose-reads.Learnt,
+  start-at-reads.Asked,
+  start-at-reads.Learnt,
   refuse-reads.Asked,
   refuse-reads.Learnt,
+  pass-reads.Asked,
+  pass-reads.Learnt,
+  is-stopped-reads.Asked,
+  is-stopped-reads.Learnt,
   element-below t,
   element.Post,
 )
@@ -186,8 +192,7 @@ group-row-at-requires : (t : ℕ) → group-lts.Need-row-at-requires (group-call
 group-row-at-requires n c κs = search needs
 
 group-skip-requires : (t : ℕ) → group-lts.Need-skip-requires (group-calls t) (group-at t) group.Post group-Inv-loop group-μ-loop
-group-skip-requires n c κs =
-    c .before .loop .inv .good
+group-skip-requires n c κs = c .before .loop .inv .good
 
 group-close-requires : (t : ℕ) → group-lts.Need-close-requires (group-calls t) (group-at t) group.Post group-Inv-loop group-μ-loop
 group-close-requires n c κs =
@@ -213,68 +218,98 @@ group-returns n c =
 group-due-now-requires : (t : ℕ) → group-lts.Need-due-now-requires (group-calls t) (group-at t) group.Post group-Inv-loop group-μ-loop
 group-due-now-requires n c κs = search needs
 
-group-cast-choose : (t : ℕ) → group-lts.Need-cast-choose (group-calls t) (group-at t) group.Post group-Inv-loop group-μ-loop
-group-cast-choose n c =
-    search needs
+group-cast-start-at : (t : ℕ) → group-lts.Need-cast-start-at (group-calls t) (group-at t) group.Post group-Inv-loop group-μ-loop
+group-cast-start-at n c = search needs
 
-group-choose-requires : (t : ℕ) → group-lts.Need-choose-requires (group-calls t) (group-at t) group.Post group-Inv-loop group-μ-loop
-group-choose-requires n c κs =
-    c .before .before .before .before .skip .ensures .1 .within
+group-start-at-requires : (t : ℕ) → group-lts.Need-start-at-requires (group-calls t) (group-at t) group.Post group-Inv-loop group-μ-loop
+group-start-at-requires n c κs = c .before .before .before .before .skip .ensures .1 .within
 
-group-enum-known-number : (t : ℕ) → group-lts.Need-enum-known-number (group-calls t) (group-at t) group.Post group-Inv-loop group-μ-loop
-group-enum-known-number n c = search needs
+group-enum-told : (t : ℕ) → group-lts.Need-enum-told (group-calls t) (group-at t) group.Post group-Inv-loop group-μ-loop
+group-enum-told n c = search needs
 
 group-refuse-requires : (t : ℕ) → group-lts.Need-refuse-requires (group-calls t) (group-at t) group.Post group-Inv-loop group-μ-loop
 group-refuse-requires n c κs = search needs
 
 group-returns-2 : (t : ℕ) → group-lts.Need-returns-2 (group-calls t) (group-at t) group.Post group-Inv-loop group-μ-loop
 group-returns-2 n c =
-    let l = c .before .before .before .before .before .before .before .before .before .before .before .loop in
-    let r = c .before .before .before .before .before .before .before .before .before .before .row-at in
-    let s = c .before .before .before .before .before .before .before .before .before .skip in
-    let the-if1 = c .before .before .before .before .before .before .before .if1 in
-    let the-due-now = c .before .before .before .before .before .before .due-now in
-    let the-choose = c .before .before .before .before .choose in
-    let a = c .before .before .before .before .before .before .before .before .before .before .before .before .before .before in
+    let l = c .before .before .before .before .before .before .before .before .before .before .loop in
+    let r = c .before .before .before .before .before .before .before .before .before .row-at in
+    let s = c .before .before .before .before .before .before .before .before .skip in
+    let the-if1 = c .before .before .before .before .before .before .if1 in
+    let the-due-now = c .before .before .before .before .before .due-now in
+    let the-start-at = c .before .before .before .start-at in
+    let a = c .before .before .before .before .before .before .before .before .before .before .before .before .before in
     let w = row-tied v02 (a .args .rows .now) (l .k) (r .result) (r .ensures) (a .pre .1 .3) (l .inv .row) in
     let t = tells v02 (l .k) (r .result) (due v02 (l .k)) (w .0) (the-if1 .left) in
-    loop-stop v02 (a .args .m .now) (a .args .first) (stated (a .args .start)) (l .k) (l .seen) (stated (l .st)) (l .inv) (stated (s .result)) (s .ensures .0)
-    (s .ensures .1) (s .ensures .2) (r .result) (w .1 .next) (a .args .names .now) (a .pre .1 .2) t (the-due-now .result) (the-due-now .ensures) (the-choose .result)
-    (the-choose .ensures) _ _ (c .before .before .number .given .1) (stepped (c .refuse .result)) (c .refuse .ensures)
+    loop-cut v02 (a .args .m .now) (a .args .first) (stated (a .args .start)) (l .k) (l .seen) (stated (l .st)) (l .inv) (stated (s .result)) (s .ensures .0)
+    (s .ensures .1) (s .ensures .2) (r .result) (w .1 .next) (a .args .names .now) (a .pre .1 .2) t (the-due-now .result) (the-due-now .ensures) (the-start-at .result)
+    (the-start-at .ensures) (c .before .enum-told .given .1) (stepped (c .refuse .result)) (c .refuse .ensures)
 
-group-enum-told : (t : ℕ) → group-lts.Need-enum-told (group-calls t) (group-at t) group.Post group-Inv-loop group-μ-loop
-group-enum-told n c = search needs
+group-enum-told-2 : (t : ℕ) → group-lts.Need-enum-told-2 (group-calls t) (group-at t) group.Post group-Inv-loop group-μ-loop
+group-enum-told-2 n c = search needs
+
+group-pass-requires : (t : ℕ) → group-lts.Need-pass-requires (group-calls t) (group-at t) group.Post group-Inv-loop group-μ-loop
+group-pass-requires n c κs = search needs
+
+group-is-stopped-requires : (t : ℕ) → group-lts.Need-is-stopped-requires (group-calls t) (group-at t) group.Post group-Inv-loop group-μ-loop
+group-is-stopped-requires n c κs = search needs
+
+group-returns-3 : (t : ℕ) → group-lts.Need-returns-3 (group-calls t) (group-at t) group.Post group-Inv-loop group-μ-loop
+group-returns-3 n c =
+    let l = c .before .before .before .before .before .before .before .before .before .before .before .before .loop in
+    let r = c .before .before .before .before .before .before .before .before .before .before .before .row-at in
+    let s = c .before .before .before .before .before .before .before .before .before .before .skip in
+    let the-if1 = c .before .before .before .before .before .before .before .before .if1 in
+    let the-due-now = c .before .before .before .before .before .before .before .due-now in
+    let the-start-at = c .before .before .before .before .before .start-at in
+    let the-pass = c .before .before .pass in
+    let a = c .before .before .before .before .before .before .before .before .before .before .before .before .before .before .before in
+    let w = row-tied v02 (a .args .rows .now) (l .k) (r .result) (r .ensures) (a .pre .1 .3) (l .inv .row) in
+    let t = tells v02 (l .k) (r .result) (due v02 (l .k)) (w .0) (the-if1 .left) in
+    loop-miss v02 (a .args .m .now) (a .args .first) (stated (a .args .start)) (l .k) (l .seen) (stated (l .st)) (l .inv) (stated (s .result)) (s .ensures .0)
+    (s .ensures .1) (s .ensures .2) (r .result) (w .1 .next) (a .args .names .now) (a .pre .1 .2) t (the-due-now .result) (the-due-now .ensures) (the-start-at .result)
+    (the-start-at .ensures) (c .before .before .before .enum-told2 .given .1) (stepped (the-pass .result)) (the-pass .ensures)
+    (halted (the-pass .result .met) (the-pass .result .state) (sym (c .before .is-stopped .ensures) ∙ c .if2 .taken))
 
 group-cast-k : (t : ℕ) → group-lts.Need-cast-k (group-calls t) (group-at t) group.Post group-Inv-loop group-μ-loop
 group-cast-k n c = search needs
 
 group-loop-less : (t : ℕ) → group-lts.Need-loop-less (group-calls t) (group-at t) group.Post group-Inv-loop group-μ-loop
 group-loop-less n c =
-    let a = c .before .before .before .before .before .before .before .before .before .before .before .before .before in
-    let l = c .before .before .before .before .before .before .before .before .before .before .loop in
-    let r = c .before .before .before .before .before .before .before .before .before .row-at in
-    let s = c .before .before .before .before .before .before .before .before .skip in
+    let l = c .before .before .before .before .before .before .before .before .before .before .before .before .before .before .loop in
+    let r = c .before .before .before .before .before .before .before .before .before .before .before .before .before .row-at in
+    let s = c .before .before .before .before .before .before .before .before .before .before .before .before .skip in
+    let the-if1 = c .before .before .before .before .before .before .before .before .before .before .if1 in
+    let the-due-now = c .before .before .before .before .before .before .before .before .before .due-now in
+    let the-pass = c .before .before .before .before .pass in
+    let a = c .before .before .before .before .before .before .before .before .before .before .before .before .before .before .before .before .before in
     let w = row-tied v02 (a .args .rows .now) (l .k) (r .result) (r .ensures) (a .pre .1 .3) (l .inv .row) in
-    let t = tells v02 (l .k) (r .result) (due v02 (l .k)) (w .0) (c .before .before .before .before .before .before .if1 .left) in
-    omega (arith, s .ensures .2, t .later, w .1 .next, few-rows v02, s .ensures .1 .within)
+    let t = tells v02 (l .k) (r .result) (due v02 (l .k)) (w .0) (the-if1 .left) in
+    let q = went-on (the-pass .result .met) (the-pass .result .state) (sym (c .before .before .before .is-stopped .ensures) ∙ c .before .before .if2 .left) in
+    let g = fine-on (a .args .m .now) (s .result .at) (stepped (the-pass .result)) (stated (the-pass .result .state)) q
+    (rw (the-pass .ensures) (missing-fine (a .args .m .now) (occOf (the-due-now .result)) (markName (r .result .mark)) (s .result .at) (s .result .notes) (s .ensures .1))) in
+    omega (arith, s .ensures .2, t .later, w .1 .next, few-rows v02, g .0 .within, g .1)
 
 group-loop-again : (t : ℕ) → group-lts.Need-loop-again (group-calls t) (group-at t) group.Post group-Inv-loop group-μ-loop
 group-loop-again n c =
-    let l = c .before .before .before .before .before .before .before .before .before .before .loop in
-    let r = c .before .before .before .before .before .before .before .before .before .row-at in
-    let s = c .before .before .before .before .before .before .before .before .skip in
-    let the-if1 = c .before .before .before .before .before .before .if1 in
-    let the-due-now = c .before .before .before .before .before .due-now in
-    let the-choose = c .before .before .before .choose in
-    let a = c .before .before .before .before .before .before .before .before .before .before .before .before .before in
+    let l = c .before .before .before .before .before .before .before .before .before .before .before .before .before .before .loop in
+    let r = c .before .before .before .before .before .before .before .before .before .before .before .before .before .row-at in
+    let s = c .before .before .before .before .before .before .before .before .before .before .before .before .skip in
+    let the-if1 = c .before .before .before .before .before .before .before .before .before .before .if1 in
+    let the-due-now = c .before .before .before .before .before .before .before .before .before .due-now in
+    let the-start-at = c .before .before .before .before .before .before .before .start-at in
+    let the-pass = c .before .before .before .before .pass in
+    let a = c .before .before .before .before .before .before .before .before .before .before .before .before .before .before .before .before .before in
     let w = row-tied v02 (a .args .rows .now) (l .k) (r .result) (r .ensures) (a .pre .1 .3) (l .inv .row) in
     let t = tells v02 (l .k) (r .result) (due v02 (l .k)) (w .0) (the-if1 .left) in
+    let q = went-on (the-pass .result .met) (the-pass .result .state) (sym (c .before .before .before .is-stopped .ensures) ∙ c .before .before .if2 .left) in
     loop-pass v02 (a .args .m .now) (a .args .first) (stated (a .args .start)) (l .k) (l .seen) (stated (l .st)) (l .inv) (stated (s .result)) (s .ensures .0)
-    (s .ensures .1) (s .ensures .2) (r .result) (w .1 .next) (a .args .names .now) (a .pre .1 .2) t (the-due-now .result) (the-due-now .ensures) (the-choose .result)
-    (the-choose .ensures) (c .before .enum-told .given .1)
+    (s .ensures .1) (s .ensures .2) (r .result) (w .1 .next) (a .args .names .now) (a .pre .1 .2) t (the-due-now .result) (the-due-now .ensures) (the-start-at .result)
+    (the-start-at .ensures) (c .before .before .before .before .before .enum-told2 .given .1) (stepped (the-pass .result)) (the-pass .ensures)
+    (stated (the-pass .result .state)) q
 
-group-enum-told-2 : (t : ℕ) → group-lts.Need-enum-told-2 (group-calls t) (group-at t) group.Post group-Inv-loop group-μ-loop
-group-enum-told-2 n c = search needs
+group-enum-told-3 : (t : ℕ) → group-lts.Need-enum-told-3 (group-calls t) (group-at t) group.Post group-Inv-loop group-μ-loop
+group-enum-told-3 n c = search needs
 
 group-element-requires : (t : ℕ) → group-lts.Need-element-requires (group-calls t) (group-at t) group.Post group-Inv-loop group-μ-loop
 group-element-requires n c κs =
@@ -282,7 +317,7 @@ group-element-requires n c κs =
     let r = c .before .before .before .before .before .before .before .before .row-at in
     let s = c .before .before .before .before .before .before .before .skip in
     let the-if1 = c .before .before .before .before .before .if1 in
-    let the-due-now = c .before .before .before .before .due-now in
+    let the-start-at = c .before .before .start-at in
     let a = c .before .before .before .before .before .before .before .before .before .before .before .before in
     let w = row-tied v02 (a .args .rows .now) (l .k) (r .result) (r .ensures) (a .pre .1 .3) (l .inv .row) in
     let t = tells v02 (l .k) (r .result) (due v02 (l .k)) (w .0) (the-if1 .left) in (
@@ -292,39 +327,31 @@ group-element-requires n c κs =
         l .inv .row,
         t .element,
         within v02 (l .k) (r .result) (a .args .names .now) (a .pre .1 .2) (a .args .m .now) (a .args .rows .now) (a .pre .1 .3) (r .ensures) (s .result .at)
-            (s .ensures .1 .within) (the-due-now .result) t (sym (c .enum-told2 .given .1) ∙ c .before .before .choose .ensures),
+            (s .ensures .1 .within) t (sym (c .enum-told3 .given .1) ∙ the-start-at .ensures),
         a .pre .1 .2,
         a .pre .1 .3,
       ),
     )
 
-group-enum-known-met : (t : ℕ) → group-lts.Need-enum-known-met (group-calls t) (group-at t) group.Post group-Inv-loop group-μ-loop
-group-enum-known-met n c = search needs
+group-is-stopped-requires-2 : (t : ℕ) → group-lts.Need-is-stopped-requires-2 (group-calls t) (group-at t) group.Post group-Inv-loop group-μ-loop
+group-is-stopped-requires-2 n c κs = search needs
 
-group-refuse-requires-2 : (t : ℕ) → group-lts.Need-refuse-requires-2 (group-calls t) (group-at t) group.Post group-Inv-loop group-μ-loop
-group-refuse-requires-2 n c κs = search needs
-
-group-returns-3 : (t : ℕ) → group-lts.Need-returns-3 (group-calls t) (group-at t) group.Post group-Inv-loop group-μ-loop
-group-returns-3 n c =
-    let l = c .before .before .before .before .before .before .before .before .before .before .before .before .before .before .before .loop in
-    let r = c .before .before .before .before .before .before .before .before .before .before .before .before .before .before .row-at in
-    let s = c .before .before .before .before .before .before .before .before .before .before .before .before .before .skip in
-    let the-if1 = c .before .before .before .before .before .before .before .before .before .before .before .if1 in
-    let the-due-now = c .before .before .before .before .before .before .before .before .before .before .due-now in
-    let the-choose = c .before .before .before .before .before .before .before .before .choose in
-    let the-enum-told2 = c .before .before .before .before .before .before .enum-told2 in
-    let the-element = c .before .before .before .before .before .element in
-    let a = c .before .before .before .before .before .before .before .before .before .before .before .before .before .before .before .before .before .before in
+group-returns-4 : (t : ℕ) → group-lts.Need-returns-4 (group-calls t) (group-at t) group.Post group-Inv-loop group-μ-loop
+group-returns-4 n c =
+    let l = c .before .before .before .before .before .before .before .before .before .before .before .before .loop in
+    let r = c .before .before .before .before .before .before .before .before .before .before .before .row-at in
+    let s = c .before .before .before .before .before .before .before .before .before .before .skip in
+    let the-if1 = c .before .before .before .before .before .before .before .before .if1 in
+    let the-due-now = c .before .before .before .before .before .before .before .due-now in
+    let the-start-at = c .before .before .before .before .before .start-at in
+    let the-element = c .before .before .element in
+    let a = c .before .before .before .before .before .before .before .before .before .before .before .before .before .before .before in
     let w = row-tied v02 (a .args .rows .now) (l .k) (r .result) (r .ensures) (a .pre .1 .3) (l .inv .row) in
     let t = tells v02 (l .k) (r .result) (due v02 (l .k)) (w .0) (the-if1 .left) in
-    let q = ap (λ x. metIn x (the-element .result .state)) (sym (c .before .before .met .given .1)) in
     loop-fail v02 (a .args .m .now) (a .args .first) (stated (a .args .start)) (l .k) (l .seen) (stated (l .st)) (l .inv) (stated (s .result)) (s .ensures .0)
-    (s .ensures .1) (s .ensures .2) (r .result) (w .1 .next) (a .args .names .now) (a .pre .1 .2) t (the-due-now .result) (the-due-now .ensures) (the-choose .result)
-    (the-choose .ensures) (the-enum-told2 .given .1) (stepped (the-element .result)) (the-element .ensures .0) (the-element .ensures .1) _ _ q
-    (stepped (c .refuse2 .result)) (c .refuse2 .ensures)
-
-group-enum-told-3 : (t : ℕ) → group-lts.Need-enum-told-3 (group-calls t) (group-at t) group.Post group-Inv-loop group-μ-loop
-group-enum-told-3 n c = search needs
+    (s .ensures .1) (s .ensures .2) (r .result) (w .1 .next) (a .args .names .now) (a .pre .1 .2) t (the-due-now .result) (the-due-now .ensures) (the-start-at .result)
+    (the-start-at .ensures) (c .before .before .before .enum-told3 .given .1) (stepped (the-element .result)) (the-element .ensures .0) (the-element .ensures .1)
+    (halted (the-element .result .met) (the-element .result .state) (sym (c .before .is-stopped2 .ensures) ∙ c .if3 .taken))
 
 group-cast-k-2 : (t : ℕ) → group-lts.Need-cast-k-2 (group-calls t) (group-at t) group.Post group-Inv-loop group-μ-loop
 group-cast-k-2 n c = search needs
@@ -332,14 +359,10 @@ group-cast-k-2 n c = search needs
 group-loop-less-2 : (t : ℕ) → group-lts.Need-loop-less-2 (group-calls t) (group-at t) group.Post group-Inv-loop group-μ-loop
 group-loop-less-2 n c =
     let l = c .before .before .before .before .before .before .before .before .before .before .before .before .before .before .before .loop in
-    let r = c .before .before .before .before .before .before .before .before .before .before .before .before .before .before .row-at in
     let s = c .before .before .before .before .before .before .before .before .before .before .before .before .before .skip in
-    let the-if1 = c .before .before .before .before .before .before .before .before .before .before .before .if1 in
     let the-element = c .before .before .before .before .before .element in
     let a = c .before .before .before .before .before .before .before .before .before .before .before .before .before .before .before .before .before .before in
-    let w = row-tied v02 (a .args .rows .now) (l .k) (r .result) (r .ensures) (a .pre .1 .3) (l .inv .row) in
-    let t = tells v02 (l .k) (r .result) (due v02 (l .k)) (w .0) (the-if1 .left) in
-    let q = ap (λ x. metIn x (the-element .result .state)) (sym (c .before .before .enum-told3 .given .1)) in
+    let q = went-on (the-element .result .met) (the-element .result .state) (sym (c .before .before .before .before .is-stopped2 .ensures) ∙ c .before .before .before .if3 .left) in
     let g = fine-on (a .args .m .now) (s .result .at + 1) (stepped (the-element .result)) (stated (the-element .result .state)) q (the-element .ensures .1) in
     omega (arith, s .ensures .2, g .1, g .0 .within, l .inv .row, few-rows v02)
 
@@ -350,29 +373,24 @@ group-loop-again-2 n c =
     let s = c .before .before .before .before .before .before .before .before .before .before .before .before .before .skip in
     let the-if1 = c .before .before .before .before .before .before .before .before .before .before .before .if1 in
     let the-due-now = c .before .before .before .before .before .before .before .before .before .before .due-now in
-    let the-choose = c .before .before .before .before .before .before .before .before .choose in
-    let the-enum-told2 = c .before .before .before .before .before .before .enum-told2 in
+    let the-start-at = c .before .before .before .before .before .before .before .before .start-at in
     let the-element = c .before .before .before .before .before .element in
     let a = c .before .before .before .before .before .before .before .before .before .before .before .before .before .before .before .before .before .before in
     let w = row-tied v02 (a .args .rows .now) (l .k) (r .result) (r .ensures) (a .pre .1 .3) (l .inv .row) in
     let t = tells v02 (l .k) (r .result) (due v02 (l .k)) (w .0) (the-if1 .left) in
-    let q = ap (λ x. metIn x (the-element .result .state)) (sym (c .before .before .enum-told3 .given .1)) in
+    let q = went-on (the-element .result .met) (the-element .result .state) (sym (c .before .before .before .before .is-stopped2 .ensures) ∙ c .before .before .before .if3 .left) in
     loop-next v02 (a .args .m .now) (a .args .first) (stated (a .args .start)) (l .k) (l .seen) (stated (l .st)) (l .inv) (stated (s .result)) (s .ensures .0)
-    (s .ensures .1) (s .ensures .2) (r .result) (w .1 .next) (a .args .names .now) (a .pre .1 .2) t (the-due-now .result) (the-due-now .ensures) (the-choose .result)
-    (the-choose .ensures) (the-enum-told2 .given .1) (stepped (the-element .result)) (the-element .ensures .0) (the-element .ensures .1)
-    (stated (the-element .result .state)) q (c .before .if2 .taken)
+    (s .ensures .1) (s .ensures .2) (r .result) (w .1 .next) (a .args .names .now) (a .pre .1 .2) t (the-due-now .result) (the-due-now .ensures) (the-start-at .result)
+    (the-start-at .ensures) (c .before .before .before .before .before .before .enum-told3 .given .1) (stepped (the-element .result)) (the-element .ensures .0) (the-element .ensures .1)
+    (stated (the-element .result .state)) q (c .before .if4 .taken)
 
 group-loop-less-3 : (t : ℕ) → group-lts.Need-loop-less-3 (group-calls t) (group-at t) group.Post group-Inv-loop group-μ-loop
 group-loop-less-3 n c =
     let l = c .before .before .before .before .before .before .before .before .before .before .before .before .before .before .loop in
-    let r = c .before .before .before .before .before .before .before .before .before .before .before .before .before .row-at in
     let s = c .before .before .before .before .before .before .before .before .before .before .before .before .skip in
-    let the-if1 = c .before .before .before .before .before .before .before .before .before .before .if1 in
     let the-element = c .before .before .before .before .element in
     let a = c .before .before .before .before .before .before .before .before .before .before .before .before .before .before .before .before .before in
-    let w = row-tied v02 (a .args .rows .now) (l .k) (r .result) (r .ensures) (a .pre .1 .3) (l .inv .row) in
-    let t = tells v02 (l .k) (r .result) (due v02 (l .k)) (w .0) (the-if1 .left) in
-    let q = ap (λ x. metIn x (the-element .result .state)) (sym (c .before .enum-told3 .given .1)) in
+    let q = went-on (the-element .result .met) (the-element .result .state) (sym (c .before .before .before .is-stopped2 .ensures) ∙ c .before .before .if3 .left) in
     let g = fine-on (a .args .m .now) (s .result .at + 1) (stepped (the-element .result)) (stated (the-element .result .state)) q (the-element .ensures .1) in
     omega (arith, s .ensures .2, g .1, g .0 .within, l .inv .row, few-rows v02)
 
@@ -383,17 +401,16 @@ group-loop-again-3 n c =
     let s = c .before .before .before .before .before .before .before .before .before .before .before .before .skip in
     let the-if1 = c .before .before .before .before .before .before .before .before .before .before .if1 in
     let the-due-now = c .before .before .before .before .before .before .before .before .before .due-now in
-    let the-choose = c .before .before .before .before .before .before .before .choose in
-    let the-enum-told2 = c .before .before .before .before .before .enum-told2 in
+    let the-start-at = c .before .before .before .before .before .before .before .start-at in
     let the-element = c .before .before .before .before .element in
     let a = c .before .before .before .before .before .before .before .before .before .before .before .before .before .before .before .before .before in
     let w = row-tied v02 (a .args .rows .now) (l .k) (r .result) (r .ensures) (a .pre .1 .3) (l .inv .row) in
     let t = tells v02 (l .k) (r .result) (due v02 (l .k)) (w .0) (the-if1 .left) in
-    let q = ap (λ x. metIn x (the-element .result .state)) (sym (c .before .enum-told3 .given .1)) in
+    let q = went-on (the-element .result .met) (the-element .result .state) (sym (c .before .before .before .is-stopped2 .ensures) ∙ c .before .before .if3 .left) in
     loop-more v02 (a .args .m .now) (a .args .first) (stated (a .args .start)) (l .k) (l .seen) (stated (l .st)) (l .inv) (stated (s .result)) (s .ensures .0)
-    (s .ensures .1) (s .ensures .2) (r .result) (w .1 .next) (a .args .names .now) (a .pre .1 .2) t (the-due-now .result) (the-due-now .ensures) (the-choose .result)
-    (the-choose .ensures) (the-enum-told2 .given .1) (stepped (the-element .result)) (the-element .ensures .0) (the-element .ensures .1)
-    (stated (the-element .result .state)) q (c .if2 .left)
+    (s .ensures .1) (s .ensures .2) (r .result) (w .1 .next) (a .args .names .now) (a .pre .1 .2) t (the-due-now .result) (the-due-now .ensures) (the-start-at .result)
+    (the-start-at .ensures) (c .before .before .before .before .before .enum-told3 .given .1) (stepped (the-element .result)) (the-element .ensures .0) (the-element .ensures .1)
+    (stated (the-element .result .state)) q (c .if4 .left)
 
 pub +element+group-spec : {M : Type 1} → statement M
 +element+group-spec = close μ-element μ-group (λ t. element-lts.spec (
@@ -430,10 +447,14 @@ pub +element+group-spec : {M : Type 1} → statement M
       close-reads.Learnt,
       due-now-reads.Asked,
       due-now-reads.Learnt,
-      choose-reads.Asked,
-      choose-reads.Learnt,
+      start-at-reads.Asked,
+      start-at-reads.Learnt,
       refuse-reads.Asked,
       refuse-reads.Learnt,
+      pass-reads.Asked,
+      pass-reads.Learnt,
+      is-stopped-reads.Asked,
+      is-stopped-reads.Learnt,
       element-below t,
       element.Post,
     )
@@ -447,21 +468,22 @@ pub +element+group-spec : {M : Type 1} → statement M
     (group-close-requires t)
     (group-returns t)
     (group-due-now-requires t)
-    (group-cast-choose t)
-    (group-choose-requires t)
-    (group-enum-known-number t)
+    (group-cast-start-at t)
+    (group-start-at-requires t)
+    (group-enum-told t)
     (group-refuse-requires t)
     (group-returns-2 t)
-    (group-enum-told t)
+    (group-enum-told-2 t)
+    (group-pass-requires t)
+    (group-is-stopped-requires t)
+    (group-returns-3 t)
     (group-cast-k t)
     (group-loop-less t)
     (group-loop-again t)
-    (group-enum-told-2 t)
-    (group-element-requires t)
-    (group-enum-known-met t)
-    (group-refuse-requires-2 t)
-    (group-returns-3 t)
     (group-enum-told-3 t)
+    (group-element-requires t)
+    (group-is-stopped-requires-2 t)
+    (group-returns-4 t)
     (group-cast-k-2 t)
     (group-loop-less-2 t)
     (group-loop-again-2 t)

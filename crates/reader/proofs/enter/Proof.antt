@@ -1,12 +1,8 @@
 -- `reader::enter` meets its contract.
 use mathlib.Core.Path.{_∙_, ap, sym}
-use mathlib.Core.Bool.{true, false}
 use native.Mathlib.Omega.{arith}
-use Prim.Native.Nat.{_+_}
-use Rattle.table.specs.Table.{occOf, amountKind, width}
-use Rattle.reading.specs.Trace.{priced}
-use Rattle.reading.specs.Noted.{on}
-use Rattle.notes.specs.Steps.{stated, metIn, stepped, reads}
+use Rattle.table.specs.Table.{occOf, markName, amountKind, width}
+use Rattle.notes.specs.Steps.{stated, metIn, stepped}
 use Rattle.reader.proofs.Steps.{enters-not, enters-amount, enters-plain, width-some}
 use borrow.Author.Needs.{needs}
 use Rattle.reader.proofs.enter.Statement.{statement}
@@ -53,7 +49,7 @@ returns c =
     let the-enum-told = c .before .before .before .before .before .before .enum-told in
     let the-width-of = c .before .before .before .before .width-of in
     let the-at-place = c .before .before .before .at-place in
-    enters-amount (a .m .now) (a .st .at) (a .st .notes) (the-pre .0) (occOf (a .r .occ)) (amountKind (a .r .kind)) (width (a .r)) (the-pre .1)
+    enters-amount (a .m .now) (a .st .at) (a .st .notes) (the-pre .0) (occOf (a .r .occ)) (markName (a .r .mark)) (amountKind (a .r .kind)) (width (a .r)) (the-pre .1)
     (width-some (a .r) (the-pre .2)) (stated (the-begin .result .state))
     (ap (λ x. metIn x (the-begin .result .state)) (sym (the-enum-told .given .1)) ∙ the-begin .ensures) (stated (the-at-place .result)) (the-width-of .result)
     (the-width-of .ensures) (the-at-place .ensures) (sym (c .before .before .is-amount .ensures) ∙ c .before .if1 .taken)
@@ -67,7 +63,7 @@ returns-2 c =
     let a = c .before .before .before .before .before .before .before .args in
     let the-pre = c .before .before .before .before .before .before .before .pre in
     let the-begin = c .before .before .before .before .before .begin in
-    enters-not (a .m .now) (a .st .at) (a .st .notes) (the-pre .0) (occOf (a .r .occ)) (amountKind (a .r .kind)) (width (a .r)) (the-pre .1)
+    enters-not (a .m .now) (a .st .at) (a .st .notes) (the-pre .0) (occOf (a .r .occ)) (markName (a .r .mark)) (amountKind (a .r .kind)) (width (a .r)) (the-pre .1)
     (width-some (a .r) (the-pre .2)) _ _ (ap (λ x. metIn x (the-begin .result .state)) (sym (c .before .before .met .given .1)) ∙ the-begin .ensures)
     (stepped (c .refuse .result)) (c .refuse .ensures)
 
@@ -79,7 +75,7 @@ returns-3 c =
     let the-enum-told = c .before .before .before .before .before .before .enum-told in
     let the-width-of = c .before .before .before .before .width-of in
     let the-at-place = c .before .before .before .at-place in
-    enters-plain (a .m .now) (a .st .at) (a .st .notes) (the-pre .0) (occOf (a .r .occ)) (amountKind (a .r .kind)) (width (a .r)) (the-pre .1)
+    enters-plain (a .m .now) (a .st .at) (a .st .notes) (the-pre .0) (occOf (a .r .occ)) (markName (a .r .mark)) (amountKind (a .r .kind)) (width (a .r)) (the-pre .1)
     (width-some (a .r) (the-pre .2)) (stated (the-begin .result .state))
     (ap (λ x. metIn x (the-begin .result .state)) (sym (the-enum-told .given .1)) ∙ the-begin .ensures) (stated (the-at-place .result)) (the-width-of .result)
     (the-width-of .ensures) (the-at-place .ensures) (sym (c .before .before .is-amount .ensures) ∙ c .before .if1 .left)

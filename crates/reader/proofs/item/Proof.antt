@@ -1,11 +1,12 @@
 -- `reader::item` meets its contract.
 use mathlib.Core.Path.{_∙_, ap, sym}
+use lib.ListN.{drop}
 use Rattle.profile.specs.Version.{v02}
-use Rattle.profile.specs.Tree.{once}
+use Rattle.tags.specs.Tags.{look}
 use Rattle.table.specs.Table.{due}
 use Rattle.notes.specs.Steps.{stated, stepped, reads}
-use Rattle.reader.specs.Reader.{tagged, elementIn}
-use Rattle.reader.proofs.Whole.{item-long, item-far, begins, item-enters, item-passes, item-stops, item-start, item-below, item-there, item-within}
+use Rattle.reader.specs.Reader.{elementIn}
+use Rattle.reader.proofs.Whole.{item-long, item-far, begins, item-enters, item-cut, item-other, item-start, item-below, item-there, item-within}
 use borrow.Author.Needs.{needs}
 use Rattle.reader.proofs.item.Statement.{statement}
 use Rattle.reader.proofs.item.Tie as tie
@@ -52,8 +53,8 @@ skip-requires c κs =
 item-row-requires : tie.Need-item-row-requires
 item-row-requires c κs = search needs
 
-slice-aggregate-choose : tie.Need-slice-aggregate-choose
-slice-aggregate-choose c = search needs
+slice-aggregate-start-at : tie.Need-slice-aggregate-start-at
+slice-aggregate-start-at c = search needs
 
 slice-aggregate-row-at : tie.Need-slice-aggregate-row-at
 slice-aggregate-row-at c = search needs
@@ -61,11 +62,11 @@ slice-aggregate-row-at c = search needs
 row-at-requires : tie.Need-row-at-requires
 row-at-requires c κs = search needs
 
-cast-choose : tie.Need-cast-choose
-cast-choose c = search needs
+cast-start-at : tie.Need-cast-start-at
+cast-start-at c = search needs
 
-choose-requires : tie.Need-choose-requires
-choose-requires c κs = search needs
+start-at-requires : tie.Need-start-at-requires
+start-at-requires c κs = search needs
 
 enum-told : tie.Need-enum-told
 enum-told c = search needs
@@ -84,7 +85,7 @@ element-requires c κs =
     let the-skip = c .before .before .before .before .before .before .before .before .before .before .skip in
     let the-item-row = c .before .before .before .before .before .before .before .before .before .item-row in
     let the-row-at = c .before .before .before .before .before .before .row-at in
-    let the-choose = c .before .before .before .before .choose in (
+    let the-start-at = c .before .before .before .before .start-at in (
       the-skip .ensures .1,
       item-below v02 (the-all-tags .result) (the-all-rows .result) (the-row-at .result) (the-item-row .result) (the-all-tags .ensures) (the-all-rows .ensures)
           (the-item-row .ensures) (the-row-at .ensures),
@@ -92,7 +93,7 @@ element-requires c κs =
           (the-item-row .ensures) (the-row-at .ensures),
       item-within v02 (the-all-tags .result) (the-all-rows .result) (the-row-at .result) (the-item-row .result) (the-all-tags .ensures) (the-all-rows .ensures)
           (the-item-row .ensures) (the-row-at .ensures) (a .m .now) (the-skip .result .at) (the-skip .ensures .1 .within)
-          (sym (c .before .before .enum-told .given .1) ∙ the-choose .ensures),
+          (sym (c .before .before .enum-told .given .1) ∙ the-start-at .ensures),
       the-all-tags .ensures,
       the-all-rows .ensures,
     )
@@ -100,14 +101,14 @@ element-requires c κs =
 enum-told-2 : tie.Need-enum-told-2
 enum-told-2 c = search needs
 
-refuse-here-requires : tie.Need-refuse-here-requires
-refuse-here-requires c κs = search needs
-
-enum-known-number : tie.Need-enum-known-number
-enum-known-number c = search needs
-
 refuse-requires-3 : tie.Need-refuse-requires-3
 refuse-requires-3 c κs = search needs
+
+enum-told-3 : tie.Need-enum-told-3
+enum-told-3 c = search needs
+
+refuse-here-requires : tie.Need-refuse-here-requires
+refuse-here-requires c κs = search needs
 
 returns-3 : tie.Need-returns-3
 returns-3 c =
@@ -120,10 +121,10 @@ returns-3 c =
     let the-skip = c .before .before .before .before .before .before .before .before .before .before .before .skip in
     let the-item-row = c .before .before .before .before .before .before .before .before .before .before .item-row in
     let the-row-at = c .before .before .before .before .before .before .before .row-at in
-    let the-choose = c .before .before .before .before .before .choose in
+    let the-start-at = c .before .before .before .before .before .start-at in
     item-enters v02 (a .m .now) (a .at) (the-if1 .left) (the-if2 .left) (stated (the-new3 .result)) (the-new3 .ensures)
-    (stated (the-skip .result)) (the-skip .ensures .0) (the-skip .ensures .1) (the-choose .result)
-    (the-choose .ensures ∙ ap (λ t. tagged once t (a .m .now) (the-skip .result .at))
+    (stated (the-skip .result)) (the-skip .ensures .0) (the-skip .ensures .1) (the-start-at .result)
+    (the-start-at .ensures ∙ ap (λ t. look t (drop (the-skip .result .at) (a .m .now)))
     (item-start v02 (the-all-tags .result) (the-all-rows .result) (the-row-at .result) (the-item-row .result) (the-all-tags .ensures) (the-all-rows .ensures)
     (the-item-row .ensures) (the-row-at .ensures)))
     (c .before .before .before .enum-told .given .1) (stepped (c .element .result))
@@ -141,32 +142,32 @@ returns-4 c =
     let the-skip = c .before .before .before .before .before .before .before .before .before .skip in
     let the-item-row = c .before .before .before .before .before .before .before .before .item-row in
     let the-row-at = c .before .before .before .before .before .row-at in
-    let the-choose = c .before .before .before .choose in
-    item-passes v02 (a .m .now) (a .at) (the-if1 .left) (the-if2 .left) (stated (the-new3 .result)) (the-new3 .ensures)
-    (stated (the-skip .result)) (the-skip .ensures .0) (the-skip .ensures .1) (the-choose .result)
-    (the-choose .ensures ∙ ap (λ t. tagged once t (a .m .now) (the-skip .result .at))
+    let the-start-at = c .before .before .before .start-at in
+    item-cut v02 (a .m .now) (a .at) (the-if1 .left) (the-if2 .left) (stated (the-new3 .result)) (the-new3 .ensures)
+    (stated (the-skip .result)) (the-skip .ensures .0) (the-skip .ensures .1) (the-start-at .result)
+    (the-start-at .ensures ∙ ap (λ t. look t (drop (the-skip .result .at) (a .m .now)))
     (item-start v02 (the-all-tags .result) (the-all-rows .result) (the-row-at .result) (the-item-row .result) (the-all-tags .ensures) (the-all-rows .ensures)
     (the-item-row .ensures) (the-row-at .ensures)))
-    (c .before .enum-told2 .given .1) (stepped (c .refuse-here .result)) (c .refuse-here .ensures)
+    (c .before .enum-told2 .given .1) (stepped (c .refuse3 .result)) (c .refuse3 .ensures)
 
 returns-5 : tie.Need-returns-5
 returns-5 c =
-    let a = c .before .before .before .before .before .before .before .before .before .before .before .before .before .before .before .before .before .args in
-    let the-if1 = c .before .before .before .before .before .before .before .before .before .before .before .before .before .before .before .if1 in
-    let the-if2 = c .before .before .before .before .before .before .before .before .before .before .before .before .before .before .if2 in
-    let the-new3 = c .before .before .before .before .before .before .before .before .before .before .before .before .before .new3 in
-    let the-all-tags = c .before .before .before .before .before .before .before .before .before .before .before .before .all-tags in
-    let the-all-rows = c .before .before .before .before .before .before .before .before .before .before .before .all-rows in
-    let the-skip = c .before .before .before .before .before .before .before .before .before .before .skip in
-    let the-item-row = c .before .before .before .before .before .before .before .before .before .item-row in
-    let the-row-at = c .before .before .before .before .before .before .row-at in
-    let the-choose = c .before .before .before .before .choose in
-    item-stops v02 (a .m .now) (a .at) (the-if1 .left) (the-if2 .left) (stated (the-new3 .result)) (the-new3 .ensures)
-    (stated (the-skip .result)) (the-skip .ensures .0) (the-skip .ensures .1) (the-choose .result)
-    (the-choose .ensures ∙ ap (λ t. tagged once t (a .m .now) (the-skip .result .at))
+    let a = c .before .before .before .before .before .before .before .before .before .before .before .before .before .before .before .before .args in
+    let the-if1 = c .before .before .before .before .before .before .before .before .before .before .before .before .before .before .if1 in
+    let the-if2 = c .before .before .before .before .before .before .before .before .before .before .before .before .before .if2 in
+    let the-new3 = c .before .before .before .before .before .before .before .before .before .before .before .before .new3 in
+    let the-all-tags = c .before .before .before .before .before .before .before .before .before .before .before .all-tags in
+    let the-all-rows = c .before .before .before .before .before .before .before .before .before .before .all-rows in
+    let the-skip = c .before .before .before .before .before .before .before .before .before .skip in
+    let the-item-row = c .before .before .before .before .before .before .before .before .item-row in
+    let the-row-at = c .before .before .before .before .before .row-at in
+    let the-start-at = c .before .before .before .start-at in
+    item-other v02 (a .m .now) (a .at) (the-if1 .left) (the-if2 .left) (stated (the-new3 .result)) (the-new3 .ensures)
+    (stated (the-skip .result)) (the-skip .ensures .0) (the-skip .ensures .1) (the-start-at .result)
+    (the-start-at .ensures ∙ ap (λ t. look t (drop (the-skip .result .at) (a .m .now)))
     (item-start v02 (the-all-tags .result) (the-all-rows .result) (the-row-at .result) (the-item-row .result) (the-all-tags .ensures) (the-all-rows .ensures)
     (the-item-row .ensures) (the-row-at .ensures)))
-    _ _ (c .before .before .number .given .1) (stepped (c .refuse3 .result)) (c .refuse3 .ensures)
+    (c .before .enum-told3 .given .1) (stepped (c .refuse-here .result)) (c .refuse-here .ensures)
 
 pub item-spec : {M : Type 1} → statement M
 item-spec =
@@ -184,19 +185,19 @@ item-spec =
     all-rows-requires
     skip-requires
     item-row-requires
-    slice-aggregate-choose
+    slice-aggregate-start-at
     slice-aggregate-row-at
     row-at-requires
-    cast-choose
-    choose-requires
+    cast-start-at
+    start-at-requires
     enum-told
     slice-aggregate-element
     slice-aggregate-element-2
     element-requires
     enum-told-2
-    refuse-here-requires
-    enum-known-number
     refuse-requires-3
+    enum-told-3
+    refuse-here-requires
     returns-3
     returns-4
     returns-5)

@@ -9,13 +9,15 @@ use Rattle.records.proofs.fill.Statement.{statement}
 use Rattle.records.proofs.fill.Tie as tie
 
 abbrev Inv-loop : tie.InvT-loop
-Inv-loop m count first area₀ i₀ at₀ area i at = Filling m count area₀ i at area
+Inv-loop m count first above area₀ i₀ at₀ area i at = Filling m count area₀ i at area
 
 abbrev μ-loop : tie.MeasureT-loop
-μ-loop m count first area₀ i₀ at₀ area i at = count - i
+μ-loop m count first above area₀ i₀ at₀ area i at = count - i
 
 loop-holds : tie.Need-loop-holds Inv-loop μ-loop
-loop-holds c = fill-begins (c .before .before .args .m .now) (c .before .before .args .count) (c .before .before .args .first) (c .before .before .args .area .now) (c .before .before .pre)
+loop-holds c =
+    let a = c .before .before .args in
+    fill-begins (a .m .now) (a .count) (a .first) (a .above) (a .area .now) (c .before .before .pre)
 
 item-requires : tie.Need-item-requires Inv-loop μ-loop
 item-requires c κs = search needs
@@ -33,7 +35,7 @@ returns c =
     let the-loop = c .before .before .before .before .before .loop in
     let the-loop-test = c .before .before .before .before .loop-test in
     let the-item = c .before .before .before .item in
-    never-stops (a .m .now) (a .count) (a .first) (a .area .now) (the-pre) (the-loop .i) (the-loop .at) (the-loop .area) (the-loop .inv) (the-loop-test .taken)
+    never-stops (a .m .now) (a .count) (a .first) (a .above) (a .area .now) (the-pre) (the-loop .i) (the-loop .at) (the-loop .area) (the-loop .inv) (the-loop-test .taken)
     (stepped (the-item .result)) (the-item .ensures .0) _ _ (ap (λ x. metIn x (the-item .result .state)) (c .enum-told .given .1))
 
 enum-told-2 : tie.Need-enum-told-2 Inv-loop μ-loop
@@ -47,7 +49,7 @@ mul-from c =
     let the-loop-test = c .before .before .before .before .loop-test in
     omega (
       arith,
-      part-fits (a .m .now) (a .count) (a .first) (a .area .now) (the-pre) (the-loop .i) (the-loop .at) (the-loop .area) (the-loop .inv)
+      part-fits (a .m .now) (a .count) (a .first) (a .above) (a .area .now) (the-pre) (the-loop .i) (the-loop .at) (the-loop .area) (the-loop .inv)
           (the-loop-test .taken),
     )
 
@@ -59,7 +61,7 @@ add-to c =
     let the-loop-test = c .before .before .before .before .loop-test in
     omega (
       arith,
-      part-fits (a .m .now) (a .count) (a .first) (a .area .now) (the-pre) (the-loop .i) (the-loop .at) (the-loop .area) (the-loop .inv)
+      part-fits (a .m .now) (a .count) (a .first) (a .above) (a .area .now) (the-pre) (the-loop .i) (the-loop .at) (the-loop .area) (the-loop .inv)
           (the-loop-test .taken),
     )
 
@@ -71,7 +73,7 @@ sub-write c =
     let the-loop-test = c .before .before .before .before .before .loop-test in
     omega (
       arith,
-      part-fits (a .m .now) (a .count) (a .first) (a .area .now) (the-pre) (the-loop .i) (the-loop .at) (the-loop .area) (the-loop .inv)
+      part-fits (a .m .now) (a .count) (a .first) (a .above) (a .area .now) (the-pre) (the-loop .i) (the-loop .at) (the-loop .area) (the-loop .inv)
           (the-loop-test .taken),
     )
 
@@ -83,7 +85,7 @@ part-write-start c =
     let the-loop-test = c .before .before .before .before .before .loop-test in
     omega (
       arith,
-      part-fits (a .m .now) (a .count) (a .first) (a .area .now) (the-pre) (the-loop .i) (the-loop .at) (the-loop .area) (the-loop .inv)
+      part-fits (a .m .now) (a .count) (a .first) (a .above) (a .area .now) (the-pre) (the-loop .i) (the-loop .at) (the-loop .area) (the-loop .inv)
           (the-loop-test .taken),
     )
 
@@ -95,7 +97,7 @@ part-write-end c =
     let the-loop-test = c .before .before .before .before .before .loop-test in
     omega (
       arith,
-      part-fits (a .m .now) (a .count) (a .first) (a .area .now) (the-pre) (the-loop .i) (the-loop .at) (the-loop .area) (the-loop .inv)
+      part-fits (a .m .now) (a .count) (a .first) (a .above) (a .area .now) (the-pre) (the-loop .i) (the-loop .at) (the-loop .area) (the-loop .inv)
           (the-loop-test .taken),
     )
 
@@ -108,7 +110,7 @@ write-requires c κs =
     let the-pre = c .before .before .before .before .before .before .before .before .before .before .before .pre in
     let the-loop = c .before .before .before .before .before .before .before .before .loop in
     let the-loop-test = c .before .before .before .before .before .before .before .loop-test in
-    part-long (a .m .now) (a .count) (a .first) (a .area .now) (the-pre) (the-loop .i) (the-loop .at) (the-loop .area) (the-loop .inv) (the-loop-test .taken)
+    part-long (a .m .now) (a .count) (a .first) (a .above) (a .area .now) (the-pre) (the-loop .i) (the-loop .at) (the-loop .area) (the-loop .inv) (the-loop-test .taken)
 
 cast-at : tie.Need-cast-at Inv-loop μ-loop
 cast-at c = search needs
@@ -129,7 +131,7 @@ loop-again c =
     let the-enum-told2 = c .before .before .before .before .before .before .before .enum-told2 in
     let the-make-record = c .before .before .before .before .make-record in
     let the-write = c .before .before .before .write in
-    fill-on (a .m .now) (a .count) (a .first) (a .area .now) (the-pre) (the-loop .i) (the-loop .at) (the-loop .area) (the-loop .inv) (the-loop-test .taken)
+    fill-on (a .m .now) (a .count) (a .first) (a .above) (a .area .now) (the-pre) (the-loop .i) (the-loop .at) (the-loop .area) (the-loop .inv) (the-loop-test .taken)
     (stepped (the-item .result)) (the-item .ensures .0) (stated (the-item .result .state)) (ap (λ x. metIn x (the-item .result .state)) (the-enum-told2 .given .1))
     (the-write .last .0) (the-write .ensures ∙ the-make-record .ensures)
 
@@ -141,7 +143,7 @@ returns-2 c =
     let a = c .before .before .before .before .args in
     let the-pre = c .before .before .before .before .pre in
     let the-loop = c .before .loop in
-    fill-ends (a .m .now) (a .count) (a .first) (a .area .now) (the-pre) (the-loop .i) (the-loop .at) (the-loop .area) (the-loop .inv) (c .loop-test .left)
+    fill-ends (a .m .now) (a .count) (a .first) (a .above) (a .area .now) (the-pre) (the-loop .i) (the-loop .at) (the-loop .area) (the-loop .inv) (c .loop-test .left)
 
 pub fill-spec : {M : Type 1} → statement M
 fill-spec =

@@ -1,11 +1,11 @@
 -- `records::make_record` meets its contract: each field behind the one before it.
 use borrow.Author.Needs.{needs}
 use mathlib.Core.Path.{_∙_, ap}
-use mathlib.Core.List.{List}
 use Prim.Native.Nat.{ℕ}
+use lib.ListN.{take}
 use Rattle.words.specs.Collapsed.{collapsed}
-use Rattle.tags.specs.Values.{valueAt}
 use Rattle.postings.specs.Record.{padded}
+use Rattle.items.specs.Places.{heldAt}
 use Rattle.records.specs.Engine.{laid}
 use Rattle.records.proofs.Fields.{whole}
 use Rattle.records.proofs.make_record.Statement.{statement}
@@ -38,27 +38,35 @@ put-cents-requires c κs = search needs
 put-requires-6 : tie.Need-put-requires-6
 put-requires-6 c κs = search needs
 
+wherever-requires : tie.Need-wherever-requires
+wherever-requires c κs = search needs
+
+put-at-requires : tie.Need-put-at-requires
+put-at-requires c κs = search needs
+
 put-requires-7 : tie.Need-put-requires-7
 put-requires-7 c κs = search needs
 
 put-requires-8 : tie.Need-put-requires-8
 put-requires-8 c κs = search needs
 
-put-requires-9 : tie.Need-put-requires-9
-put-requires-9 c κs = search needs
-
 array-write-rec : tie.Need-array-write-rec
 array-write-rec c = search needs
 
 returns : tie.Need-returns
 returns c =
-    let a = c .before .before .before .before .before .before .before .before .before .before .before .before .before .before .args in
-    let first = c .before .before .before .before .before .before .before .before .before .before .before .put in
-    let second = c .before .before .before .before .before .before .before .before .before .put-end-to-end in
-    whole (a .m .now) (a .n) (first .ensures)
-    (second .ensures ∙ ap (λ (p : ℕ). laid 35 (padded 35 (collapsed (valueAt (a .m .now) p))) (first .result)) (c .before .before .before .before .before .before .before .before .before .before .start-of .ensures))
-    (c .before .before .before .before .before .before .before .before .put2 .ensures) (c .before .before .before .before .before .before .before .put3 .ensures) (c .before .before .before .before .before .before .put4 .ensures) (c .before .before .before .before .before .put5 .ensures)
-    (c .before .before .before .before .put-cents .ensures) (c .before .before .before .put6 .ensures) (c .before .before .put7 .ensures) (c .before .put8 .ensures) (c .put9 .ensures)
+    let a = c .before .before .before .before .before .before .before .before .before .before .before .before .before .before .before .args in
+    let first = c .before .before .before .before .before .before .before .before .before .before .before .before .put in
+    let start = c .before .before .before .before .before .before .before .before .before .before .before .start-of in
+    let second = c .before .before .before .before .before .before .before .before .before .before .put-end-to-end in
+    let cents = c .before .before .before .before .before in
+    let mandate = cents .before .before .before .before in
+    let due = c .before .before .before .before .put6 in
+    whole (a .m .now) (a .n) (a .above) (first .ensures)
+    (second .ensures ∙ ap (λ (p : ℕ). laid 35 (padded 35 (collapsed (heldAt (a .m .now) p))) (first .result)) (start .ensures))
+    (mandate .put2 .ensures) (cents .before .before .before .put3 .ensures) (cents .before .before .put4 .ensures) (cents .before .put5 .ensures) (cents .put-cents .ensures) (due .ensures)
+    (c .before .before .put-at .ensures ∙ ap (λ (p : ℕ). laid 205 (take 4 (heldAt (a .m .now) p)) (due .result)) (c .before .before .before .wherever .ensures))
+    (c .before .put7 .ensures) (c .put8 .ensures)
 
 pub make-record-spec : {M : Type 1} → statement M
 make-record-spec =
@@ -73,8 +81,9 @@ make-record-spec =
     put-requires-5
     put-cents-requires
     put-requires-6
+    wherever-requires
+    put-at-requires
     put-requires-7
     put-requires-8
-    put-requires-9
     array-write-rec
     returns)

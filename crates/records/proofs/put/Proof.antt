@@ -1,89 +1,23 @@
--- `records::put` meets its contract: a value that ends within the field, one that fills it, and none.
-use mathlib.Core.Path.{_∙_, ap, sym}
-use mathlib.Core.List.{List}
-use Prim.Native.Nat.{ℕ}
-use native.Mathlib.Omega.{arith}
-use lib.ListN.{length-take, take}
-use lib.Seq.{length-take-le}
-use Rattle.tags.specs.Values.{valueAt}
-use Rattle.records.specs.Engine.{laid}
-use Rattle.records.proofs.Fields.{laid-none, field-none, held, field-short, field-long}
+-- `records::put` meets its contract: the value at the field's place.
 use borrow.Author.Needs.{needs}
+use mathlib.Core.Path.{_∙_, ap}
+use Prim.Native.Nat.{ℕ}
+use lib.ListN.{take}
+use Rattle.items.specs.Places.{heldAt}
+use Rattle.records.specs.Engine.{laid}
 use Rattle.records.proofs.put.Statement.{statement}
 use Rattle.records.proofs.put.Tie as tie
 
 start-of-requires : tie.Need-start-of-requires
 start-of-requires c κs = search needs
 
+put-at-requires : tie.Need-put-at-requires
+put-at-requires c κs = search needs
+
 returns : tie.Need-returns
 returns c =
     let a = c .before .before .before .args in
-    laid-none (a .at) (a .rec) ∙ ap (λ (l : List ℕ). laid (a .at) l (a .rec)) (sym (field-none (a .m .now) (c .before .start-of .result) (a .width) (c .if1 .taken))) ∙ ap
-    (λ (p : ℕ). laid (a .at) (take (a .width) (valueAt (a .m .now) p)) (a .rec)) (c .before .start-of .ensures)
-
-sub-s : tie.Need-sub-s
-sub-s c = search needs
-
-part-s-start : tie.Need-part-s-start
-part-s-start c = search needs
-
-part-s-end : tie.Need-part-s-end
-part-s-end c = search needs
-
-upto-requires : tie.Need-upto-requires
-upto-requires c κs = search needs
-
-slice-aggregate-lay : tie.Need-slice-aggregate-lay
-slice-aggregate-lay c =
-    let a = c .before .before .before .before .before .before .before .args in
-    let the-start-of = c .before .before .before .before .before .start-of in
-    let the-upto = c .before .before .upto in
-    sym (length-take-le _ _ (held (a .m .now) (the-start-of .result) (a .width) (the-upto .result) (the-upto .ensures)))
-
-lay-requires : tie.Need-lay-requires
-lay-requires c κs = simp length-take (omega arith)
-
-returns-2 : tie.Need-returns-2
-returns-2 c =
-    let a = c .before .before .before .before .before .before .before .before .args in
-    let the-start-of = c .before .before .before .before .before .before .start-of in
-    let the-upto = c .before .before .before .upto in
-    c .lay .ensures ∙ ap (λ (l : List ℕ). laid (a .at) l (a .rec))
-    (field-short (a .m .now) (the-start-of .result) (a .width) (the-upto .result) (the-upto .ensures) (c .before .before .if2 .taken)) ∙ ap
-    (λ (p : ℕ). laid (a .at) (take (a .width) (valueAt (a .m .now) p)) (a .rec)) (the-start-of .ensures)
-
-slice-aggregate-lay-2 : tie.Need-slice-aggregate-lay-2
-slice-aggregate-lay-2 c =
-    let a = c .before .before .before .before .before .before .before .args in
-    let the-start-of = c .before .before .before .before .before .start-of in
-    let the-upto = c .before .before .upto in
-    sym (length-take-le _ _ (omega (arith, held (a .m .now) (the-start-of .result) (a .width) (the-upto .result) (the-upto .ensures))))
-
-lay-requires-2 : tie.Need-lay-requires-2
-lay-requires-2 c κs = simp length-take (omega arith)
-
-returns-3 : tie.Need-returns-3
-returns-3 c =
-    let a = c .before .before .before .before .before .before .before .before .args in
-    let the-start-of = c .before .before .before .before .before .before .start-of in
-    let the-upto = c .before .before .before .upto in
-    c .lay2 .ensures ∙ ap (λ (l : List ℕ). laid (a .at) l (a .rec))
-    (field-long (a .m .now) (the-start-of .result) (a .width) (the-upto .result) (the-upto .ensures) (c .before .before .if2 .left)) ∙ ap
-    (λ (p : ℕ). laid (a .at) (take (a .width) (valueAt (a .m .now) p)) (a .rec)) (the-start-of .ensures)
+    c .put-at .ensures ∙ ap (λ (p : ℕ). laid (a .at) (take (a .width) (heldAt (a .m .now) p)) (a .rec)) (c .before .start-of .ensures)
 
 pub put-spec : {M : Type 1} → statement M
-put-spec =
-    tie.close
-    (tie.spec
-    start-of-requires
-    returns
-    sub-s
-    part-s-start
-    part-s-end
-    upto-requires
-    slice-aggregate-lay
-    lay-requires
-    returns-2
-    slice-aggregate-lay-2
-    lay-requires-2
-    returns-3)
+put-spec = tie.close (tie.spec start-of-requires put-at-requires returns)

@@ -5,9 +5,12 @@ use mathlib.Core.List.{List}
 use Prim.Native.Nat.{ℕ}
 use lib.Seq.{length-take-le}
 use Rattle.records.specs.Engine.{laid}
-use Rattle.records.proofs.Fields.{held, end-none, end-written}
+use Rattle.records.proofs.Fields.{start-within, held, end-none, end-written}
 use Rattle.records.proofs.put_end_to_end.Statement.{statement}
 use Rattle.records.proofs.put_end_to_end.Tie as tie
+
+none-at-requires : tie.Need-none-at-requires
+none-at-requires c κs = search needs
 
 slice-aggregate-lay : tie.Need-slice-aggregate-lay
 slice-aggregate-lay c = search needs
@@ -17,14 +20,21 @@ lay-requires c κs = search needs
 
 returns : tie.Need-returns
 returns c =
-    let a = c .before .before .before .before .args in
-    c .lay .ensures ∙ ap (λ (l : List ℕ). laid 35 l (a .rec)) (end-none (a .m .now) (a .start) (c .before .before .if1 .taken))
+    let a = c .before .before .before .before .before .args in
+    let none = c .before .before .before .none-at in
+    c .lay .ensures ∙ ap (λ (l : List ℕ). laid 35 l (a .rec)) (end-none (a .m .now) (a .start) (none .result) (none .ensures) (c .before .before .if1 .taken))
 
 sub-s : tie.Need-sub-s
-sub-s c = search needs
+sub-s c =
+    let a = c .before .before .before .args in
+    let none = c .before .none-at in
+    start-within (a .m .now) (a .start) 35 (none .result) (none .ensures) (c .if1 .left)
 
 part-s-start : tie.Need-part-s-start
-part-s-start c = search needs
+part-s-start c =
+    let a = c .before .before .before .args in
+    let none = c .before .none-at in
+    start-within (a .m .now) (a .start) 35 (none .result) (none .ensures) (c .if1 .left)
 
 part-s-end : tie.Need-part-s-end
 part-s-end c = search needs
@@ -34,8 +44,9 @@ upto-requires c κs = search needs
 
 slice-aggregate-collapse : tie.Need-slice-aggregate-collapse
 slice-aggregate-collapse c =
-    let a = c .before .before .before .before .before .args in
-    sym (length-take-le _ _ (held (a .m .now) (a .start) 35 (c .before .upto .result) (c .before .upto .ensures)))
+    let a = c .before .before .before .before .before .before .args in
+    let none = c .before .before .before .before .none-at in
+    sym (length-take-le _ _ (held (a .m .now) (a .start) 35 (none .result) (none .ensures) (c .before .before .before .if1 .left) (c .before .upto .result) (c .before .upto .ensures)))
 
 slice-aggregate-collapse-2 : tie.Need-slice-aggregate-collapse-2
 slice-aggregate-collapse-2 c = search needs
@@ -51,14 +62,18 @@ lay-requires-2 c κs = search needs
 
 returns-2 : tie.Need-returns-2
 returns-2 c =
-    let a = c .before .before .before .before .before .before .before .before .before .before .args in
+    let a = c .before .before .before .before .before .before .before .before .before .before .before .args in
+    let none = c .before .before .before .before .before .before .before .before .before .none-at in
+    let some = c .before .before .before .before .before .before .before .before .if1 in
     let the-upto = c .before .before .before .before .before .before .upto in
-    c .lay2 .ensures ∙ ap (λ (l : List ℕ). laid 35 l (a .rec)) (end-written (a .m .now) (a .start) (the-upto .result) (the-upto .ensures) _ (c .before .before .before .collapse .ensures))
+    c .lay2 .ensures ∙ ap (λ (l : List ℕ). laid 35 l (a .rec))
+    (end-written (a .m .now) (a .start) (none .result) (none .ensures) (some .left) (the-upto .result) (the-upto .ensures) _ (c .before .before .before .collapse .ensures))
 
 pub put-end-to-end-spec : {M : Type 1} → statement M
 put-end-to-end-spec =
     tie.close
     (tie.spec
+    none-at-requires
     slice-aggregate-lay
     lay-requires
     returns

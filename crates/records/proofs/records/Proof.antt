@@ -1,14 +1,11 @@
 -- `records::records` meets its contract: the judge's refusal, no room, and the records.
-use mathlib.Core.Path.{ap}
-use borrow.Author.Needs.{needs}
-use Rattle.judge.specs.Found.{Found}
 use Rattle.records.proofs.Areas.{not-accepted, no-room, has-room, filled-up}
 use borrow.Author.Needs.{needs}
 use Rattle.records.proofs.records.Statement.{statement}
 use Rattle.records.proofs.records.Tie as tie
 
-find-requires : tie.Need-find-requires
-find-requires c κs = search needs
+read-requires : tie.Need-read-requires
+read-requires c κs = search needs
 
 enum-known-v : tie.Need-enum-known-v
 enum-known-v c = search needs
@@ -18,41 +15,41 @@ enum-known-v-2 c = search needs
 
 returns : tie.Need-returns
 returns c =
-    let a = c .before .before .before .before .before .before .before .args in
-    let the-find = c .before .before .before .before .find in
-    no-room (a .m .now) (a .area .now) (the-find .result .verdict) (ap (λ (f : Found). f .verdict) (the-find .ensures)) _ _ (c .before .before .v2 .given .1)
+    let a = c .before .before .before .before .before .before .before .before .before .args in
+    let the-read = c .before .before .before .before .before .before .read in
+    no-room (a .m .now) (a .area .now) (the-read .result) (the-read .ensures) _ _ (c .before .before .v2 .given .1)
     (c .if1 .taken)
 
 fill-requires : tie.Need-fill-requires
 fill-requires c κs =
-    let a = c .before .before .before .before .before .before .before .before .args in
-    let the-find = c .before .before .before .before .before .find in
-    has-room (a .m .now) (a .area .now) (the-find .result .verdict) (ap (λ (f : Found). f .verdict) (the-find .ensures)) _ _ (c .before .before .before .v2 .given .1)
-    (c .before .if1 .left) _ (ap (λ (f : Found). f .first) (the-find .ensures))
+    let a = c .before .before .before .before .before .before .before .before .before .before .args in
+    let the-read = c .before .before .before .before .before .before .before .read in
+    has-room (a .m .now) (a .area .now) (the-read .result) (the-read .ensures) _ _ (c .before .before .before .v2 .given .1)
+    (c .before .if1 .left)
 
 returns-2 : tie.Need-returns-2
 returns-2 c =
-    let a = c .before .before .before .before .before .before .args in
-    let the-find = c .before .before .before .find in
-    not-accepted (a .m .now) (a .area .now) (the-find .result .verdict) (ap (λ (f : Found). f .verdict) (the-find .ensures)) _ _ (c .before .v .given .1)
+    let a = c .before .before .before .before .before .before .before .before .args in
+    let the-read = c .before .before .before .before .before .read in
+    not-accepted (a .m .now) (a .area .now) (the-read .result) (the-read .ensures) _ _ (c .before .v .given .1)
 
 same-length : tie.Need-same-length
 same-length c = search needs
 
 returns-3 : tie.Need-returns-3
 returns-3 c =
-    let a = c .before .before .before .before .before .before .before .before .before .before .before .args in
-    let the-find = c .before .before .before .before .before .before .before .before .find in
+    let a = c .before .before .before .before .before .before .before .before .before .before .before .before .before .args in
+    let the-read = c .before .before .before .before .before .before .before .before .before .before .read in
     let the-v2 = c .before .before .before .before .before .before .v2 in
     let the-if1 = c .before .before .before .before .if1 in
-    filled-up (a .m .now) (a .area .now) (the-find .result .verdict) (ap (λ (f : Found). f .verdict) (the-find .ensures)) _ _ (the-v2 .given .1) (the-if1 .left) _
+    filled-up (a .m .now) (a .area .now) (the-read .result) (the-read .ensures) _ _ (the-v2 .given .1) (the-if1 .left) _
     (c .before .before .fill .ensures)
 
 pub records-spec : {M : Type 1} → statement M
 records-spec =
     tie.close
     (tie.spec
-    find-requires
+    read-requires
     enum-known-v
     enum-known-v-2
     returns

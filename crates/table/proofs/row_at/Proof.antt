@@ -32,6 +32,9 @@ array-read-t26 c = search needs
 array-read-t29 : tie.Need-array-read-t29
 array-read-t29 c = search needs
 
+array-read-t32 : tie.Need-array-read-t32
+array-read-t32 c = search needs
+
 returns : tie.Need-returns
 returns c = search needs
 
@@ -51,5 +54,6 @@ row-at-spec =
     array-read-t23
     array-read-t26
     array-read-t29
+    array-read-t32
     returns
     returns-2)

@@ -1,0 +1,105 @@
+-- What lies at the places that were noted of an item, and of the whole message above it, is what the item's record holds.
+use mathlib.Core.Path.{_≡_, refl, sym, ap, _∙_}
+use mathlib.Core.Bool.{true}
+use mathlib.Core.List.{List, [], _∷_, _++_}
+use Prim.Native.Nat.{ℕ}
+use Rattle.money.specs.Amount.{cents}
+use Rattle.profile.specs.declared.Kind.the-variants.{Amount}
+use Rattle.profile.specs.declared.Field.{Field}
+use Rattle.profile.specs.declared.Field.the-variants.{TxId, EndToEndId, MndtId, DbtrIban, CdtrIban, DbtrBic, ReqdColltnDt, SeqTp, CdtrId, CdtrBic}
+use Rattle.profile.specs.Version.{Version, v02}
+use Rattle.profile.specs.Profile.{inHeader}
+use Rattle.reading.specs.Trace.{Entry, message}
+use Rattle.reading.specs.Noted.{noted}
+use Rattle.reading.specs.Rules.{valuesAt, valuesOf}
+use Rattle.reading.specs.Verdict.{accepted}
+use Rattle.reading.specs.Judged.{whats, lastOf, listed, judged}
+use Rattle.reading.specs.Items.{Item, notesOf, theHeader, theItems}
+use Rattle.reading.proofs.Lists.{at-append, values-append}
+use Rattle.reading.proofs.Each.{AllIn}
+use Rattle.postings.specs.Record.{recordWith, valueFor, centsFor, recordFor}
+use Rattle.documents.proofs.Often.{aKind, aField, times, fixed}
+use Rattle.items.specs.Chain.{Stands, around}
+use Rattle.items.specs.Places.{fieldPlace, heldAt}
+use Rattle.items.proofs.Places.{noted-of, item-held, item-or-held, accepted-held}
+use Rattle.bulks.specs.Accepted.{Bulked}
+use Rattle.bulks.proofs.Trees.{accepted-bulk}
+use Rattle.bulks.proofs.Typed.{InEach, sequence, only-above, none-above, no-kind-above}
+use Rattle.notes.specs.declared.Notes.{Notes}
+use Rattle.notes.proofs.Sums.{Summed}
+use Rattle.records.specs.Engine.{startOf, ownOr, placeFor, recordOf}
+
+-- ---- the fields of a record that stand in no header, and the amount
+abbrev Below : Version → Field → Type 0
+Below v f = (fixed (aField f) (inHeader v) ≡ true) × (times (aField f) (inHeader v) ≡ 0)
+
+all-below : (v : Version) → AllIn (Below v) (TxId ∷ EndToEndId ∷ MndtId ∷ DbtrIban ∷ CdtrIban ∷ DbtrBic ∷ ReqdColltnDt ∷ CdtrId ∷ CdtrBic ∷ [])
+unfolding inHeader
+all-below v02 = ((refl, refl), ((refl, refl), ((refl, refl), ((refl, refl), ((refl, refl), ((refl, refl), ((refl, refl), ((refl, refl), ((refl, refl), tt)))))))))
+
+amount-below : (v : Version) → (fixed (aKind Amount) (inHeader v) ≡ true) × (times (aKind Amount) (inHeader v) ≡ 0)
+unfolding inHeader
+amount-below v02 = (refl, refl)
+
+-- ---- two records of the same values
+same-record : (u w : Field → List ℕ) (c d : ℕ)
+    → u TxId ≡ w TxId → u EndToEndId ≡ w EndToEndId → u MndtId ≡ w MndtId → u DbtrIban ≡ w DbtrIban → u CdtrIban ≡ w CdtrIban → u DbtrBic ≡ w DbtrBic
+    → c ≡ d → u ReqdColltnDt ≡ w ReqdColltnDt → u SeqTp ≡ w SeqTp → u CdtrId ≡ w CdtrId → u CdtrBic ≡ w CdtrBic → recordWith u c ≡ recordWith w d
+same-record u w c d e0 e1 e2 e3 e4 e5 e6 e7 e8 e9 e10 = rw (e0, e1, e2, e3, e4, e5, e6, e7, e8, e9, e10)
+
+-- ---- the last of two lists
+last-append : (d : List ℕ) (a b : List (List ℕ)) → lastOf d (a ++ b) ≡ lastOf (lastOf d a) b
+last-append d [] b = refl
+last-append d (v ∷ a) b = last-append v a b
+
+last-same : (a b l : List (List ℕ)) → (l ≡ [] → a ≡ b) → lastOf (lastOf [] a) l ≡ lastOf (lastOf [] b) l
+last-same a b [] e = ap (λ (x : List (List ℕ)). lastOf [] x) (e refl)
+last-same a b (v ∷ l) e = refl
+
+-- ---- an item of an accepted message
+module _ (m : List ℕ) (count cents′ : ℕ) (e : judged m ≡ accepted count cents′) (p : ℕ) (x : Item) (s : Stands v02 m p x) (before after : List Item) (is : theItems m ≡ before ++ (x ∷ after)) where
+  abbrev k : Bulked m
+  k = accepted-bulk m count cents′ e
+
+  abbrev all : List Entry
+  all = notesOf (noted listed (message m) [])
+
+  abbrev inRecord : Field → List ℕ
+  inRecord = valueFor (theHeader m ++ x .holds)
+
+  value-is : (f : Field) → inRecord f ≡ lastOf (lastOf [] (valuesAt f (theHeader m))) (valuesAt f (x .holds))
+  value-is f = ap (λ (l : List (List ℕ)). lastOf [] l) (at-append f (theHeader m) (x .holds)) ∙ last-append [] (valuesAt f (theHeader m)) (valuesAt f (x .holds))
+
+  -- a field that stands in no header: the item's own
+  own-is : (f : Field) → Below (k .version) f → heldAt m (fieldPlace f (around x (s .inner))) ≡ inRecord f
+  own-is f b = item-held m f s ∙ (sym (ap (λ (l : List (List ℕ)). lastOf (lastOf [] l) (valuesAt f (x .holds))) (none-above m count cents′ e k f (b .0) (b .1))) ∙ sym (value-is f))
+
+  -- one that stands in the header or in each item: the item's own, or else the only one in the message
+  wherever-is : (f : Field) → InEach f → heldAt m (ownOr (fieldPlace f all) (fieldPlace f (around x (s .inner)))) ≡ inRecord f
+  wherever-is f i =
+      item-or-held m f s (fieldPlace f all)
+      ∙ (ap (λ (v : List ℕ). lastOf v (valuesAt f (x .holds))) (accepted-held m f count cents′ e)
+      ∙ (last-same (valuesAt f (whats all)) (valuesAt f (theHeader m)) (valuesAt f (x .holds)) (only-above m count cents′ e k f i before after x is) ∙ sym (value-is f)))
+
+  cents-is : cents (lastOf [] (valuesOf Amount (whats (around x (s .inner))))) ≡ centsFor (theHeader m ++ x .holds)
+  cents-is =
+      let b = amount-below (k .version) in
+      let h : valuesOf Amount (theHeader m ++ x .holds) ≡ valuesOf Amount (x .holds) =
+      values-append Amount (theHeader m) (x .holds) ∙ ap (λ (l : List (List ℕ)). l ++ valuesOf Amount (x .holds)) (no-kind-above m count cents′ e k Amount (b .0) (b .1)) in
+      ap (λ (l : List (List ℕ)). cents (lastOf [] l)) (noted-of s Amount ∙ sym h)
+
+  -- the record of what was noted of it and of the message is the record of what it holds and what the header says
+  pub record-is : (n : Notes) (above : List ℕ) → Summed (around x (s .inner)) n → startOf above SeqTp ≡ fieldPlace SeqTp all → recordOf m n above ≡ recordFor (theHeader m ++ x .holds)
+  unfolding recordOf recordFor
+  record-is n above u q =
+      same-record (λ f. heldAt m (placeFor above n f)) inRecord (n .cents) (centsFor (theHeader m ++ x .holds))
+      (its TxId (h .0)) (its EndToEndId (h .1 .0)) (its MndtId (h .1 .1 .0)) (its DbtrIban (h .1 .1 .1 .0)) (its CdtrIban (h .1 .1 .1 .1 .0))
+      (its DbtrBic (h .1 .1 .1 .1 .1 .0)) (u .cents ∙ cents-is) (its ReqdColltnDt (h .1 .1 .1 .1 .1 .1 .0))
+      (ap (λ (k : ℕ). heldAt m (ownOr k (startOf (n .starts) SeqTp))) q ∙ (ap (λ (k : ℕ). heldAt m (ownOr (fieldPlace SeqTp all) k)) (u .starts SeqTp) ∙ wherever-is SeqTp sequence))
+      (its CdtrId (h .1 .1 .1 .1 .1 .1 .1 .0)) (its CdtrBic (h .1 .1 .1 .1 .1 .1 .1 .1 .0))
+    where
+      h : AllIn (Below (k .version)) (TxId ∷ EndToEndId ∷ MndtId ∷ DbtrIban ∷ CdtrIban ∷ DbtrBic ∷ ReqdColltnDt ∷ CdtrId ∷ CdtrBic ∷ [])
+      h = all-below (k .version)
+
+      its : (f : Field) → Below (k .version) f → heldAt m (startOf (n .starts) f) ≡ inRecord f
+      its f b = ap (heldAt m) (u .starts f) ∙ own-is f b
