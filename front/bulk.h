@@ -76,7 +76,7 @@ void bulk_header_amount(const uint8_t *value, size_t length, uint64_t answer[BUL
 /* One place of a book: 72 bytes, aligned to 8.
  *
  *     from  bytes
- *        0      4  key: service, LclInstrm of the bulk's items
+ *        0      4  key: service, LclInstrm of the bulk's header or of its items
  *        4     35       MsgId
  *       39     11       BIC of the instructing agent
  *       50     10       settlement date

@@ -4,7 +4,7 @@
 use crate::doubled::Group;
 use crate::message::{self, Item};
 use crate::show::shown;
-use crate::tags::{until, Open, Tags, ITEM};
+use crate::tags::{until, Open, Tags, HEADER, ITEM};
 
 /// What every plain form ends with, behind its last item.
 const END: &[u8] = b"</FIToFICstmrDrctDbt></Document>";
@@ -102,7 +102,7 @@ fn values(part: &[u8]) -> Vec<Value<'_>> {
     for tag in Tags::of(part) {
         let value = until(&part[tag.end..], b'<');
         if open.step(&tag) && !value.is_empty() {
-            let inside = open.names().skip_while(|name| *name != b"GrpHdr" && *name != ITEM);
+            let inside = open.names().skip_while(|name| *name != HEADER && *name != ITEM);
             let path: Vec<String> = inside.skip(1).map(shown).collect();
             values.push((path.join("/"), value));
         }

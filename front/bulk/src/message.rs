@@ -13,10 +13,13 @@ pub struct Header<'a> {
     pub settlement_date: &'a [u8],
     /// The instructing agent's.
     pub bic: &'a [u8],
+    /// LclInstrm and SeqTp, where PmtTpInf stands in the header.
+    pub instrument: &'a [u8],
+    pub sequence: &'a [u8],
 }
 
-/// What an item says: its EndToEndId and the debtor's name collapsed. A value that was not read is
-/// empty.
+/// What an item says: its EndToEndId and the debtor's name collapsed; LclInstrm and SeqTp its own or
+/// the header's. A value that was not read is empty.
 #[derive(Clone, Debug, Default, PartialEq, Eq)]
 pub struct Item<'a> {
     /// Where its `<` stands.
@@ -52,7 +55,9 @@ pub fn read(message: &[u8], place: usize) -> Contents<'_> {
         let value = until(&message[tag.end..], b'<');
         let is_closed = tag.end + value.len() < message.len();
         if open.name(0) == ITEM {
-            contents.items.push(Item { place: tag.place, ..Item::default() });
+            let Header { instrument, sequence, .. } = contents.header;
+            let place = tag.place;
+            contents.items.push(Item { place, instrument, sequence, ..Item::default() });
         } else if tag.end < place && is_closed {
             contents.note(&open, value);
         }
@@ -67,6 +72,8 @@ impl<'a> Contents<'a> {
             (b"GrpHdr", b"MsgId", None) => self.header.msg_id = value,
             (b"GrpHdr", b"IntrBkSttlmDt", None) => self.header.settlement_date = value,
             (b"FinInstnId", b"BIC", None) => self.header.bic = value,
+            (b"LclInstrm", b"Cd", None) => self.header.instrument = value,
+            (b"PmtTpInf", b"SeqTp", None) => self.header.sequence = value,
             (_, _, None) => {}
             (_, name, Some(item)) => item.note(open, name, value),
         }
@@ -77,9 +84,9 @@ impl<'a> Contents<'a> {
         self.items.iter().try_fold(0_u64, |sum, item| sum.checked_add(item.cents?))
     }
 
-    /// CORE or B2B: every item has that of the first.
+    /// CORE or B2B: the header's, or every item has that of the first.
     pub fn instrument(&self) -> &'a [u8] {
-        self.items.first().map_or(b"", |item| item.instrument)
+        self.items.first().map_or(self.header.instrument, |item| item.instrument)
     }
 }
 
@@ -116,6 +123,7 @@ mod tests {
 
     const EVENING: &[u8] = include_bytes!("../../../samples/evening-indented.xml");
     const WRAPPED: &[u8] = include_bytes!("../../../samples/rents-wrapped.xml");
+    const PARTNER: &[u8] = include_bytes!("../../../samples/partner.xml");
 
     /// Where this text stands in the evening.
     fn at(text: &str) -> usize {
@@ -144,7 +152,7 @@ mod tests {
     /// Each item of these samples is what the library writes into its record.
     #[test]
     fn the_items_are_those_of_the_records() {
-        for (sample, count) in [(EVENING, 5), (WRAPPED, 3)] {
+        for (sample, count) in [(EVENING, 5), (WRAPPED, 3), (PARTNER, 2)] {
             let items = read(sample, sample.len()).items;
             assert_eq!(items.len(), count);
             let mut area = vec![0; face::RECORD * count];
@@ -177,6 +185,26 @@ mod tests {
         let debtors = rents.items.iter().map(|item| &*item.debtor);
         let due = [&b"Anna Gluehbirne"[..], b"Sanne de Stekker", b"Kurierdienst Blitz und Sohn"];
         assert!(debtors.eq(due));
+    }
+
+    /// LclInstrm and SeqTp of the header are those of every item, as soon as they are read.
+    #[test]
+    fn what_the_partner_s_header_says() {
+        let partner = read(PARTNER, PARTNER.len());
+        let types = partner.items.iter().map(|item| (item.instrument, item.sequence));
+        assert_eq!(types.collect::<Vec<_>>(), [(&b"CORE"[..], &b"RCUR"[..]); 2]);
+        assert_eq!(
+            (partner.header.instrument, partner.header.sequence),
+            (&b"CORE"[..], &b"RCUR"[..])
+        );
+        assert_eq!(partner.header.bic, b"HAFNDEHHXXX");
+        assert_eq!(partner.instrument(), b"CORE");
+        let place = (0..).find(|&at| PARTNER[at..].starts_with(b"<SeqTp>")).unwrap();
+        let upto = read(PARTNER, place);
+        assert_eq!((upto.instrument(), upto.header.sequence), (&b"CORE"[..], &b""[..]));
+        // In a message with the type in its items the header has none.
+        assert_eq!(read(EVENING, EVENING.len()).header.instrument, b"");
+        assert_eq!(read(EVENING, EVENING.len()).instrument(), b"CORE");
     }
 
     #[test]

@@ -65,7 +65,7 @@ pub fn found(message: &[u8], number: u64, place: usize) -> Found<'_> {
         3 if message.is_empty() => Found::NoByte,
         3 => Found::End(message),
         6 => Found::Bytes(&rest[..rest.len().min(3)]),
-        2 | 4 | 12 | 16 => Found::Bytes(tag_or_text(rest)),
+        2 | 4 | 12 | 16 | 23 => Found::Bytes(tag_or_text(rest)),
         _ => match until(rest, b'<') {
             [] => Found::Empty,
             value => Found::Bytes(value),
@@ -186,6 +186,7 @@ mod tests {
         assert_eq!(found(CUT, 6, at("USD")), Found::Bytes(b"USD"));
         assert_eq!(found(CUT, 8, at("DE<")), Found::Bytes(b"DE"));
         assert_eq!(found(CUT, 4, at("<GrpHdr>")), Found::Bytes(b"<GrpHdr>"));
+        assert_eq!(found(b"</PmtId><PmtTpInf><", 23, 8), Found::Bytes(b"<PmtTpInf>"));
         assert_eq!(found(b"<a>x y<b>", 4, 3), Found::Bytes(b"x y"));
         assert_eq!(found(b"<a></a>", 7, 3), Found::Empty);
         assert_eq!(found(b"<a", 4, 0), Found::Bytes(b"<a"));

@@ -20,6 +20,8 @@ enum Times {
     Once,
     OnceOrNot,
     OnceOrMore,
+    /// Once in every item, or in none where it stands in the header.
+    OnceUnlessInHeader,
 }
 
 #[derive(Clone, Copy)]
@@ -59,6 +61,11 @@ const fn or_not(element: Element) -> Element {
     Element { times: Times::OnceOrNot, ..element }
 }
 
+/// The same, but it may stand in the header instead.
+const fn unless_in_header(element: Element) -> Element {
+    Element { times: Times::OnceUnlessInHeader, ..element }
+}
+
 /// The same, but it may stand again.
 const fn or_more(element: Element) -> Element {
     Element { times: Times::OnceOrMore, ..element }
@@ -75,6 +82,7 @@ const HEADER: Element = group(
         amount("TtlIntrBkSttlmAmt", Kind::HeaderAmount),
         value("IntrBkSttlmDt", Kind::Date),
         group("SttlmInf", &[code("SttlmMtd", &["CLRG"])]),
+        or_not(PAYMENT_TYPE),
         group("InstgAgt", AGENT),
     ],
 );
@@ -90,14 +98,7 @@ const ITEM: Element = or_more(group(
                 value("TxId", Kind::Reference),
             ],
         ),
-        group(
-            "PmtTpInf",
-            &[
-                group("SvcLvl", &[code("Cd", &["SEPA"])]),
-                group("LclInstrm", &[code("Cd", &["CORE", "B2B"])]),
-                code("SeqTp", &["FRST", "RCUR", "FNAL", "OOFF"]),
-            ],
-        ),
+        unless_in_header(PAYMENT_TYPE),
         amount("IntrBkSttlmAmt", Kind::ItemAmount),
         code("ChrgBr", &["SLEV"]),
         value("ReqdColltnDt", Kind::Date),
@@ -111,6 +112,15 @@ const ITEM: Element = or_more(group(
         or_not(group("RmtInf", &[value("Ustrd", Kind::Text140)])),
     ],
 ));
+
+const PAYMENT_TYPE: Element = group(
+    "PmtTpInf",
+    &[
+        group("SvcLvl", &[code("Cd", &["SEPA"])]),
+        group("LclInstrm", &[code("Cd", &["CORE", "B2B"])]),
+        code("SeqTp", &["FRST", "RCUR", "FNAL", "OOFF"]),
+    ],
+);
 
 const MANDATE: Element =
     group("MndtRltdInf", &[value("MndtId", Kind::Reference), value("DtOfSgntr", Kind::Date)]);
@@ -149,18 +159,22 @@ pub fn expected(open: &Open) -> Vec<String> {
     let Some(element) = innermost(open) else { return Vec::new() };
     let end = format!("</{}>", element.name);
     match element.content {
-        Content::Group(children) => due(children, open.last_child(), end),
+        Content::Group(children) => due(children, open, end),
         _ => vec![end],
     }
 }
 
-/// The tags that may come behind a child of a group, up to the first one that must.
-fn due(children: &[Element], last: Option<&[u8]>, end: String) -> Vec<String> {
+/// The tags that may come behind the last child of a group, up to the first one that must.
+fn due(children: &[Element], open: &Open, end: String) -> Vec<String> {
+    let last = open.last_child();
     let stood = children.iter().position(|child| Some(child.name.as_bytes()) == last);
     let again = stood.filter(|&at| children[at].times == Times::OnceOrMore);
     let next = stood.map_or(0, |at| at + 1);
     let mut tags: Vec<String> = again.iter().map(|&at| children[at].start()).collect();
     for child in &children[next..] {
+        if child.times == Times::OnceUnlessInHeader && open.is_typed {
+            continue;
+        }
         tags.push(child.start());
         if child.times != Times::OnceOrNot {
             return tags;
@@ -183,9 +197,13 @@ impl Element {
 #[cfg(test)]
 mod tests {
     use super::*;
-    use crate::tags::Tags;
+    use crate::tags::{Tag, Tags};
 
-    const EVENING: &[u8] = include_bytes!("../../../samples/evening.xml");
+    /// PmtTpInf in every item, and in the header.
+    const SAMPLES: [&[u8]; 2] = [
+        include_bytes!("../../../samples/evening.xml"),
+        include_bytes!("../../../samples/partner.xml"),
+    ];
 
     /// Number and place of the library's answer.
     fn judged(message: &[u8]) -> [u64; 2] {
@@ -193,14 +211,25 @@ mod tests {
         [words[0], words[1]]
     }
 
+    /// The text of a tag.
+    fn text(tag: &Tag) -> String {
+        format!("<{}>", String::from_utf8_lossy(tag.inside))
+    }
+
+    /// Each tag of a sample below the root, and what stands before it.
+    fn tags(sample: &'static [u8]) -> impl Iterator<Item = (Tag<'static>, &'static [u8])> {
+        Tags::of(sample).skip(2).map(move |tag| {
+            let before = &sample[..tag.place];
+            (tag, before)
+        })
+    }
+
     /// At each tag of an accepted message: whatever is expected, cut there, is refused 3 at its end,
     /// so the library would have read on; and the tag that stands there is expected.
     #[test]
     fn whatever_is_expected_may_come() {
-        for tag in Tags::of(EVENING).skip(2) {
-            let before = &EVENING[..tag.place];
-            let expected = expected(&Open::behind(before));
-            let stands = format!("<{}>", String::from_utf8_lossy(tag.inside));
+        for (tag, before) in SAMPLES.into_iter().flat_map(tags) {
+            let (stands, expected) = (text(&tag), expected(&Open::behind(before)));
             assert!(expected.contains(&stands), "{stands}: {expected:?}");
             for tag in expected.iter().filter(|tag| *tag != "</Document>") {
                 let message = [before, tag.as_bytes()].concat();
@@ -209,62 +238,71 @@ mod tests {
         }
     }
 
-    /// And nothing else may come: every other tag of the message is refused 4 there.
+    /// And nothing else may come: every other tag of the message is refused 4 there, but 23 where an
+    /// item's PmtTpInf would stand and the header has one.
     #[test]
     fn whatever_is_not_expected_may_not_come() {
-        let text = |inside: &[u8]| format!("<{}>", String::from_utf8_lossy(inside));
-        let mut all: Vec<String> = Tags::of(EVENING).skip(2).map(|tag| text(tag.inside)).collect();
+        let mut all: Vec<String> = tags(SAMPLES[0]).map(|(tag, _)| text(&tag)).collect();
         all.sort();
         all.dedup();
-        for tag in Tags::of(EVENING).skip(2) {
-            let before = &EVENING[..tag.place];
-            let expected = expected(&Open::behind(before));
+        let mut again = 0;
+        for (tag, before) in SAMPLES.into_iter().flat_map(tags) {
+            let open = Open::behind(before);
+            let expected = expected(&open);
+            let is_behind_id = open.is_typed && open.last_child() == Some(b"PmtId");
             for other in all.iter().filter(|other| !expected.contains(other)) {
+                let is_again = is_behind_id && other == "<PmtTpInf>";
+                let number = if is_again { 23 } else { 4 };
                 let message = [before, other.as_bytes(), b"x"].concat();
-                assert_eq!(judged(&message), [4, tag.place as u64], "{other}");
+                assert_eq!(judged(&message), [number, tag.place as u64], "{other}");
+                again += usize::from(is_again);
             }
         }
+        assert_eq!(again, 2);
     }
 
     /// Each value's kind is the one by which the library refuses it, and so are the codes.
     #[test]
     fn kinds_and_codes_are_those_of_the_library() {
-        for tag in Tags::of(EVENING) {
-            let (before, open) = (&EVENING[..tag.end], Open::behind(&EVENING[..tag.end]));
-            let end = format!("</{}", String::from_utf8_lossy(open.name(0)));
-            let after = |value: &str| judged(&[before, value.as_bytes(), end.as_bytes()].concat());
-            let (here, read_on) =
-                (tag.end as u64, |value: &str| [3, (tag.end + value.len() + end.len()) as u64]);
-            if EVENING.get(tag.place + 1) == Some(&b'/') {
-                continue;
+        for sample in SAMPLES {
+            for tag in Tags::of(sample).filter(|tag| !tag.inside.starts_with(b"/")) {
+                agree_behind(&sample[..tag.end]);
             }
-            match innermost(&open).map(|element| element.content) {
-                Some(Content::Code(codes)) => {
-                    // A code that differs from the first item's is listed all the same: 11, not 10.
-                    codes.iter().for_each(|code| assert_ne!(after(code)[0], 10, "{code}"));
-                    assert_eq!(after("CORX"), [10, here]);
-                }
-                Some(Content::Value(kind) | Content::Amount(kind)) => {
-                    for value in [
-                        "7",
-                        "A1",
-                        "2000-02-29",
-                        "2000-02-29T00:00:00",
-                        "BANKDEFF",
-                        "A B",
-                        "\tA\n",
-                        "A /",
-                        &"A".repeat(36),
-                        &"A".repeat(71),
-                    ] {
-                        match face::check(kind, value.as_bytes()) {
-                            [0, ..] => assert_eq!(after(value), read_on(value), "{value}"),
-                            [number, ..] => assert_eq!(after(value), [number, here], "{value}"),
-                        }
+        }
+    }
+
+    /// What the library says of values behind a start tag, against the tree.
+    fn agree_behind(before: &[u8]) {
+        let (open, here) = (Open::behind(before), before.len());
+        let end = format!("</{}", String::from_utf8_lossy(open.name(0)));
+        let after = |value: &str| judged(&[before, value.as_bytes(), end.as_bytes()].concat());
+        let read_on = |value: &str| [3, (here + value.len() + end.len()) as u64];
+        match innermost(&open).map(|element| element.content) {
+            Some(Content::Code(codes)) => {
+                // A code that differs from the first item's is listed all the same: 11, not 10.
+                codes.iter().for_each(|code| assert_ne!(after(code)[0], 10, "{code}"));
+                assert_eq!(after("CORX"), [10, here as u64]);
+            }
+            Some(Content::Value(kind) | Content::Amount(kind)) => {
+                for value in [
+                    "7",
+                    "A1",
+                    "2000-02-29",
+                    "2000-02-29T00:00:00",
+                    "BANKDEFF",
+                    "A B",
+                    "\tA\n",
+                    "A /",
+                    &"A".repeat(36),
+                    &"A".repeat(71),
+                ] {
+                    match face::check(kind, value.as_bytes()) {
+                        [0, ..] => assert_eq!(after(value), read_on(value), "{value}"),
+                        [number, ..] => assert_eq!(after(value), [number, here as u64], "{value}"),
                     }
                 }
-                _ => {}
             }
+            _ => {}
         }
     }
 }

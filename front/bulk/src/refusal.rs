@@ -205,6 +205,7 @@ fn reason<'a>(
         (10, _, Some(Content::Code(codes))) => Some(Why::Codes(codes)),
         (11, ..) => Some(Why::FirstHas(contents.instrument())),
         (19, Found::Bytes(value), _) => Some(country(value)),
+        (23, ..) => Some(Why::HeaderHas(contents.header.instrument, contents.header.sequence)),
         _ => None,
     }
 }

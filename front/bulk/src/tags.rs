@@ -2,6 +2,8 @@
 //! nothing: up to the place of a refusal the judge has told that the tags are in order.
 
 pub const ITEM: &[u8] = b"DrctDbtTxInf";
+pub const HEADER: &[u8] = b"GrpHdr";
+pub const PAYMENT_TYPE: &[u8] = b"PmtTpInf";
 
 /// One tag.
 pub struct Tag<'a> {
@@ -58,11 +60,13 @@ struct Element<'a> {
     child: Option<&'a [u8]>,
 }
 
-/// The elements that are open at a place, and how many items have begun.
+/// The elements that are open at a place, how many items have begun, and whether the header has a
+/// PmtTpInf.
 #[derive(Default)]
 pub struct Open<'a> {
     elements: Vec<Element<'a>>,
     pub items: usize,
+    pub is_typed: bool,
 }
 
 impl<'a> Open<'a> {
@@ -108,6 +112,7 @@ impl<'a> Open<'a> {
         let closed = self.elements.pop().map(|element| element.name);
         if let Some(around) = self.elements.last_mut() {
             around.child = closed;
+            self.is_typed |= around.name == HEADER && closed == Some(PAYMENT_TYPE);
         }
     }
 
@@ -147,6 +152,18 @@ mod tests {
         assert_eq!(Open::behind(b"<A><B>1</").name(0), b"B");
         assert_eq!(Open::behind(b"<A><B").name(0), b"A");
         assert_eq!(Open::behind(b"<A><B Ccy").name(0), b"B");
+    }
+
+    #[test]
+    fn a_payment_type_counts_in_the_header_alone() {
+        for (before, is_typed) in [
+            (&b"<GrpHdr><PmtTpInf><SeqTp>RCUR</SeqTp></PmtTpInf>"[..], true),
+            (b"<GrpHdr><PmtTpInf></PmtTpInf></GrpHdr><DrctDbtTxInf>", true),
+            (b"<GrpHdr><PmtTpInf>", false),
+            (b"<GrpHdr></GrpHdr><DrctDbtTxInf><PmtTpInf></PmtTpInf>", false),
+        ] {
+            assert_eq!(Open::behind(before).is_typed, is_typed);
+        }
     }
 
     #[test]

@@ -55,6 +55,8 @@ pub enum Why<'a> {
     Codes(&'static [&'static str]),
     /// What the first item has.
     FirstHas(&'a [u8]),
+    /// LclInstrm and SeqTp, which the header has for all items.
+    HeaderHas(&'a [u8], &'a [u8]),
     /// The tags that may come.
     Expected(Vec<String>),
     ByteOrderMark,
@@ -243,13 +245,7 @@ impl Why<'_> {
             Why::LeastCents(_) | Why::MostCents(_) | Why::Codes(_) | Why::Expected(_) => {
                 self.limits(language)
             }
-            Why::FirstHas(code) => {
-                let code = shown(code);
-                language.say(
-                    format!("the first item has {code}"),
-                    format!("der erste Posten hat {code}"),
-                )
-            }
+            Why::FirstHas(_) | Why::HeaderHas(..) => self.elsewhere(language),
             Why::CountryLength { country, length, due } => {
                 let country = shown(country);
                 language.say(
@@ -268,6 +264,24 @@ impl Why<'_> {
                 let (english, german) = self.fixed();
                 language.say(english, german).to_string()
             }),
+        }
+    }
+
+    /// What the first item or the header has.
+    fn elsewhere(&self, language: Language) -> String {
+        match self {
+            Why::FirstHas(code) => {
+                let code = shown(code);
+                language.say(
+                    format!("the first item has {code}"),
+                    format!("der erste Posten hat {code}"),
+                )
+            }
+            Why::HeaderHas(instrument, sequence) => {
+                let types = format!("{}, {}", shown(instrument), shown(sequence));
+                language.say(format!("the header has {types}"), format!("im Kopf steht {types}"))
+            }
+            _ => String::new(),
         }
     }
 

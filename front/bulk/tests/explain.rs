@@ -6,7 +6,7 @@ use common::*;
 
 /// Every number that has a page.
 fn numbers() -> impl Iterator<Item = u64> {
-    (1..=22).chain([29])
+    (1..=23).chain([29])
 }
 
 /// The texts of a number in English and in German: its sentence, its labels and its rows.
@@ -65,7 +65,7 @@ fn the_list_of_numbers() {
         assert!(german.contains(&format!("{number} {}", sentences[1])), "{german}");
         assert!(!german.contains(&sentences[0]), "{german}");
     }
-    for wrong in ["0", "23", "28", "30", "fourteen", "1.4"] {
+    for wrong in ["0", "24", "28", "30", "fourteen", "1.4"] {
         let said = bulk(&["explain", wrong]).trouble();
         assert!(said.contains(&format!("There is no refusal “{wrong}”")), "{said}");
     }
@@ -111,6 +111,27 @@ fn the_texts_as_an_office_writes_them() {
     {
         assert!(!PAGES.contains(gone), "{gone}");
     }
+}
+
+/// Where the payment type stands, and what the header's means for 11.
+#[test]
+fn the_texts_of_the_payment_type() {
+    for (number, words) in [
+        (
+            4,
+            [
+                "or PmtTpInf in the header and in an item",
+                "oder in jedem Posten (direkt nach PmtId)",
+            ],
+        ),
+        (11, ["its LclInstrm holds for all items", "gilt dessen LclInstrm für alle Posten"]),
+        (23, ["or in every item", "R10 (Schema; beim Clearer selbst steht PmtTpInf nur in den"]),
+    ] {
+        let said = flat(&bulk(&["explain", &number.to_string()]).done(0));
+        words.iter().for_each(|words| assert!(said.contains(words), "{words}\n{said}"));
+    }
+    let german = "Der Posten hat ein eigenes PmtTpInf, obwohl schon der Kopf eines hat.";
+    assert_eq!(overview(23)[1], german);
 }
 
 /// The pages of the day book.

@@ -4,6 +4,8 @@ use crate::collapse;
 use crate::kind::Kind;
 use crate::message::{accepted, concat, Message, Part, Plan, What, DECLARATION, INSTRUMENTS};
 use crate::random::Random;
+use crate::twins::may_have_white;
+use crate::typed::{self, Places};
 use crate::value::{self, WHITE};
 
 /// What is known of the judge's answer, from the way the message was made.
@@ -97,6 +99,8 @@ const DAMAGES: &[(&str, Damage)] = &[
     ("foreign byte inserted", foreign_inserted),
     ("currency changed", currency),
     ("local instruments mixed", mixed),
+    ("payment type here and there", type_here_and_there),
+    ("payment type once more", type_once_more),
     ("value empty", empty_value),
     ("value nearly valid", near_value),
     ("value damaged", damaged_value),
@@ -138,13 +142,15 @@ pub fn case(seed: u64, case: u64) -> Case {
     damaged(message, &mut random)
 }
 
-/// A message of thousands of items, every other time damaged. Every third has 10,000. One that is
-/// over the limit of length is known to be refused for that.
+/// A message of thousands of items, every other time damaged. Every third has 10,000, and of every
+/// four the last two have PmtTpInf in the header. One that is over the limit of length is known to be
+/// refused for that.
 pub fn large(seed: u64, case: u64) -> Case {
     let random = &mut Random::new(seed ^ 0x1A46E, case);
     let mut plan = Plan::by_chance(random, 1);
     plan.items = if case % 3 == 0 { MOST_ITEMS } else { random.between(2000, MOST_ITEMS) };
     plan.small = random.once_in(2);
+    plan.type_in_header = case / 2 % 2 == 1;
     let message = accepted(&plan, random);
     let made = match case % 2 {
         0 => whole(message),
@@ -726,6 +732,21 @@ fn mixed(mut message: Message, random: &mut Random) -> Option<(Vec<u8>, Known)> 
     };
     let place = message.place(instruments[item.max(1)]);
     Some((message.bytes(), Known::Refused { number: 11, place }))
+}
+
+/// PmtTpInf in the header or not, and in any of the items.
+fn type_here_and_there(message: Message, random: &mut Random) -> Option<(Vec<u8>, Known)> {
+    let header = random.once_in(2);
+    let items = message.items.iter().map(|_| random.once_in(2)).collect();
+    let (message, known) = typed::placed(&message, &Places { header, items });
+    Some((message.bytes(), known))
+}
+
+/// One more PmtTpInf before a tag.
+fn type_once_more(message: Message, random: &mut Random) -> Option<(Vec<u8>, Known)> {
+    let may_stand = |at: &usize| may_have_white(&message.parts, *at);
+    let tags: Vec<usize> = (0..message.parts.len()).filter(may_stand).collect();
+    Some(typed::once_more_at(&message, pick(&tags, random)?))
 }
 
 /// A value taken out, its tags left.

@@ -2,6 +2,7 @@
 
 use crate::message::{accepted, Message, Plan, What, INSTRUMENTS};
 use crate::random::Random;
+use crate::typed;
 use crate::value::{HEADER_MOST, LETTERS_DIGITS};
 use ::face::book::{self, Entry, Key, BOOK};
 
@@ -168,7 +169,7 @@ fn whole(message: &Message) -> Bulk {
     Bulk { bytes: message.bytes(), known: Ok(entry) }
 }
 
-/// The parts that are the items' LclInstrm.
+/// The parts that are LclInstrm, of the header or of the items.
 fn services(message: &Message) -> Vec<usize> {
     message.parts_that(|part| part.what == What::Value(INSTRUMENTS))
 }
@@ -192,13 +193,15 @@ fn refused(mut message: Message, random: &mut Random) -> Bulk {
     }
 }
 
-/// A message with one part of its key otherwise, however little; or another message with its key.
+/// A message with one part of its key otherwise, however little; or with its key, and PmtTpInf at the
+/// other place or all else otherwise.
 fn relative(mut message: Message, random: &mut Random) -> Message {
-    match random.pick(&["MsgId", "BIC", "IntrBkSttlmDt", "LclInstrm", "key"]) {
+    match random.pick(&["MsgId", "BIC", "IntrBkSttlmDt", "LclInstrm", "PmtTpInf", "key"]) {
         "LclInstrm" => {
             let is_core = message.parts[services(&message)[0]].bytes == b"CORE";
             serve(&mut message, if is_core { b"B2B" } else { b"CORE" });
         }
+        "PmtTpInf" => message = typed::moved(&message),
         "key" => message = other_of_key(&message, random),
         name => {
             let part = message.header_value(name);
@@ -208,7 +211,7 @@ fn relative(mut message: Message, random: &mut Random) -> Message {
     message
 }
 
-/// Gives all items of a message this LclInstrm.
+/// Gives a message this LclInstrm, wherever it stands.
 fn serve(message: &mut Message, service: &[u8]) {
     for part in services(message) {
         message.parts[part].bytes = service.to_vec();

@@ -7,6 +7,7 @@
 //! - [`message`]: accepted messages, with what is known of them.
 //! - [`damage`]: damaged messages, with what is known of their refusal.
 //! - [`sweep`]: every byte and every part of small messages damaged; messages at the limits.
+//! - [`typed`]: the payment type in the header, in items, in both and in neither.
 //! - [`slips`]: every slip of an accepted message.
 //! - [`twins`]: accepted messages in pairs, which mean the same or do not.
 //! - [`spellings`]: every spelling of counts and amounts, white space at every place.
@@ -38,5 +39,6 @@ pub mod spellings;
 pub mod sweep;
 pub mod tally;
 pub mod twins;
+pub mod typed;
 pub mod usual;
 pub mod value;

@@ -8,7 +8,7 @@ use differ::bench::{bench, Machine};
 use differ::damage::{self, Case, Known, Twin};
 use differ::random::Random;
 use differ::tally::Name;
-use differ::{days, face, form, slips, spellings, sweep, twins, value};
+use differ::{days, face, form, slips, spellings, sweep, twins, typed, value};
 use std::process::ExitCode;
 
 const USAGE: &str = "\
@@ -17,6 +17,7 @@ differ values N SEED          N values: the single checkers
 differ value-sweep SEED       values beside each other, of every kind
 differ messages N SEED        N messages, accepted and damaged: judge, items, laws
 differ sweep SEED             every byte and every part of small messages damaged
+differ typed SEED             the payment type in the header, in items, in both, in neither; cut
 differ slips N SEED           every slip of N messages
 differ records N SEED         N messages with record areas of all sizes
 differ plain N SEED           N messages with areas of all sizes for the plain form
@@ -76,6 +77,7 @@ fn swept(run: &str, seed: u64) -> Option<ExitCode> {
         "value-sweep" => value_sweep(seed),
         "sweep" => message_sweep(seed),
         "spellings" => spelled(seed),
+        "typed" => type_sweep(seed),
         _ => return None,
     })
 }
@@ -102,6 +104,7 @@ fn all(times: u64) -> ExitCode {
         runs.push(value_sweep(seed));
         runs.push(message_sweep(seed));
         runs.push(spelled(seed));
+        runs.push(type_sweep(seed));
     }
     runs.push(values(100_000 * times, 1));
     runs.push(messages(20_000 * times, 1));
@@ -148,6 +151,20 @@ fn message_sweep(seed: u64) -> ExitCode {
         };
         if library[0] == 0 {
             asker.plain(&name, &case, &[case.bytes.len() + 100]);
+        }
+    });
+    asker.tally.end()
+}
+
+/// The payment type at every place and cut behind every byte, each with every question but records and
+/// plain form; those too of what is accepted.
+fn type_sweep(seed: u64) -> ExitCode {
+    let mut asker = Asker::new(format!("typed {seed}"));
+    typed::sweep(seed, |number, case| {
+        let name = Name { run: "typed", seed, number, sort: case.damage };
+        if asker.message(&name, &case)[0] == 0 {
+            asker.records(&name, &case, &areas(seed, number, &case));
+            asker.plain(&name, &case, &form_areas(seed, number, &case));
         }
     });
     asker.tally.end()
@@ -286,7 +303,7 @@ fn large(n: u64, seed: u64) -> ExitCode {
 }
 
 /// A sample, and what its verdict must be.
-const SAMPLES: [(&str, Known); 9] = [
+const SAMPLES: [(&str, Known); 12] = [
     ("evening.xml", Known::Accepted { count: 5, cents: 202_490 }),
     ("evening-indented.xml", Known::Accepted { count: 5, cents: 202_490 }),
     ("evening-padded.xml", Known::Accepted { count: 5, cents: 202_490 }),
@@ -296,6 +313,9 @@ const SAMPLES: [(&str, Known); 9] = [
     ("doubled.xml", Known::Accepted { count: 6, cents: 286_990 }),
     ("example.xml", Known::Accepted { count: 1, cents: 1234 }),
     ("digit-too-many.xml", Known::Refused { number: 19, place: 1134 }),
+    ("partner.xml", Known::Accepted { count: 2, cents: 196_550 }),
+    ("partner-both.xml", Known::Refused { number: 23, place: 2321 }),
+    ("partner-neither.xml", Known::Refused { number: 4, place: 715 }),
 ];
 
 /// The first word of a sample's name. Samples of one word have one plain form, and no others have it.
@@ -405,6 +425,7 @@ fn one_message(run: &str, seed: u64, number: u64, of_message: OneMessage) -> Opt
         "spellings" => spellings::spellings(seed, message),
         "large" => message(number, damage::large(seed, number)),
         "sweep" => sweep::sweep(seed, message),
+        "typed" => typed::sweep(seed, message),
         "slips" => slips::slips(seed, number / slips::NUMBERS, message),
         "limits" => sweep::limits(message),
         _ => {}

@@ -70,6 +70,8 @@ pub struct Plan {
     pub declaration: bool,
     /// InstrId and RmtInf: always, never, or by chance.
     pub optional: Option<bool>,
+    /// PmtTpInf: once in the header, or in every item.
+    pub type_in_header: bool,
 }
 
 impl Plan {
@@ -87,7 +89,8 @@ impl Plan {
             2 => Spacing::Indented,
             _ => Spacing::None,
         };
-        Plan { items, spacing, small: false, declaration: random.once_in(2), optional: None }
+        let (declaration, type_in_header) = (random.once_in(2), random.once_in(3));
+        Plan { items, spacing, small: false, declaration, optional: None, type_in_header }
     }
 }
 
@@ -204,11 +207,20 @@ impl Writer<'_> {
         self.group(name, |w| w.given("Cd", kind, bytes));
     }
 
-    /// One item; answers its record.
-    fn item(&mut self, cents: u64, instrument: &[u8], optional: (bool, bool)) -> Vec<u8> {
+    /// One item; answers its record. SeqTp is the header's, or the item has a PmtTpInf of its own.
+    fn item(
+        &mut self,
+        cents: u64,
+        instrument: &[u8],
+        of_header: Option<&[u8]>,
+        optional: (bool, bool),
+    ) -> Vec<u8> {
         self.open("DrctDbtTxInf");
         let (end_to_end, transaction) = self.identification(optional.0);
-        let sequence = self.payment_type(instrument);
+        let sequence = match of_header {
+            Some(sequence) => sequence.to_vec(),
+            None => self.payment_type(instrument),
+        };
 
         let amount = value::amount(cents, self.random);
         self.given("IntrBkSttlmAmt", Kind::ItemAmount, &amount);
@@ -283,8 +295,9 @@ impl Writer<'_> {
         (mandate, identifier)
     }
 
-    /// GrpHdr of so many items and cents.
-    fn header(&mut self, items: usize, cents: u64) {
+    /// GrpHdr of so many items and cents, with PmtTpInf where an instrument is given; answers its
+    /// SeqTp.
+    fn header(&mut self, items: usize, cents: u64, instrument: Option<&[u8]>) -> Option<Vec<u8>> {
         self.open("GrpHdr");
         self.element("MsgId", Kind::Reference);
         self.element("CreDtTm", Kind::Time);
@@ -297,8 +310,10 @@ impl Writer<'_> {
         self.given("TtlIntrBkSttlmAmt", Kind::HeaderAmount, &total);
         self.element("IntrBkSttlmDt", Kind::Date);
         self.group("SttlmInf", |w| drop(w.element("SttlmMtd", METHODS)));
+        let sequence = instrument.map(|instrument| self.payment_type(instrument));
         self.agent("InstgAgt");
         self.close("GrpHdr");
+        sequence
     }
 }
 
@@ -343,20 +358,18 @@ pub fn accepted(plan: &Plan, random: &mut Random) -> Message {
     w.part(What::Start, "Document", ROOT.into());
     w.open("FIToFICstmrDrctDbt");
 
-    w.header(plan.items, cents);
-
     let instrument = value::valid(INSTRUMENTS, w.random).bytes;
+    let sequence = w.header(plan.items, cents, plan.type_in_header.then_some(&instrument));
     let mut items = Vec::new();
     let mut records = Vec::new();
     for cents in amounts {
         let first = w.parts.len();
         let mut by_chance = || plan.optional.unwrap_or_else(|| w.random.once_in(2));
         let optional = (by_chance(), by_chance());
-        records.push(w.item(cents, &instrument, optional));
+        records.push(w.item(cents, &instrument, sequence.as_deref(), optional));
         let start = first + usize::from(w.parts[first].what == What::White);
         items.push((start, w.parts.len()));
     }
-
     w.close("FIToFICstmrDrctDbt");
     w.close("Document");
     w.white();

@@ -8,7 +8,8 @@ use std::borrow::Cow;
 const DECLARATION: &str = "<?xml version=\"1.0\" encoding=\"UTF-8\"?>";
 const ROOT: &str = "<Document xmlns=\"urn:iso:std:iso:20022:tech:xsd:pacs.003.001.02\">";
 
-/// The paper's indented order. `?` 0 or 1, `+` 1 or more; `=` and the kind for a value.
+/// The paper's indented order. `?` 0 or 1, `+` 1 or more, `!` 1 unless the header has one, and then
+/// none; `=` and the kind for a value.
 const TABLE: &str = "
 FIToFICstmrDrctDbt
   GrpHdr
@@ -19,6 +20,12 @@ FIToFICstmrDrctDbt
     IntrBkSttlmDt = date
     SttlmInf
       SttlmMtd = CLRG
+    PmtTpInf ?
+      SvcLvl
+        Cd = SEPA
+      LclInstrm
+        Cd = CORE B2B
+      SeqTp = FRST RCUR FNAL OOFF
     InstgAgt
       FinInstnId
         BIC = bic
@@ -27,7 +34,7 @@ FIToFICstmrDrctDbt
       InstrId ? = reference
       EndToEndId = end-to-end
       TxId = reference
-    PmtTpInf
+    PmtTpInf !
       SvcLvl
         Cd = SEPA
       LclInstrm
@@ -71,6 +78,8 @@ struct Node {
     name: &'static str,
     least: usize,
     most: usize,
+    /// Whether it may stand in the header instead.
+    unless_in_header: bool,
     /// Of a value: its kind, or the codes listed.
     value: Option<&'static str>,
     children: Vec<Node>,
@@ -107,14 +116,16 @@ fn nodes(lines: &mut std::iter::Peekable<std::str::Lines<'static>>, depth: usize
             Some((name, value)) => (name, Some(value)),
             None => (text, None),
         };
-        let (name, least, most) = match name.split_once(' ') {
-            Some((name, "?")) => (name, 0, 1),
-            Some((name, _)) => (name, 1, usize::MAX),
-            None => (name, 1, 1),
+        let (name, mark) = name.split_once(' ').unwrap_or((name, ""));
+        let (least, most) = match mark {
+            "?" | "!" => (0, 1),
+            "+" => (1, usize::MAX),
+            _ => (1, 1),
         };
         let children = nodes_below(lines, depth, value.is_none());
-        let start = start_tag(name, value);
-        nodes.push(Node { name, least, most, value, children, start, end: format!("</{name}>") });
+        let (start, end) = (start_tag(name, value), format!("</{name}>"));
+        let unless_in_header = mark == "!";
+        nodes.push(Node { name, least, most, unless_in_header, value, children, start, end });
     }
     nodes
 }
@@ -169,6 +180,8 @@ struct Run<'m> {
     instrument: Option<Vec<u8>>,
     /// The names of the groups that are open.
     path: Vec<&'static str>,
+    /// The names of the groups that the header has had.
+    in_header: Vec<&'static str>,
     said: Vec<Said<'m>>,
 }
 
@@ -195,6 +208,19 @@ impl<'m> Run<'m> {
         }
     }
 
+    /// Whether the header has had what must otherwise stand in every item.
+    fn is_in_header(&self, node: &Node) -> bool {
+        node.unless_in_header && self.in_header.contains(&node.name)
+    }
+
+    /// How often an element must stand here.
+    fn least(&self, node: &Node) -> usize {
+        match node.unless_in_header && !self.is_in_header(node) {
+            true => 1,
+            false => node.least,
+        }
+    }
+
     /// The children of a group and its end tag, in the order of the table.
     fn children(&mut self, children: &[Node], end_tag: &str) -> Result<(), Refusal> {
         let mut had = vec![0usize; children.len()];
@@ -210,7 +236,7 @@ impl<'m> Run<'m> {
                     patterns.push(children[at].start.as_str());
                     which.push(at);
                 }
-                if had[at] < children[at].least {
+                if had[at] < self.least(&children[at]) {
                     may_end = false;
                     break;
                 }
@@ -241,12 +267,18 @@ impl<'m> Run<'m> {
         if node.name == "DrctDbtTxInf" && self.items.len() == 10_000 {
             return Err((12, place));
         }
+        if self.is_in_header(node) {
+            return Err((23, place));
+        }
         match node.value {
             Some(kind) => self.value(node, kind)?,
             None => {
                 self.path.push(node.name);
                 self.children(&node.children, &node.end)?;
                 self.path.pop();
+                if self.path.last() == Some(&"GrpHdr") {
+                    self.in_header.push(node.name);
+                }
             }
         }
         if node.name == "DrctDbtTxInf" {
@@ -343,6 +375,7 @@ impl Slow {
             sum: 0,
             instrument: None,
             path: Vec::new(),
+            in_header: Vec::new(),
             said: Vec::new(),
         };
         if message.len() >= 2 && &message[..2] == b"<?" {
@@ -365,10 +398,13 @@ impl Slow {
         Ok(Accepted { count: items.len() as u64, cents: total.0, items, said })
     }
 
-    /// The records of a message that says this, item by item.
+    /// The records of a message that says this, item by item. What an item does not say itself, the
+    /// header says, before all items.
     pub fn records(&self, said: &[Said]) -> Vec<u8> {
         let record = |item: &[Said]| {
-            let fields = FIELDS.iter().map(|&(name, which, width)| field(item, name, which, width));
+            let all = || item.iter().rev().chain(said);
+            let fields =
+                FIELDS.iter().map(|&(name, which, width)| field(all(), name, which, width));
             format!("{}\n", fields.collect::<String>())
         };
         let items = said.chunk_by(|one, other| one.items == other.items);
@@ -403,9 +439,14 @@ const FIELDS: [(&str, usize, usize); 11] = [
     ("BIC", 1, 11),
 ];
 
-/// One field of a record, from what is said up to the item's end.
-fn field(said: &[Said], name: &str, which: usize, width: usize) -> String {
-    let value = said.iter().rev().filter(|value| value.name == name).nth(which);
+/// One field of a record, from what is said: back from the item's end, then from the beginning.
+fn field<'s>(
+    said: impl Iterator<Item = &'s Said<'s>>,
+    name: &str,
+    which: usize,
+    width: usize,
+) -> String {
+    let value = said.filter(|value| value.name == name).nth(which);
     match value.map(|value| &value.meaning) {
         Some(Meaning::Cents(cents)) => format!("{cents:0width$}"),
         Some(Meaning::Bytes(bytes)) => format!("{:width$}", String::from_utf8_lossy(bytes)),

@@ -18,8 +18,8 @@ const CENTS: [u64; 10] = [1, 5, 10, 99, 100, 530, 1000, 123_450, ITEM_MOST - 99,
 
 /// A plan for so many short items without white space.
 fn compact(items: usize, declaration: bool) -> Plan {
-    let optional = Some(declaration);
-    Plan { items, spacing: Spacing::None, small: true, declaration, optional }
+    let (spacing, optional) = (Spacing::None, Some(declaration));
+    Plan { items, spacing, small: true, declaration, optional, type_in_header: false }
 }
 
 /// All spellings of small messages. Each case has its number, so that it can be made again.
@@ -38,6 +38,8 @@ pub fn spellings(seed: u64, mut each: impl FnMut(u64, Case)) {
         counts(&message, &mut give);
         counts(&accepted(&compact(12, declaration), random), &mut give);
     }
+    let in_header = Plan { type_in_header: true, ..compact(1, true) };
+    white_space(&accepted(&in_header, random), &mut give);
 }
 
 /// A message as a case with its plain form.

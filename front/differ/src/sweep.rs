@@ -16,18 +16,20 @@ use crate::value::{self, WHITE};
 type Give<'a> = &'a mut dyn FnMut(Vec<u8>, &'static str, Known);
 
 /// The small messages that are swept: everything optional, behind a declaration, compact and as meant,
-/// and in white space; nothing optional and two items.
-fn small_messages(seed: u64) -> [Message; 3] {
-    let small = |spacing: Spacing, full: bool| {
+/// and in white space; nothing optional and two items, with PmtTpInf in each and in the header.
+fn small_messages(seed: u64) -> [Message; 4] {
+    let small = |spacing: Spacing, full: bool, type_in_header: bool| {
         let random = &mut Random::new(seed, u64::MAX - u64::from(full));
-        let items = if full { 1 } else { 2 };
-        let optional = Some(full);
-        accepted(&Plan { items, spacing, small: true, declaration: full, optional }, random)
+        let (items, optional) = (if full { 1 } else { 2 }, Some(full));
+        let plan =
+            Plan { items, spacing, small: true, declaration: full, optional, type_in_header };
+        accepted(&plan, random)
     };
     [
-        small(Spacing::None, true).as_meant(),
-        small(Spacing::Everywhere, true),
-        small(Spacing::None, false),
+        small(Spacing::None, true, false).as_meant(),
+        small(Spacing::Everywhere, true, false),
+        small(Spacing::None, false, false),
+        small(Spacing::None, false, true),
     ]
 }
 
@@ -327,7 +329,8 @@ fn long_values(give: &mut dyn FnMut(Case)) {
 
 /// A plan for so many short items.
 fn compact(items: usize) -> Plan {
-    Plan { items, spacing: Spacing::None, small: true, declaration: true, optional: Some(false) }
+    let (spacing, optional) = (Spacing::None, Some(false));
+    Plan { items, spacing, small: true, declaration: true, optional, type_in_header: false }
 }
 
 /// Messages of the longest length, and of one byte more.

@@ -6,6 +6,7 @@ use crate::damage::{self, element_at, fine, kind_of, values_of, Case, Twin};
 use crate::kind::Kind;
 use crate::message::{Message, Part, What, DECLARATION, INSTRUMENTS};
 use crate::random::Random;
+use crate::typed;
 use crate::value::{self, Valid, WHITE};
 
 /// A way to make another message; nothing where it does not fit.
@@ -27,6 +28,7 @@ const OTHER: &[(&str, Way)] = &[
     ("another value", another_value),
     ("a value nearly the same", nearly_the_same),
     ("the other local instrument", other_instrument),
+    ("payment type at the other place", |message, _| Some(typed::moved(&message))),
     ("a cent more", cent_more),
     ("a cent from one item to another", cent_moved),
     ("optional element left out", left_out),
@@ -205,7 +207,7 @@ fn other_case(identifier: &[u8]) -> Option<Vec<u8>> {
     (other != identifier).then_some(other)
 }
 
-/// The other local instrument, in every item.
+/// The other local instrument, in the header or in every item.
 fn other_instrument(mut message: Message, _: &mut Random) -> Option<Message> {
     for at in values_of(&message, INSTRUMENTS) {
         let part = &mut message.parts[at];
@@ -253,7 +255,7 @@ fn cent_moved(mut message: Message, random: &mut Random) -> Option<Message> {
 }
 
 /// The start tags of a name.
-fn starts(message: &Message, name: &str) -> Vec<usize> {
+pub(crate) fn starts(message: &Message, name: &str) -> Vec<usize> {
     message.parts_that(|part| part.what == What::Start && part.name == name)
 }
 

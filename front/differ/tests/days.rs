@@ -130,6 +130,28 @@ fn keys_that_are_nearly_the_same() {
     assert!(branches > 10, "{branches}");
 }
 
+/// Two bulks of a day with one key, of which one has its payment type in the header and the other in
+/// its items; CORE and B2B.
+#[test]
+fn one_key_wherever_the_payment_type_stands() {
+    let mut services = BTreeSet::new();
+    for day in of_sort("from the empty book, keys nearly the same") {
+        let bulk = |bulk: &days::Bulk| (bulk.known.expect("whole").key, is_in_header(&bulk.bytes));
+        let bulks: BTreeSet<(Key, bool)> = day.bulks.iter().map(bulk).collect();
+        for (key, _) in bulks.iter().filter(|(key, is_in)| *is_in && bulks.contains(&(*key, false)))
+        {
+            services.insert(parts(key)[0].to_vec());
+        }
+    }
+    assert_eq!(services, [b"B2B".to_vec(), b"CORE".to_vec()].into_iter().collect());
+}
+
+/// Whether PmtTpInf stands in the header of a message.
+fn is_in_header(message: &[u8]) -> bool {
+    let text = String::from_utf8_lossy(message);
+    text.find("<PmtTpInf>") < text.find("<DrctDbtTxInf>")
+}
+
 /// Books made by hand that are just books: 1 and 64 open, more than 64 places, the highest sum, and an
 /// open key or huge cents past the open ones. An entry lifts one over the range.
 #[test]

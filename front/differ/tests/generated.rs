@@ -6,7 +6,7 @@ use differ::kind::{Kind, CHECKED};
 use differ::message::{Message, What};
 use differ::random::Random;
 use differ::value::{self, WHITE};
-use differ::{slips, spellings, sweep, twins};
+use differ::{slips, spellings, sweep, twins, typed};
 use std::collections::{BTreeMap, BTreeSet};
 
 /// The first messages that the gate's run of seed 1 is made from.
@@ -230,6 +230,65 @@ fn every_option_and_white_space_everywhere() {
     }
 }
 
+/// The payment type stands in the header of a good share of the messages, each of its codes among
+/// them, and most of these have several items.
+#[test]
+fn payment_types_in_the_header() {
+    let mut codes = BTreeSet::new();
+    let (mut in_header, mut of_several) = (0, 0);
+    for message in messages().filter(typed::is_in_header) {
+        let header = &message.parts[..message.items[0].0];
+        let is_code = |part: &&differ::message::Part| matches!(part.name, "Cd" | "SeqTp");
+        codes.extend(header.iter().filter(is_code).map(|part| text(&part.meant)));
+        in_header += 1;
+        of_several += usize::from(message.items.len() > 1);
+    }
+    for code in ["SEPA", "CORE", "B2B", "FRST", "RCUR", "FNAL", "OOFF"] {
+        assert!(codes.contains(code), "{code}");
+    }
+    assert!((1_500..=2_500).contains(&in_header) && of_several > 700, "{in_header} {of_several}");
+}
+
+/// The sweep of the payment type: each answer that it can have, known from its making; 23 in either
+/// item, and 4 in either.
+#[test]
+fn payment_types_here_and_there() {
+    let mut seen = BTreeSet::new();
+    typed::sweep(1, |_, case| {
+        let item = |place: usize| values(&case.bytes[..place], "<EndToEndId>").len();
+        seen.insert(match case.known {
+            Known::Refused { number: number @ (4 | 23), place } => {
+                format!("{}: {number} in item {}", case.damage, item(place))
+            }
+            Known::Refused { number, .. } => format!("{}: {number}", case.damage),
+            known => format!("{}: {}", case.damage, matches!(known, Known::Accepted { .. })),
+        });
+    });
+    let seen: Vec<&str> = seen.iter().map(String::as_str).collect();
+    assert_eq!(
+        seen,
+        [
+            "payment type here and there, cut: 23 in item 1",
+            "payment type here and there, cut: 23 in item 2",
+            "payment type here and there, cut: 3",
+            "payment type here and there, cut: 4 in item 1",
+            "payment type here and there, cut: 4 in item 2",
+            "payment type here and there, cut: true",
+            "payment type here and there: 23 in item 1",
+            "payment type here and there: 23 in item 2",
+            "payment type here and there: 4 in item 1",
+            "payment type here and there: 4 in item 2",
+            "payment type moved: true",
+            "payment type once more: 2",
+            "payment type once more: 23 in item 1",
+            "payment type once more: 23 in item 2",
+            "payment type once more: 4 in item 0",
+            "payment type once more: 4 in item 1",
+            "payment type once more: 4 in item 2",
+        ]
+    );
+}
+
 #[test]
 fn every_damage_and_every_number() {
     let mut damages = BTreeSet::new();
@@ -244,7 +303,7 @@ fn every_damage_and_every_number() {
     assert!(missing.is_empty(), "{missing:?}");
     // 1 and 12 are met at the limits; 13 no message reaches.
     let met: Vec<u8> = numbers.into_iter().collect();
-    assert_eq!(met, [2, 3, 4, 6, 7, 8, 9, 10, 11, 14, 15, 16, 19]);
+    assert_eq!(met, [2, 3, 4, 6, 7, 8, 9, 10, 11, 14, 15, 16, 19, 23]);
     let mut at_limits = BTreeSet::new();
     sweep::limits(|_, case| {
         if let Known::Refused { number, .. } = case.known {
@@ -364,8 +423,9 @@ fn every_spelling() {
         (count.len()..=15).map(|width| format!("{count:0>width$}")).collect()
     };
     assert_eq!(counts, [padded("1"), padded("12")].concat().into_iter().collect());
-    // Two messages of one item, with an amount of their own and with ten others; two of twelve items.
-    assert_eq!(forms.len(), 2 * (1 + 10) + 2);
+    // Two messages of one item, with an amount of their own and with ten others; two of twelve items;
+    // one with its payment type in the header.
+    assert_eq!(forms.len(), 2 * (1 + 10) + 2 + 1);
 }
 
 /// Each white byte in each value that collapses, at its ends and inside, with the record; and values

@@ -16,7 +16,8 @@ const NOT_OPEN: Refusal = (22, 0);
 const NO_BOOK: Refusal = (29, 0);
 
 /// "A bulk's key, after document 001, is service (its items' LclInstrm), MsgId, instructing BIC and
-/// settlement date." Each value has spaces behind it, to the most bytes that its kind allows.
+/// settlement date." With PmtTpInf in the header "the day book's service is the header's". Each value
+/// has spaces behind it, to the most bytes that its kind allows.
 #[derive(Clone, Copy, Debug, PartialEq, Eq)]
 pub struct Key {
     /// `CORE` or `B2B`.
@@ -118,7 +119,7 @@ fn bulk(message: &[u8]) -> Result<Entry, Refusal> {
 }
 
 /// The key of an accepted message. No value holds a `<`, so a tag is found wherever it stands; the
-/// first BIC is that of InstgAgt, and the first LclInstrm is that of all items.
+/// first BIC is that of InstgAgt, and the first LclInstrm is the header's or that of all items.
 fn key(message: &[u8]) -> Key {
     Key {
         service: padded(value_behind(behind(message, b"<LclInstrm>"), b"<Cd>")),

@@ -81,7 +81,8 @@ pub fn plain_form(message: &[u8], area: &mut [u8]) -> Result<usize, (u8, usize)>
     read::<false>(message, |_, _| {})?;
     let mut length = 0;
     form::write(message, |part| length += part.len());
-    // No plain form is that long: 10,000 items of at most 1,346 bytes and 514 around them.
+    // No plain form is that long: 10,000 items of at most 1,346 bytes, each with its own PmtTpInf, and
+    // 514 around them. With PmtTpInf in the header it is shorter.
     if length > LONGEST {
         return Err((number::TOO_LONG, 0));
     }

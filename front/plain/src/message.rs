@@ -17,13 +17,16 @@ pub const DECLARATION: &[u8; 38] = br#"<?xml version="1.0" encoding="UTF-8"?>"#;
 const ROOT: &[u8; 65] = br#"<Document xmlns="urn:iso:std:iso:20022:tech:xsd:pacs.003.001.02">"#;
 const ITEM: &[u8; 14] = b"<DrctDbtTxInf>";
 const ITEM_END: &[u8; 15] = b"</DrctDbtTxInf>";
+const PAYMENT_TYPE: &[u8; 10] = b"<PmtTpInf>";
 
-/// What the end of the message is held against.
-struct Header {
+/// What the end of the message is held against, and what its items are.
+struct Header<'m> {
     count: u64,
     count_place: usize,
     total: u64,
     total_place: usize,
+    /// SeqTp, where PmtTpInf stands in the header.
+    sequence_type: Option<&'m [u8]>,
 }
 
 /// One item: where it lies, and what its record takes of it.
@@ -41,6 +44,7 @@ pub struct Item<'m> {
     pub debtor_bic: &'m [u8],
     pub cents: u64,
     pub collection_date: &'m [u8],
+    /// The item's own, or the header's.
     pub sequence_type: &'m [u8],
     pub creditor_id: &'m [u8],
     pub creditor_bic: &'m [u8],
@@ -80,7 +84,7 @@ pub fn read<'m, const ACCEPTED: bool>(
         if items == MOST_ITEMS {
             return Err((number::TOO_MANY, start));
         }
-        let item = cursor.item(start, &mut instrument, &mut sum)?;
+        let item = cursor.item(start, &header, &mut instrument, &mut sum)?;
         each(items, &item);
         items += 1;
         next = cursor.first_of(ITEM, b"</FIToFICstmrDrctDbt>")?;
@@ -257,7 +261,7 @@ impl<'m, const ACCEPTED: bool> Cursor<'m, ACCEPTED> {
     }
 
     /// "After `</Document>`: 16, 14, 15", for a message of so many items and this sum.
-    fn ending(&mut self, header: &Header, items: u64, sum: u64) -> Result<(), Refusal> {
+    fn ending(&mut self, header: &Header<'m>, items: u64, sum: u64) -> Result<(), Refusal> {
         self.tag(b"</Document>")?;
         self.white_space();
         if !self.rest.is_empty() {
@@ -273,8 +277,8 @@ impl<'m, const ACCEPTED: bool> Cursor<'m, ACCEPTED> {
     }
 
     /// "GrpHdr: MsgId, CreDtTm, NbOfTxs, TtlIntrBkSttlmAmt, IntrBkSttlmDt, SttlmInf/SttlmMtd,
-    /// InstgAgt/FinInstnId/BIC"
-    fn group_header(&mut self) -> Result<Header, Refusal> {
+    /// InstgAgt/FinInstnId/BIC". Since request 6 PmtTpInf "may stand there after SttlmInf".
+    fn group_header(&mut self) -> Result<Header<'m>, Refusal> {
         self.tag(b"<GrpHdr>")?;
         self.element(b"<MsgId>", reference, b"</MsgId>")?;
         self.element(b"<CreDtTm>", time, b"</CreDtTm>")?;
@@ -293,7 +297,12 @@ impl<'m, const ACCEPTED: bool> Cursor<'m, ACCEPTED> {
         self.element(b"<SttlmMtd>", code::settlement_method, b"</SttlmMtd>")?;
         self.tag(b"</SttlmInf>")?;
 
-        self.tag(b"<InstgAgt>")?;
+        let mut sequence_type = None;
+        if self.first_of(PAYMENT_TYPE, b"<InstgAgt>")?.is_some() {
+            // "With it in the header, rule 11 has nothing to compare".
+            sequence_type = Some(self.payment_type(&mut None)?);
+            self.tag(b"<InstgAgt>")?;
+        }
         self.financial_institution()?;
         self.tag(b"</InstgAgt>")?;
 
@@ -303,6 +312,7 @@ impl<'m, const ACCEPTED: bool> Cursor<'m, ACCEPTED> {
             count_place: count.place,
             total: total.worth,
             total_place: total.place,
+            sequence_type,
         })
     }
 
@@ -312,11 +322,12 @@ impl<'m, const ACCEPTED: bool> Cursor<'m, ACCEPTED> {
     fn item(
         &mut self,
         start: usize,
+        header: &Header<'m>,
         instrument: &mut Option<&'m [u8]>,
         sum: &mut u64,
     ) -> Result<Item<'m>, Refusal> {
         let (end_to_end, transaction) = self.payment_identification()?;
-        let sequence_type = self.payment_type(instrument)?;
+        let sequence_type = self.type_of_item(header, instrument)?;
         let cents = self.amount(sum)?;
         self.element(b"<ChrgBr>", code::charge_bearer, b"</ChrgBr>")?;
         let collection_date = self.element(b"<ReqdColltnDt>", date, b"</ReqdColltnDt>")?.bytes;
@@ -362,10 +373,32 @@ impl<'m, const ACCEPTED: bool> Cursor<'m, ACCEPTED> {
         Ok((end_to_end, transaction))
     }
 
-    /// "PmtTpInf: SvcLvl/Cd, LclInstrm/Cd, SeqTp". Answers the last.
+    /// PmtTpInf of an item, or nothing where the header has one: "and then no item has it; otherwise
+    /// every item has it". Answers SeqTp "from wherever it stands".
+    #[inline]
+    fn type_of_item(
+        &mut self,
+        header: &Header<'m>,
+        instrument: &mut Option<&'m [u8]>,
+    ) -> Result<&'m [u8], Refusal> {
+        let Some(sequence_type) = header.sequence_type else {
+            self.tag(PAYMENT_TYPE)?;
+            return self.payment_type(instrument);
+        };
+        // "23, an item's complete PmtTpInf tag though the header has one, at its `<` (cut short, 3)".
+        self.white_space();
+        if self.rest.starts_with(PAYMENT_TYPE) {
+            return Err((number::TYPE_AGAIN, self.place()));
+        }
+        if PAYMENT_TYPE.starts_with(self.rest) {
+            return Err((number::ENDS, self.length));
+        }
+        Ok(sequence_type)
+    }
+
+    /// "PmtTpInf: SvcLvl/Cd, LclInstrm/Cd, SeqTp", from behind its start tag. Answers the last.
     #[inline]
     fn payment_type(&mut self, instrument: &mut Option<&'m [u8]>) -> Result<&'m [u8], Refusal> {
-        self.tag(b"<PmtTpInf>")?;
         self.tag(b"<SvcLvl>")?;
         self.element(b"<Cd>", code::sepa, b"</Cd>")?;
         self.tag(b"</SvcLvl>")?;

@@ -1,6 +1,8 @@
 //! The paper's cases: "Either side of each line", the whole example, and the readings of the open
 //! points of documents 01 and 02.
 
+mod typed;
+
 use super::*;
 use crate::value::collapsed;
 

@@ -42,6 +42,8 @@ pub mod number {
     pub const NO_SUCH_ITEM: u8 = 18;
     /// IBAN of a wrong length for its country, or of no such country
     pub const COUNTRY_LENGTH: u8 = 19;
+    /// an item's PmtTpInf though the header has one
+    pub const TYPE_AGAIN: u8 = 23;
 }
 
 use number::{CHECK_DIGITS, CODE, COUNTRY_LENGTH, FORM, RANGE};

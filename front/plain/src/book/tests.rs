@@ -76,6 +76,29 @@ fn the_key_is_that_of_the_message() {
     assert_eq!(key(other.as_bytes()), key_of("B2B", "MSG/1", "SPUEDE2UXXX", "2011-01-04"));
 }
 
+/// "and the day book's service is the header's": where PmtTpInf stands is no part of the key.
+#[test]
+fn the_service_is_the_header_s() {
+    let start = EXAMPLE.find("<PmtTpInf>").unwrap();
+    let end = EXAMPLE.find("<IntrBkSttlmAmt").unwrap();
+    let payment_type = &EXAMPLE[start..end];
+    let in_header = EXAMPLE.replacen(payment_type, "", 1).replacen(
+        "<InstgAgt>",
+        &format!("{payment_type}<InstgAgt>"),
+        1,
+    );
+    assert_eq!(key(in_header.as_bytes()), key(EXAMPLE.as_bytes()));
+    let business = in_header.replacen("CORE", "B2B", 1);
+    assert_eq!(key(business.as_bytes()), key_of("B2B", "MSG/1", "BANKDEFF", "2010-12-03"));
+    let mut entries = places(MOST);
+    let mut book = Book { entries: &mut entries, open: 0 };
+    assert_eq!(book.enter(EXAMPLE.as_bytes()), Ok(1234));
+    assert_eq!(book.enter(in_header.as_bytes()), Err(OPEN_ALREADY));
+    assert_eq!(book.enter(business.as_bytes()), Ok(1234));
+    assert_eq!(book.withdraw(&key(in_header.as_bytes())), Ok(1234));
+    assert_eq!(book.enter(in_header.as_bytes()), Ok(1234));
+}
+
 /// Keys differ by bytes: another service, MsgId, BIC or date is another bulk, also BIC8 and BIC11.
 #[test]
 fn each_part_tells_bulks_apart() {
