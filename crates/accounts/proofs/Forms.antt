@@ -1,7 +1,7 @@
 -- What the forms of BIC, IBAN and identifier say, and that an identifier's check reads what stands from its eighth character on and the first four.
 use mathlib.Core.Path.{_≡_, refl, ap, sym, _∙_}
 use mathlib.Core.Bool.{Bool, true, false}
-use mathlib.Core.Logic.{_⊎_, ⊎-elim}
+use mathlib.Core.Logic.{⊎-elim}
 use mathlib.Core.List.{List, [], _∷_, _++_}
 use Prim.Native.Nat.{ℕ, _-_, _%_, _<_, _≤_}
 use native.Mathlib.Omega.{arith}
@@ -11,11 +11,11 @@ use lib.Seq.{take-at, drop-at, take-add, length-take-le}
 use lib.Dec.{eqb}
 use Rattle.text.specs.Truth.{both, either, pick, between, every, only, part}
 use Rattle.text.specs.Quoted.{among, decimal}
-use Rattle.text.specs.Classes.{digit, capital, capitalOrDigit, letterOrDigit}
-use Rattle.text.proofs.Truths.{both-true, both-false, either-true, either-same, between-true, between-of, between-under, between-over, passes}
+use Rattle.text.specs.Classes.{digit, capital, small, capitalOrDigit, letterOrDigit, referenceSet}
+use Rattle.text.proofs.Truths.{never, both-true, both-false, both-yes, either-true, either-same, between-true, between-of, between-under, between-over, passes}
 use Rattle.text.proofs.Scan.{rest-of, two-at, only-append, only-all}
 use Rattle.text.proofs.Sets.{everywhere, among-high}
-use Rattle.text.proofs.Digits.{digit-range, capital-range}
+use Rattle.text.proofs.Digits.{digit-range, capital-range, small-range}
 use Rattle.check97.specs.Check.{spelled, moved, withoutFiveToSeven, leavesOne, inRange, identifierChecked}
 use Rattle.check97.proofs.Spelled.{spelled-append, only-spelled}
 use Rattle.accounts.specs.Head.{head}
@@ -65,10 +65,6 @@ pub range-over : (s : List ℕ) (a : Bool) (n : ℕ) → 4 ≤ length s → n �
 unfolding inRange
 range-over s a n h e g = rw (two-at s 2 h, ← e, between-over 2 98 n g) (both-false a)
 
-both-yes : (a : Bool) → both a true ≡ a
-both-yes true = refl
-both-yes false = refl
-
 pub range-within : (s : List ℕ) (m : ℕ) (r : Bool) (n : ℕ) → 4 ≤ length s → n ≡ decimal (getD s 2 0 ∷ getD s 3 0 ∷ []) → 2 ≤ n → n ≤ 98
     → r ≡ leavesOne (take (length s - m) (drop m s) ++ take 4 s) → r ≡ both (leavesOne (drop m s ++ take 4 s)) (inRange s)
 unfolding inRange
@@ -77,13 +73,28 @@ range-within s m r n h e lo hi f =
     (f ∙ ap (λ (l : List ℕ). leavesOne (l ++ take 4 s)) (rest-of m s) ∙ sym (both-yes (leavesOne (drop m s ++ take 4 s))))
 
 -- ---- what an identifier's check reads
-capital-counts : (c : ℕ) → capital c ≡ true → letterOrDigit c ≡ true
+pub capital-counts : (c : ℕ) → capital c ≡ true → letterOrDigit c ≡ true
 unfolding letterOrDigit among
 capital-counts c h = rw (sym (capital-range c) ∙ h)
 
-digit-counts : (c : ℕ) → digit c ≡ true → letterOrDigit c ≡ true
+pub digit-counts : (c : ℕ) → digit c ≡ true → letterOrDigit c ≡ true
 unfolding letterOrDigit among
 digit-counts c h = rw (sym (digit-range c) ∙ h, either-same (between 97 122 c)) (either-same (between 65 90 c))
+
+pub small-counts : (c : ℕ) → small c ≡ true → letterOrDigit c ≡ true
+unfolding letterOrDigit among
+small-counts c h = rw (sym (small-range c) ∙ h) (either-same (between 65 90 c))
+
+-- every letter or digit is in the reference set
+pub counts-reference : (c : ℕ) → letterOrDigit c ≡ true → referenceSet c ≡ true
+unfolding letterOrDigit referenceSet among
+counts-reference c h = go (between 65 90 c) (between 97 122 c) (between 48 57 c) refl refl refl h
+  where
+    go : (x y z : Bool) → between 65 90 c ≡ x → between 97 122 c ≡ y → between 48 57 c ≡ z → either x (either y (either z false)) ≡ true → referenceSet c ≡ true
+    go true y z e f g h = rw e
+    go false true z e f g h = rw (e, f)
+    go false false true e f g h = rw (e, f, g)
+    go false false false e f g h = never (cc)
 
 first-four : (s : List ℕ) → head s ≡ true → only letterOrDigit (take 4 s) ≡ take 4 s
 unfolding head

@@ -3,3 +3,4 @@ pub mod Head
 pub mod Iban
 pub mod Identifier
 pub mod Lengths
+pub mod Letters

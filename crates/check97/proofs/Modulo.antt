@@ -1,8 +1,9 @@
 -- Ten is cancelled by 97: what the remainder tells of what stands before, and what it keeps of what stands behind.
 use mathlib.Core.Path.{_≡_, ap, sym, _∙_}
 use mathlib.Core.List.{List}
-use Prim.Native.Nat.{ℕ, zero, suc, _+_, _-_, _*_, _^_, _%_, _/_, _<_, _≤_}
-use native.Mathlib.Nat.{add-mul-mod-self-left, pow-suc, mul-assoc, div-add-mod'}
+use Prim.Native.Nat.{ℕ, zero, suc, _+_, _*_, _^_, _%_, _/_, _<_, _≤_}
+use native.Mathlib.Nat.{mod-eq-of-lt, add-mul-mod-self-left, pow-suc, mul-assoc, div-add-mod'}
+use native.Mathlib.Decide.{decLt}
 use native.Mathlib.Omega.{arith}
 use lib.ListN.{length, drop, getD, drop-of-length-le}
 use Rattle.text.specs.Quoted.{followedBy}
@@ -39,6 +40,23 @@ same-behind m n s e = rw (linear m s, linear n s) (continued m n (10 ^ length s)
 -- what two numbers of one remainder differ by leaves the same
 pub differ : (a b q d : ℕ) → a % 97 ≡ b % 97 → b + d ≡ a + q → q % 97 ≡ d % 97
 differ a b q d e f = mod-by (a / 97) (b / 97) q d (omega arith)
+
+-- two letters of worth a and b leave the same in either order only where these are one (2 times 49 is 1 more than 97)
+pub letters-one : (a b : ℕ) → a < 36 → b < 36 → (a * 100 + b) % 97 ≡ (b * 100 + a) % 97 → a ≡ b
+letters-one a b h g e =
+    let z : a % 97 ≡ b % 97 = mod-by (50 * a + 49 * ((b * 100 + a) / 97)) (50 * b + 49 * ((a * 100 + b) / 97)) a b (omega arith) in
+    sym (mod-eq-of-lt (omega arith)) ∙ z ∙ mod-eq-of-lt (omega arith)
+
+-- a digit d and a letter of worth w leave the same in either order only where w is 11 times d, so that both orders write d three times
+-- (9 times 54 is 1 more than 5 times 97)
+pub eleven-times : (d w : ℕ) → d < 10 → 10 ≤ w → w < 36 → (d * 100 + w) % 97 ≡ (w * 10 + d) % 97 → w ≡ 11 * d
+eleven-times d w h l g e =
+    let z : w % 97 ≡ 11 * d % 97 = mod-by (5 * w + 54 * ((d * 100 + w) / 97)) (55 * d + 54 * ((w * 10 + d) / 97)) w (11 * d) (omega arith) in
+    let y : w % 97 ≡ w = mod-eq-of-lt (omega arith) in
+    elim (decLt (11 * d) 97) [
+      | yes k ↦ sym y ∙ z ∙ mod-eq-of-lt k
+      | no k ↦ let x : d ≡ 9 = omega arith in absurd (omega (arith, y, rw x at z))
+    ]
 
 -- ---- how a loop reads it
 module _ (n : ℕ) (s : List ℕ) (i : ℕ) where

@@ -2,4 +2,6 @@ pub mod Values
 pub mod Few
 pub mod Changed
 pub mod Lists
+pub mod Instead
 pub mod Digits
+pub mod Letters

@@ -15,20 +15,21 @@ use Rattle.money.specs.declared.Range as range
 use Rattle.money.specs.Amount.{cents}
 use Rattle.profile.specs.declared.Kind.{Kind}
 use Rattle.profile.specs.declared.Kind.the-variants.{Plain, Count, Total, Amount, Code}
+use Rattle.profile.specs.declared.Simple.{Simple}
 use Rattle.profile.specs.declared.Field.{Field}
 use Rattle.profile.specs.Kinds.{sameKind}
 use Rattle.kinds.specs.Given.{kindGiven}
 use Rattle.reading.specs.Trace.{value, Entry, _at_}
 use Rattle.reading.specs.Rules.{itemsIn, ofKind, valuesOf, sumOf, centsIn, ownKind}
 use Rattle.reading.specs.Judged.{whats, lastOf, onlyOf, placeIn, placeFrom, placeOf, compared}
-use Rattle.reading.specs.Verdict.{refused}
+use Rattle.reading.specs.Verdict.{accepted, refused}
 use Rattle.reading.proofs.Lists.{whats-append, values-append, place-append, sum-append}
 use Rattle.reading.proofs.Flat.{never}
 use Rattle.documents.specs.Document.{Each}
 use Rattle.documents.specs.Holds.{Passes}
 use Rattle.documents.specs.Standing.{OneHeader}
 use Rattle.documents.proofs.Each.{each-both, each-first, each-rest}
-use Rattle.documents.proofs.Lists.{Kept, kept-first, kept-listed, listed-stops, listedAll, Compared, decided}
+use Rattle.documents.proofs.Lists.{Kept, kept-first, kept-listed, listed-stops, listedAll, Compared, is-compared, decided}
 use Rattle.replaced.proofs.Near.{Near, changed, Unlike, near-append, near-itself, near-items, near-types, near-place, near-values}
 use Rattle.slips.specs.Slip.{Slip, Refused}
 use Rattle.slips.proofs.Values.{plain-slip, count-slip, amount-slip, unwatched}
@@ -103,7 +104,7 @@ module _ (k : Kind) (f : Field) (q : ℕ) (v w : List ℕ) (xs ys : List Entry) 
     passed = each-rest (λ x. Passes (ownKind x)) (whats xs) (value k f v ∷ whats ys) kinds .0
 
     -- its own kind refuses it
-    refused-own : (i : ℕ) → kindGiven k w ≡ no i → decided (listedAll (with w) []) ≡ refused i q
+    pub refused-own : (i : ℕ) → kindGiven k w ≡ no i → decided (listedAll (with w) []) ≡ refused i q
     refused-own i e =
         ap decided (listed-stops xs (value k f w at q) ys i (kept-first (whats xs) (value k f v ∷ whats ys) (rw (whats-with v) at (s .kept))) (rw e))
 
@@ -147,6 +148,21 @@ module _ (k : Kind) (f : Field) (q : ℕ) (v w : List ℕ) (xs ys : List Entry) 
 
       count-right : sameKind k Count ≡ false → decimal (onlyOf Count (with w)) ≡ itemsIn (whats (with w))
       count-right h = ap decimal (same-only Count h) ∙ s .compared .count ∙ sym items-too
+
+-- A plain value that passes in the place of another: the list is accepted as it was.
+pub plain-passes : (j : Simple) (f : Field) (q : ℕ) (v w : List ℕ) (xs ys : List Entry) (n c : ℕ) → Sound (with (Plain j) f q v w xs ys n c v) n c
+    → Passes (kindGiven (Plain j) w) → decided (listedAll (with (Plain j) f q v w xs ys n c w) []) ≡ accepted n c
+plain-passes j f q v w xs ys n c s fits =
+    let only = same-only (Plain j) f q v w xs ys n c s fits refl in
+    let sums = ap sumOf (near-values (This (Plain j) f q v w xs ys n c) v w Amount (unlike (Plain j) f q v w xs ys n c Amount refl) (near (Plain j) f q v w xs ys n c)) in
+    goes-on (Plain j) f q v w xs ys n c s fits refl
+    ∙ is-compared (with (Plain j) f q v w xs ys n c w) n c
+    (record {
+      items = items-too (Plain j) f q v w xs ys n c s fits refl;
+      count = ap decimal (only Count refl) ∙ s .compared .count;
+      sum = sym sums ∙ s .compared .sum;
+      total = ap cents (only Total refl) ∙ s .compared .total;
+    })
 
 -- How a slip is refused, in the list.
 pub slip-told : (k : Kind) (f : Field) (q : ℕ) (v w : List ℕ) (xs ys : List Entry) (n c : ℕ) → Sound (with k f q v w xs ys n c v) n c → Slip k v w

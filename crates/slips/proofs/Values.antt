@@ -48,11 +48,11 @@ passed-yes : (a : Bool) (i : ℕ) (l : List Rule) → Passes (inOrder (a else i 
 passed-yes true i l h = (refl, rules-yes l h)
 passed-yes false i l h = absurd h
 
-iban-yes : (v : List ℕ) → Passes (ibanGiven v) → (ibanForm v ≡ true) × (ibanGiven v ≡ yes)
+pub iban-yes : (v : List ℕ) → Passes (ibanGiven v) → (ibanForm v ≡ true) × (ibanGiven v ≡ yes)
 unfolding ibanGiven
 iban-yes v = passed-yes (ibanForm v) 7 (ibanLength v else 19 ∷ ibanChecked v else 8 ∷ [])
 
-identifier-yes : (v : List ℕ) → Passes (identifierGiven v) → (identifierForm v ≡ true) × (identifierGiven v ≡ yes)
+pub identifier-yes : (v : List ℕ) → Passes (identifierGiven v) → (identifierForm v ≡ true) × (identifierGiven v ≡ yes)
 unfolding identifierGiven
 identifier-yes v = passed-yes (identifierForm v) 7 (identifierChecked v else 8 ∷ [])
 
@@ -144,63 +144,106 @@ plain-slip Bic v w s g = absurd (unwatched (λ x h. h) s)
 plain-slip Iban v w s g = iban-slip v w s (iban-yes v g .1)
 plain-slip Identifier v w s g = identifier-slip v w s (identifier-yes v g .1)
 
--- ---- a slip leaves a value as long, brings no `<`, and is another value
-digit-in : (c : ℕ) → digit c ≡ true → inValue c ≡ true
-digit-in c h = let b = digit-bounds c h in ap not (ne-eqb c 60 (λ e. omega (arith, b)))
+-- ---- a value that may take the place of another: as long, without `<`, begun by no white space, and another value
+pub record Fitting (v w : List ℕ) : Type 0 where
+  pub long : length v ≡ length w
+  pub tagless : every inValue w ≡ true
+  pub solid : Solid v
+  pub solid′ : Solid w
+  pub other : v ≢ w
 
-digits-in : (p q r : List ℕ) → every inValue (p ++ q) ≡ true → (every inValue q ≡ true → every inValue r ≡ true) → every inValue (p ++ r) ≡ true
-digits-in [] q r h k = k h
-digits-in (c ∷ p) q r h k =
-    let b = both-true (inValue c) (every inValue (p ++ q)) h in
-    rw (b .0) (digits-in p q r (b .1) k)
+-- a byte that is neither `<` nor white space: a letter, a digit
+pub record Shown (c : ℕ) : Type 0 where
+  pub from : 48 ≤ c
+  pub not-tag : c ≢ 60
 
-pub slip-tagless : {k : Kind} {v w : List ℕ} → Slip k v w → every inValue v ≡ true → every inValue w ≡ true
-slip-tagless (replaced p q a b at da db ne x y) h =
-    ap (every inValue) y ∙ digits-in p (a ∷ q) (b ∷ q) (ap (every inValue) (sym x) ∙ h) (λ g. rw (digit-in b db) (both-true (inValue a) (every inValue q) g .1))
-slip-tagless (exchanged p q a b at da db ne x y) h =
-    ap (every inValue) y
-    ∙ digits-in p (a ∷ b ∷ q) (b ∷ a ∷ q) (ap (every inValue) (sym x) ∙ h)
-    (λ g. rw (digit-in b db, digit-in a da) (both-true (inValue b) (every inValue q) (both-true (inValue a) (every inValue (b ∷ q)) g .1) .1))
+pub digit-shown : (c : ℕ) → digit c ≡ true → Shown c
+digit-shown c h = let b = digit-bounds c h in record { from = b .0; not-tag = λ e. omega arith }
 
-pub slip-long : {k : Kind} {v w : List ℕ} → Slip k v w → length v ≡ length w
-slip-long (replaced p q a b at da db ne x y) = ap length x ∙ length-append p (a ∷ q) ∙ sym (length-append p (b ∷ q)) ∙ ap length (sym y)
-slip-long (exchanged p q a b at da db ne x y) = ap length x ∙ length-append p (a ∷ b ∷ q) ∙ sym (length-append p (b ∷ a ∷ q)) ∙ ap length (sym y)
+pub capital-shown : (c : ℕ) → capital c ≡ true → Shown c
+capital-shown c h = let b = capital-bounds c h in record { from = omega arith; not-tag = λ e. omega arith }
 
-other-there : (p s t : List ℕ) (a b : ℕ) → a ≢ b → p ++ (a ∷ s) ≢ p ++ (b ∷ t)
-other-there p s t a b ne e =
-    ne (sym (getD-at p a s 0 (length p) refl) ∙ ap (λ (l : List ℕ). getD l (length p) 0) e ∙ getD-at p b t 0 (length p) refl)
+shown-in : (c : ℕ) → Shown c → inValue c ≡ true
+shown-in c h = ap not (ne-eqb c 60 (h .not-tag))
 
-pub slip-other : {k : Kind} {v w : List ℕ} → Slip k v w → v ≢ w
-slip-other (replaced p q a b at da db ne x y) e = other-there p q q a b ne (sym x ∙ e ∙ y)
-slip-other (exchanged p q a b at da db ne x y) e = other-there p (b ∷ q) (a ∷ q) a b ne (sym x ∙ e ∙ y)
-
--- ---- such a value begins with a digit or a capital
-shown-byte : (c : ℕ) (s : List ℕ) → 48 ≤ c → c ≢ 60 → Solid (c ∷ s)
+shown-first : (c : ℕ) (s : List ℕ) → Shown c → Solid (c ∷ s)
 unfolding white
-shown-byte c s h ne =
+shown-first c s h =
+    let f = h .from in
     record {
       first = c;
       later = s;
       is = refl;
       shown = rw (ne-eqb c 32 (λ e. omega arith), ne-eqb c 9 (λ e. omega arith), ne-eqb c 13 (λ e. omega arith), ne-eqb c 10 (λ e. omega arith));
-      inside = ap not (ne-eqb c 60 ne);
+      inside = shown-in c h;
     }
 
-digit-first : (c : ℕ) (s : List ℕ) → digit c ≡ true → Solid (c ∷ s)
-digit-first c s h = let b = digit-bounds c h in shown-byte c s (b .0) (λ e. omega (arith, b))
+every-behind : (f : ℕ → Bool) (p q r : List ℕ) → every f (p ++ q) ≡ true → (every f q ≡ true → every f r ≡ true) → every f (p ++ r) ≡ true
+every-behind f [] q r h k = k h
+every-behind f (c ∷ p) q r h k =
+    let b = both-true (f c) (every f (p ++ q)) h in
+    rw (b .0) (every-behind f p q r (b .1) k)
 
+other-there : (p s t : List ℕ) (a b : ℕ) → a ≢ b → p ++ (a ∷ s) ≢ p ++ (b ∷ t)
+other-there p s t a b ne e =
+    ne (sym (getD-at p a s 0 (length p) refl) ∙ ap (λ (l : List ℕ). getD l (length p) 0) e ∙ getD-at p b t 0 (length p) refl)
+
+-- a value begins as before behind a first byte, or with a letter or a digit
+abbrev pub Begun : ℕ → ℕ → Type 0
+Begun i b = (1 ≤ i) ⊎ Shown b
+
+first-kept : (p : List ℕ) (a b : ℕ) (s t : List ℕ) → Begun (length p) b → Solid (p ++ (a ∷ s)) → Solid (p ++ (b ∷ t))
+first-kept [] a b s t (inl d) h = absurd (omega arith)
+first-kept [] a b s t (inr d) h = shown-first b t d
+first-kept (c ∷ p) a b s t d h =
+    let z : c ≡ h .first = cc (h .is) in
+    record { first = c; later = p ++ (b ∷ t); is = refl; shown = rw z (h .shown); inside = rw z (h .inside) }
+
+module _ (p q : List ℕ) (a b : ℕ) (ne : a ≢ b) where
+  -- one byte replaced by a letter or a digit
+  pub fitting-replaced : Shown b → every inValue (p ++ (a ∷ q)) ≡ true → Solid (p ++ (a ∷ q)) → Fitting (p ++ (a ∷ q)) (p ++ (b ∷ q))
+  fitting-replaced hb h g =
+      record {
+        long = length-append p (a ∷ q) ∙ sym (length-append p (b ∷ q));
+        tagless = every-behind inValue p (a ∷ q) (b ∷ q) h (λ e. rw (shown-in b hb) (both-true (inValue a) (every inValue q) e .1));
+        solid = g;
+        solid′ = first-kept p a b q q (inr hb) g;
+        other = other-there p q q a b ne;
+      }
+
+  -- two unequal neighbours exchanged
+  pub fitting-exchanged : Begun (length p) b → every inValue (p ++ (a ∷ b ∷ q)) ≡ true → Solid (p ++ (a ∷ b ∷ q)) → Fitting (p ++ (a ∷ b ∷ q)) (p ++ (b ∷ a ∷ q))
+  fitting-exchanged hb h g =
+      record {
+        long = length-append p (a ∷ b ∷ q) ∙ sym (length-append p (b ∷ a ∷ q));
+        tagless = every-behind inValue p (a ∷ b ∷ q) (b ∷ a ∷ q) h swapped;
+        solid = g;
+        solid′ = first-kept p a b (b ∷ q) (a ∷ q) hb g;
+        other = other-there p (b ∷ q) (a ∷ q) a b ne;
+      }
+    where
+      swapped : every inValue (a ∷ b ∷ q) ≡ true → every inValue (b ∷ a ∷ q) ≡ true
+      swapped e =
+          let s = both-true (inValue a) (every inValue (b ∷ q)) e in
+          let t = both-true (inValue b) (every inValue q) (s .1) in
+          rw (t .0, s .0) (t .1)
+
+pub slip-fitting : {k : Kind} {v w : List ℕ} → Slip k v w → every inValue v ≡ true → Solid v → Fitting v w
+slip-fitting (replaced p q a b at da db ne x y) h g = rw (x, y) (fitting-replaced p q a b ne (digit-shown b db) (rw x at h) (rw x at g))
+slip-fitting (exchanged p q a b at da db ne x y) h g = rw (x, y) (fitting-exchanged p q a b ne (inr (digit-shown b db)) (rw x at h) (rw x at g))
+
+-- ---- such a value begins with a digit or a capital
 head-first : (v : List ℕ) (lo hi : ℕ) → 1 ≤ lo → between lo hi (length v) ≡ true → head v ≡ true → Solid v
 unfolding head
 head-first [] lo hi one h e = absurd (omega (arith, between-true lo hi 0 h))
 head-first (c ∷ s) lo hi one h e =
     let f = both-true (every capital (part 0 2 (c ∷ s))) (every digit (part 2 2 (c ∷ s))) e .0 in
-    let b = capital-bounds c (both-true (capital c) (every capital (take 1 s)) f .0) in
-    shown-byte c s (omega (arith, b)) (λ z. omega (arith, b))
+    shown-first c s (capital-shown c (both-true (capital c) (every capital (take 1 s)) f .0))
 
 count-first : (v : List ℕ) → countForm v ≡ true → Solid v
 unfolding countForm
 count-first [] e = absurd (omega (arith, between-true 1 15 0 (passes _ e 0)))
-count-first (c ∷ s) e = digit-first c s (both-true (digit c) (every digit s) (passes _ e 1) .0)
+count-first (c ∷ s) e = shown-first c s (digit-shown c (both-true (digit c) (every digit s) (passes _ e 1) .0))
 
 amount-first : (v : List ℕ) → amountForm v ≡ true → Solid v
 unfolding amountForm
@@ -208,11 +251,19 @@ amount-first [] e = absurd (omega (arith, between-true 1 15 0 (passes _ e 0)))
 amount-first (c ∷ s) e = go (digit c) refl (between-true 1 15 (length (euros (c ∷ s))) (passes _ e 0) .0)
   where
     go : (b : Bool) → digit c ≡ b → 1 ≤ length (euros (c ∷ s)) → Solid (c ∷ s)
-    go true h g = digit-first c s h
+    go true h g = shown-first c s (digit-shown c h)
     go false h g = absurd (omega (arith, rw h at g))
 
+pub iban-solid : (v : List ℕ) → Passes (ibanGiven v) → Solid v
+unfolding ibanForm
+iban-solid v g = let f = iban-yes v g .0 in head-first v 15 34 (omega arith) (passes _ f 0) (passes _ f 1)
+
+pub identifier-solid : (v : List ℕ) → Passes (identifierGiven v) → Solid v
+unfolding identifierForm
+identifier-solid v g = let f = identifier-yes v g .0 in head-first v 8 35 (omega arith) (passes _ f 0) (passes _ f 1)
+
 pub value-solid : (k : Kind) {v w : List ℕ} → Slip k v w → Passes (kindGiven k v) → Solid v
-unfolding simpleGiven ibanForm identifierForm
+unfolding simpleGiven
 value-solid Count {v} s g = count-first v (count-form v g)
 value-solid Total {v} s g = amount-first v (amount-form theTotal v g)
 value-solid Amount {v} s g = amount-first v (amount-form anItem v g)
@@ -224,15 +275,5 @@ value-solid (Plain Text140) s g = absurd (unwatched (λ x h. h) s)
 value-solid (Plain Date) s g = absurd (unwatched (λ x h. h) s)
 value-solid (Plain Time) s g = absurd (unwatched (λ x h. h) s)
 value-solid (Plain Bic) s g = absurd (unwatched (λ x h. h) s)
-value-solid (Plain Iban) {v} s g = let f = iban-yes v g .0 in head-first v 15 34 (omega arith) (passes _ f 0) (passes _ f 1)
-value-solid (Plain Identifier) {v} s g = let f = identifier-yes v g .0 in head-first v 8 35 (omega arith) (passes _ f 0) (passes _ f 1)
-
-first-kept : (p : List ℕ) (a b : ℕ) (s t : List ℕ) → digit b ≡ true → Solid (p ++ (a ∷ s)) → Solid (p ++ (b ∷ t))
-first-kept [] a b s t d h = digit-first b t d
-first-kept (c ∷ p) a b s t d h =
-    let z : c ≡ h .first = cc (h .is) in
-    record { first = c; later = p ++ (b ∷ t); is = refl; shown = rw z (h .shown); inside = rw z (h .inside) }
-
-pub slip-solid : {k : Kind} {v w : List ℕ} → Slip k v w → Solid v → Solid w
-slip-solid (replaced p q a b at da db ne x y) h = rw y (first-kept p a b q q db (rw x at h))
-slip-solid (exchanged p q a b at da db ne x y) h = rw y (first-kept p a b (b ∷ q) (a ∷ q) db (rw x at h))
+value-solid (Plain Iban) {v} s g = iban-solid v g
+value-solid (Plain Identifier) {v} s g = identifier-solid v g

@@ -1,1 +1,1 @@
-// No code: one slip in the digits of an accepted message is refused.
+// No code: one slip in the digits or letters of an accepted message is refused.

@@ -1,19 +1,14 @@
 -- Whether a message starts `<?`, as the code asks.
 use mathlib.Core.Path.{_≡_, refl, sym}
-use mathlib.Core.Bool.{Bool, true, false}
+use mathlib.Core.Bool.{false}
 use mathlib.Core.List.{List, [], _∷_}
 use Prim.Native.Nat.{ℕ, _<_, _≤_}
 use native.Mathlib.Omega.{arith}
 use borrow.Author.Tests.{eq-eqb, ne-eqb}
 use lib.Dec.{eqb}
 use lib.ListN.{length, getD}
-use Rattle.text.specs.Truth.{both}
-use Rattle.text.proofs.Truths.{never, both-false}
+use Rattle.text.proofs.Truths.{never, both-false, both-yes}
 use Rattle.tags.specs.Tags.{startsQuestion}
-
-both-yes : (a : Bool) → both a true ≡ a
-both-yes true = refl
-both-yes false = refl
 
 pub too-short : (s : List ℕ) → length s < 2 → false ≡ startsQuestion s
 unfolding startsQuestion

@@ -12,11 +12,11 @@ abbrev pub below : ℕ → (ℕ → Bool) → Bool
 below zero f = true
 below (suc n) f = both (f n) (below n f)
 
-both-left : (a b : Bool) → T (both a b) → T a
+pub both-left : (a b : Bool) → T (both a b) → T a
 both-left true b t = tt
 both-left false b t = t
 
-both-right : (a b : Bool) → T (both a b) → T b
+pub both-right : (a b : Bool) → T (both a b) → T b
 both-right true b t = t
 both-right false b t = absurd t
 
