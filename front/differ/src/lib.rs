@@ -8,7 +8,7 @@
 //! - [`damage`]: damaged messages, with what is known of their refusal.
 //! - [`sweep`]: every byte and every part of small messages damaged; messages at the limits.
 //! - [`typed`]: the payment type in the header, in items, in both and in neither.
-//! - [`slips`]: every slip of an accepted message.
+//! - [`slips`], [`letters`]: every slip of an accepted message; those in the letters of accounts.
 //! - [`twins`]: accepted messages in pairs, which mean the same or do not.
 //! - [`spellings`]: every spelling of counts and amounts, white space at every place.
 //! - [`slow`]: a second judge, made from a table of the elements, to hold `plain` against.
@@ -31,6 +31,7 @@ pub mod face;
 pub mod form;
 pub mod handmade;
 pub mod kind;
+pub mod letters;
 pub mod message;
 pub mod random;
 pub mod slips;

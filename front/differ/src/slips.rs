@@ -1,9 +1,11 @@
 //! Every slip of an accepted message: one digit replaced by another, two unequal neighbouring digits
 //! exchanged, in a count, a total, an amount, an IBAN, or a creditor identifier outside positions 5
-//! to 7; an item left out; an item doubled. Each must be refused, and it is known how.
+//! to 7; an item left out; an item doubled. Each must be refused, and it is known how. And every slip
+//! in the letters of an IBAN: refused too, but for three pairs that must be accepted.
 
 use crate::damage::{Case, Known};
 use crate::kind::Kind;
+use crate::letters;
 use crate::message::{accepted, concat, Message, Plan, What};
 use crate::random::Random;
 use crate::value;
@@ -26,6 +28,7 @@ pub fn slips(seed: u64, case: u64, mut each: impl FnMut(u64, Case)) {
         number += 1;
     };
     in_values(&message, &mut give);
+    in_letters(&message, &mut give);
     left_out(&message, &mut give);
     doubled(&message, &mut give);
     assert!(number < NUMBERS * (case + 1), "each slip has a number of its own");
@@ -60,6 +63,23 @@ fn in_values(message: &Message, give: Give) {
                 exchanged(value, at, |slipped| with(slipped, "slip: digits exchanged"));
             }
         }
+    }
+}
+
+/// Every slip in the letters of every IBAN: what the checker says of it, the judge says.
+fn in_letters(message: &Message, give: Give) {
+    let (bytes, (count, cents)) = (message.bytes(), (message.count, message.cents));
+    for part in 0..message.parts.len() {
+        if message.parts[part].what != What::Value(Kind::Iban) {
+            continue;
+        }
+        let place = message.place(part);
+        letters::iban(&message.parts[part].bytes, &mut |slipped, slip, answer| {
+            let mut other = bytes.clone();
+            other[place..place + slipped.len()].copy_from_slice(&slipped);
+            let refused = |number| Known::Refused { number, place };
+            give(other, slip, answer.map_or_else(refused, |_| Known::Accepted { count, cents }));
+        });
     }
 }
 

@@ -3,6 +3,7 @@
 use crate::collapse;
 use crate::handmade::{handmade, EXAMPLES, UNLISTED};
 use crate::kind::{Kind, CHECKED};
+use crate::letters;
 use crate::random::Random;
 
 pub const CAPITALS: &[u8] = b"ABCDEFGHIJKLMNOPQRSTUVWXYZ";
@@ -536,7 +537,7 @@ pub fn case(seed: u64, case: u64) -> Case {
 
 /// Values beside each other, for every kind: each place of a valid value set to each byte, each byte
 /// put in at each place, each place left out; each length of one byte; IBANs of every pair of
-/// capitals and every length; white space at each place; the days of many months, all hours,
+/// capitals and every length; every slip in their letters; white space at each place; the days of many months, all hours,
 /// minutes, seconds and zones. `each` gets the number of the case too.
 pub fn sweep(seed: u64, mut each: impl FnMut(u64, Case)) {
     let mut number = 0;
@@ -546,6 +547,9 @@ pub fn sweep(seed: u64, mut each: impl FnMut(u64, Case)) {
     };
     sweep_countries(&mut Random::new(seed, 0x1BA4), |bytes, known| {
         give_known(Kind::Iban, bytes, "sweep: countries", Some(known));
+    });
+    letters::sweep(&mut Random::new(seed, 0x1E77), &mut |kind, bytes, sort, known| {
+        give_known(kind, bytes, sort, Some(known));
     });
     collapse::sweep(&mut Random::new(seed, 0x517E), &mut |kind, bytes, sort, known| {
         give_known(kind, bytes, sort, Some(known));

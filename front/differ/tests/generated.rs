@@ -1,12 +1,12 @@
 //! The generator makes what it promises: without these a run without differences would say little.
 
-use differ::ask::other_names;
+use differ::ask::{other_names, plain_check};
 use differ::damage::{self, Known};
 use differ::kind::{Kind, CHECKED};
 use differ::message::{Message, What};
 use differ::random::Random;
 use differ::value::{self, WHITE};
-use differ::{slips, spellings, sweep, twins, typed};
+use differ::{letters, slips, spellings, sweep, twins, typed};
 use std::collections::{BTreeMap, BTreeSet};
 
 /// The first messages that the gate's run of seed 1 is made from.
@@ -476,15 +476,44 @@ fn plain_forms_at_the_limits() {
     assert_eq!(growing.1 - growing.0, 38 + 3 * 10_001);
 }
 
-/// The same seed gives the same case, and every slip is known to be refused.
+/// Every sort of slip in letters, with every answer that it can have, and the plain judge answers so.
+#[test]
+fn every_slip_in_letters() {
+    let mut met = BTreeSet::new();
+    letters::sweep(&mut Random::new(1, 0), &mut |kind, bytes, sort, known| {
+        assert_eq!(plain_check(kind, &bytes), known, "{sort}: {}", bytes.escape_ascii());
+        met.insert((sort, known.err().unwrap_or(0)));
+    });
+    let due = [
+        ("slip: letter replaced", vec![8, 19]),
+        ("slip: small letter", vec![7]),
+        ("slip: letters exchanged", vec![8, 19]),
+        ("slip: digit and letter exchanged early", vec![7]),
+        ("slip: digit and letter exchanged", vec![8]),
+        ("slip: excepted pair exchanged", vec![0]),
+        ("slip: identifier's letter replaced", vec![0, 8]),
+        ("slip: identifier's neighbours exchanged", vec![0, 8]),
+        ("slip: identifier's positions 7 and 8", vec![0, 7, 8]),
+        ("slip: identifier's positions 5 to 7", vec![0]),
+        ("slip: identifier's positions 4 and 5", vec![7]),
+    ];
+    let due = due.iter().flat_map(|(sort, answers)| answers.iter().map(|&answer| (*sort, answer)));
+    assert_eq!(met, due.collect());
+}
+
+/// The same seed gives the same case, and every slip is known to be refused, but that of a pair that
+/// writes the same number in both orders.
 #[test]
 fn cases_can_be_made_again() {
     for number in 0..200 {
         assert_eq!(damage::case(3, number).bytes, damage::case(3, number).bytes);
     }
     let mut slipped = Vec::new();
-    slips::slips(3, 5, |number, case| slipped.push((number, case.bytes, case.known)));
-    assert!(slipped.iter().all(|(_, _, known)| matches!(known, Known::Refused { .. })));
+    slips::slips(3, 5, |number, case| {
+        let is_refused = matches!(case.known, Known::Refused { .. });
+        assert_eq!(is_refused, case.damage != "slip: excepted pair exchanged");
+        slipped.push((number, case.bytes, case.known));
+    });
     let mut again = slipped.into_iter();
     slips::slips(3, 5, |number, case| {
         assert_eq!(again.next(), Some((number, case.bytes, case.known)));
