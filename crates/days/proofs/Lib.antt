@@ -2,5 +2,4 @@ pub mod Open
 pub mod Total
 pub mod Kept
 pub mod Again
-pub mod Most
 pub mod Stays

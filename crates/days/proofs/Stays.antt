@@ -13,17 +13,18 @@ use Rattle.reading.specs.Verdict.{Judged, accepted, refused}
 use Rattle.reading.specs.Judged.{judged}
 use Rattle.naming.specs.Key.{Keyed, keyed}
 use Rattle.documents.specs.Document.{Each}
+use Rattle.items.specs.Sums.{mostSum}
+use Rattle.items.proofs.Sums.{bulk-most}
 use Rattle.book.specs.declared.Entry.{Entry}
 use Rattle.book.specs.Book.{Key, Book, mostOpen, openIn, hasKey, isOpen, sumOf, openTotal, isBook, without}
 use Rattle.book.specs.Calls.{Outcome, bulk, unfit, bulkIf, bulkOf, Call, enter, withdraw, called}
 use Rattle.days.specs.Day.{empty, after, Made, entering, withdrawing, AllMade}
 use Rattle.days.proofs.Open.{open-added, open-lessened}
 use Rattle.days.proofs.Kept.{Kept, Changed, same, more, less, changed, kept-called, is-book}
-use Rattle.days.proofs.Most.{mostBulk, bulk-most}
 
 -- a call that enters no more than a bulk can have
 abbrev Small : Call → Type 0
-Small (enter (bulk e)) = e .cents ≤ mostBulk
+Small (enter (bulk e)) = e .cents ≤ mostSum
 Small (enter (unfit n p)) = Unit {0}
 Small (withdraw k) = Unit {0}
 
@@ -38,9 +39,9 @@ made-small c (withdrawing k) = tt
 
 -- all open entries are small
 abbrev Smalls : List Entry → Type 0
-Smalls l = Each (λ e. e .cents ≤ mostBulk) l
+Smalls l = Each (λ e. e .cents ≤ mostSum) l
 
-smalls-more : (l : List Entry) (e : Entry) → Smalls l → e .cents ≤ mostBulk → Smalls (l ++ (e ∷ []))
+smalls-more : (l : List Entry) (e : Entry) → Smalls l → e .cents ≤ mostSum → Smalls (l ++ (e ∷ []))
 smalls-more [] e s h = (h, tt)
 smalls-more (x ∷ l) e s h = (s .0, smalls-more l e (s .1) h)
 
@@ -52,7 +53,7 @@ smalls-less k (x ∷ l) s = go (hasKey k x) (smalls-less k l (s .1))
     go true r = s .1
     go false r = (s .0, r)
 
-smalls-sum : (l : List Entry) → Smalls l → sumOf l ≤ length l * mostBulk
+smalls-sum : (l : List Entry) → Smalls l → sumOf l ≤ length l * mostSum
 smalls-sum [] s = omega arith
 smalls-sum (x ∷ l) s = omega (arith, smalls-sum l (s .1), s .0)
 

@@ -5,18 +5,18 @@ use mathlib.Core.Bool.{Bool, true, false, not}
 use mathlib.Core.List.{List, [], _∷_, _++_, append-nil, append-assoc}
 use Prim.Native.Nat.{ℕ, zero, suc, _+_, _≤_}
 use native.Mathlib.Omega.{arith}
-use borrow.Author.Tests.{eqb-true, eq-eqb, ltb-true, lt-ltb, leb-true, le-leb}
-use lib.Dec.{eqb, leb, ltb}
+use borrow.Author.Tests.{eqb-true, eq-eqb, ltb-true, lt-ltb}
+use lib.Dec.{eqb, ltb}
 use lib.ListN.{length, replicate}
 use Rattle.text.specs.Truth.{pick, between}
 use Rattle.text.specs.Quoted.{alike, decimal}
 use Rattle.text.proofs.Truths.{between-true}
 use Rattle.answers.specs.Given.{Given, yes, worth, refused as no, _else_, inOrder}
-use Rattle.codes.specs.declared.Element.the-variants.{SttlmMtd, SvcLvl, LclInstrm, SeqTp, ChrgBr, Prtry}
+use Rattle.codes.specs.declared.Element.the-variants.{LclInstrm}
 use Rattle.money.specs.declared.Range as range
 use Rattle.money.specs.Amount.{amountForm, cents, most, amountGiven}
 use Rattle.profile.specs.declared.Kind.{Kind}
-use Rattle.profile.specs.declared.Kind.the-variants.{Plain, Count, Total, Amount, Code}
+use Rattle.profile.specs.declared.Kind.the-variants.{Count, Total, Amount, Code}
 use Rattle.profile.specs.Limits.{mostItems}
 use Rattle.profile.specs.Kinds.{sameKind}
 use Rattle.profile.specs.Profile.{isType}
@@ -51,11 +51,9 @@ pub record Kept (ws : List What) : Type 0 where
   pub alike : Alike (valuesOf (Code LclInstrm) ws)
   -- 10,000 items at most
   pub few : itemsIn ws ≤ mostItems
-  -- the running sum is in the header total's range
-  pub summed : centsIn ws ≤ most range.the-variants.Total
 
 pub kept-none : Kept []
-kept-none = record { kinds = tt; typed = tt; alike = tt; few = omega arith; summed = omega arith }
+kept-none = record { kinds = tt; typed = tt; alike = tt; few = omega arith }
 
 pub kept-first : (a b : List What) → Kept (a ++ b) → Kept a
 kept-first a b h =
@@ -64,7 +62,6 @@ kept-first a b h =
       typed = as-first (λ x y. y ≡ not x) (typesIn a) (typesIn b) (rw (types-append a b) at (h .typed));
       alike = as-first (λ v w. w ≡ v) (valuesOf (Code LclInstrm) a) (valuesOf (Code LclInstrm) b) (rw (values-append (Code LclInstrm) a b) at (h .alike));
       few = omega (arith, h .few, items-append a b);
-      summed = omega (arith, h .summed, cents-append a b);
     }
 
 -- ---- one more: it is kept exactly where what is met passes, after what was read before
@@ -73,15 +70,10 @@ passes-both yes h p q = q
 passes-both (worth n) h p q = q
 passes-both (no n) h p q = absurd p
 
-both-pass : (g h : Given) → Passes (fitting g h) → Passes g × Passes h
+pub both-pass : (g h : Given) → Passes (fitting g h) → Passes g × Passes h
 both-pass yes h p = (tt, p)
 both-pass (worth n) h p = (tt, p)
 both-pass (no n) h p = absurd p
-
-rules-pass : (a b : Bool) (i j : ℕ) → Passes (inOrder (a else i ∷ b else j ∷ []) yes) → (a ≡ true) × (b ≡ true)
-rules-pass true true i j p = (refl, refl)
-rules-pass true false i j p = absurd p
-rules-pass false b i j p = absurd p
 
 rule-passes : (a : Bool) (i : ℕ) → Passes (inOrder (a else i ∷ []) yes) → a ≡ true
 rule-passes true i p = refl
@@ -110,7 +102,7 @@ unlike-last true b (x ∷ l) h = let e : b ≡ not x = each-rest (λ y. y ≡ no
     other true = refl
     other false = refl
 
--- LclInstrm, and the running sum, with one value more or none
+-- LclInstrm, with one value more or none
 alike-more : (b : Bool) (l : List (List ℕ)) (v : List ℕ) → Alike l → (b so alike (firstOf v l) v) ≡ true → Alike (l ++ pick b (v ∷ []) [])
 alike-more false l v h e = rw (append-nil l) h
 alike-more true [] v h e = tt
@@ -120,14 +112,6 @@ alike-last : (b : Bool) (l : List (List ℕ)) (v : List ℕ) → Alike (l ++ pic
 alike-last false l v h = refl
 alike-last true [] v h = alike-itself v
 alike-last true (x ∷ l) v h = let e : v ≡ x = each-rest (λ w. w ≡ x) l (v ∷ []) h .0 in rw e (alike-itself x)
-
-sum-more : (b : Bool) (x y : ℕ) (v : List ℕ) → x ≤ y → (b so leb (x + cents v) y) ≡ true → x + sumOf (pick b (v ∷ []) []) ≤ y
-sum-more false x y v h e = omega arith
-sum-more true x y v h e = omega (arith, leb-true (x + cents v) y e)
-
-sum-last : (b : Bool) (x y : ℕ) (v : List ℕ) → x + sumOf (pick b (v ∷ []) []) ≤ y → (b so leb (x + cents v) y) ≡ true
-sum-last false x y v h = refl
-sum-last true x y v h = le-leb (x + cents v) y (omega arith)
 
 module _ (a : List What) where
   pub values-more : (j : Kind) (w : What) → valuesOf j (a ++ (w ∷ [])) ≡ valuesOf j a ++ ofKind j w
@@ -151,7 +135,6 @@ module _ (a : List What) where
         typed = t;
         alike = rw (values-more (Code LclInstrm) w, v (Code LclInstrm), append-nil (valuesOf (Code LclInstrm) a)) (h .alike);
         few = omega (arith, h .few, items-append a (w ∷ []), i);
-        summed = rw (sums-more w, v Amount) (omega (arith, h .summed));
       }
 
   pub kept-more : (w : What) → Kept a → Passes (weighed a w) → Kept (a ++ (w ∷ []))
@@ -168,7 +151,6 @@ module _ (a : List What) where
         typed = untyped itemBegins refl h;
         alike = rw (values-more (Code LclInstrm) itemBegins, append-nil (valuesOf (Code LclInstrm) a)) (h .alike);
         few = omega (arith, items-append a (itemBegins ∷ []), below (ltb (itemsIn a) mostItems) refl p);
-        summed = rw (sums-more itemBegins) (omega (arith, h .summed));
       }
     where
       below : (b : Bool) → ltb (itemsIn a) mostItems ≡ b → Passes (inOrder (b else 12 ∷ []) yes) → suc (itemsIn a) ≤ mostItems
@@ -176,14 +158,12 @@ module _ (a : List What) where
       below false e p = absurd p
   kept-more (value k f v) h p =
       let b = both-pass (kindGiven k v) (inOrder (rules a (value k f v)) yes) p in
-      let r = rules-pass (sameKind k (Code LclInstrm) so alike (firstOf v (valuesOf (Code LclInstrm) a)) v)
-      (sameKind k Amount so leb (centsIn a + cents v) (most range.the-variants.Total)) 11 13 (b .1) in
+      let r = rule-passes (sameKind k (Code LclInstrm) so alike (firstOf v (valuesOf (Code LclInstrm) a)) v) 11 (b .1) in
       record {
         kinds = each-both (λ w. Passes (ownKind w)) a (value k f v ∷ []) (h .kinds) (b .0, tt);
         typed = untyped (value k f v) refl h;
-        alike = rw (values-more (Code LclInstrm) (value k f v)) (alike-more (sameKind k (Code LclInstrm)) (valuesOf (Code LclInstrm) a) v (h .alike) (r .0));
+        alike = rw (values-more (Code LclInstrm) (value k f v)) (alike-more (sameKind k (Code LclInstrm)) (valuesOf (Code LclInstrm) a) v (h .alike) r);
         few = omega (arith, h .few, items-append a (value k f v ∷ []));
-        summed = rw (sums-more (value k f v)) (sum-more (sameKind k Amount) (centsIn a) (most range.the-variants.Total) v (h .summed) (r .1));
       }
 
   pub more-kept : (w : What) → Kept (a ++ (w ∷ [])) → Passes (weighed a w)
@@ -194,10 +174,7 @@ module _ (a : List What) where
   more-kept (value k f v) h =
       passes-both (kindGiven k v) (inOrder (rules a (value k f v)) yes)
       (each-rest (λ w. Passes (ownKind w)) a (value k f v ∷ []) (h .kinds) .0)
-      (rw (
-        alike-last (sameKind k (Code LclInstrm)) (valuesOf (Code LclInstrm) a) v (rw (values-more (Code LclInstrm) (value k f v)) at (h .alike)),
-        sum-last (sameKind k Amount) (centsIn a) (most range.the-variants.Total) v (rw (sums-more (value k f v)) at (h .summed)),
-      ) tt)
+      (rw (alike-last (sameKind k (Code LclInstrm)) (valuesOf (Code LclInstrm) a) v (rw (values-more (Code LclInstrm) (value k f v)) at (h .alike))) tt)
 
 -- ---- entries noted one by one, after others
 abbrev pub listedAll : List Entry → List Entry → Reading (List Entry)
@@ -309,19 +286,7 @@ module _ (f : List ℕ → ℕ) (fs : List (List ℕ) → List ℕ) (nil : fs []
       let z : f x ∷ f y ∷ fs l ≡ n ∷ [] = ap (λ (t : List ℕ). f x ∷ t) (sym (more y l)) ∙ sym (more x (y ∷ l)) ∙ e in
       never (cc)
 
--- ---- a total is in its range: so the running sum is, where the sum is the total
-is-total : (k : Kind) → sameKind k Total ≡ true → k ≡ Total
-is-total Total e = refl
-is-total (Plain j) e = never (cc)
-is-total Count e = never (cc)
-is-total Amount e = never (cc)
-is-total (Code SttlmMtd) e = never (cc)
-is-total (Code SvcLvl) e = never (cc)
-is-total (Code LclInstrm) e = never (cc)
-is-total (Code SeqTp) e = never (cc)
-is-total (Code ChrgBr) e = never (cc)
-is-total (Code Prtry) e = never (cc)
-
+-- ---- an amount that passed is in its range
 pub in-range : (r : range.Range) (v : List ℕ) → Passes (amountGiven r v) → cents v ≤ most r
 unfolding amountGiven
 in-range r v = go (amountForm v) (between 1 (most r) (cents v)) refl
@@ -330,19 +295,6 @@ in-range r v = go (amountForm v) (between 1 (most r) (cents v)) refl
     go true true e h = between-true 1 (most r) (cents v) e .1
     go true false e h = absurd h
     go false b e h = absurd h
-
-pub totals-most : (ws : List What) → Each (λ w. Passes (ownKind w)) ws → Each (λ c. c ≤ most range.the-variants.Total) (amounts (valuesOf Total ws))
-totals-most [] h = tt
-totals-most (itemBegins ∷ l) h = totals-most l (h .1)
-totals-most (itemEnds ∷ l) h = totals-most l (h .1)
-totals-most (there n ∷ l) h = totals-most l (h .1)
-totals-most (absent n ∷ l) h = totals-most l (h .1)
-totals-most (value k f v ∷ l) h = go (sameKind k Total) refl (totals-most l (h .1))
-  where
-    go : (b : Bool) → sameKind k Total ≡ b → Each (λ c. c ≤ most range.the-variants.Total) (amounts (valuesOf Total l))
-        → Each (λ c. c ≤ most range.the-variants.Total) (amounts (pick b (v ∷ []) [] ++ valuesOf Total l))
-    go true e r = (in-range range.the-variants.Total v (rw (is-total k e) at (h .0)), r)
-    go false e r = r
 
 -- ---- the payment type stands in the header or in every item, exactly where each item has it unlike the header and it may stand once in the header and in each item
 all-as : (b : Bool) (l : List Bool) → Each (λ y. y ≡ b) l → l ≡ replicate (length l) b
@@ -371,16 +323,15 @@ unlike-stands ws n = go (typesIn ws) refl n
 
 -- ---- the profile holds of a list exactly where its rules are kept and its header says what stands in it
 pub holds-kept : (ws : List What) (n c : ℕ) → Holds ws n c → Kept ws × Compared ws n c
-holds-kept ws n c h =
-    let z : Each (λ x. x ≤ most range.the-variants.Total) (c ∷ []) = rw (h .total) at (totals-most ws (h .kinds)) in (
-      record { kinds = h .kinds; typed = stands-unlike ws (h .type); alike = h .alike; few = omega (arith, h .items, h .few); summed = omega (arith, h .cents, z .0) },
-      record {
-        items = h .items;
-        count = once-said decimal numbers refl (λ v l. refl) (valuesOf Count ws) n (h .count);
-        sum = h .cents;
-        total = once-said cents amounts refl (λ v l. refl) (valuesOf Total ws) c (h .total);
-      },
-    )
+holds-kept ws n c h = (
+  record { kinds = h .kinds; typed = stands-unlike ws (h .type); alike = h .alike; few = omega (arith, h .items, h .few) },
+  record {
+    items = h .items;
+    count = once-said decimal numbers refl (λ v l. refl) (valuesOf Count ws) n (h .count);
+    sum = h .cents;
+    total = once-said cents amounts refl (λ v l. refl) (valuesOf Total ws) c (h .total);
+  },
+)
 
 pub kept-holds : (ws : List What) (n c : ℕ) → OneHeader ws → Kept ws → Compared ws n c → Holds ws n c
 kept-holds ws n c o k h =

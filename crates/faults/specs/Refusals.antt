@@ -28,7 +28,7 @@ ofForm = 2 ∷ 3 ∷ 4 ∷ 6 ∷ []
 
 -- what is said: a value of its kind, an item, what was said before (and 4, where the payment type is missing in both, header and item)
 abbrev pub ofWhatIsSaid : List ℕ
-ofWhatIsSaid = 7 ∷ 19 ∷ 8 ∷ 9 ∷ 10 ∷ 11 ∷ 12 ∷ 13 ∷ 23 ∷ []
+ofWhatIsSaid = 7 ∷ 19 ∷ 8 ∷ 9 ∷ 10 ∷ 11 ∷ 12 ∷ 23 ∷ []
 
 abbrev pub whileReading : List ℕ
 whileReading = ofForm ++ ofWhatIsSaid

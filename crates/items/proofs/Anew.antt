@@ -4,25 +4,23 @@ use mathlib.Core.Bool.{Bool, true, false}
 use mathlib.Core.List.{List, [], _∷_, _++_, append-nil, append-assoc}
 use Prim.Native.Nat.{ℕ, _+_, _≤_}
 use native.Mathlib.Omega.{arith}
-use borrow.Author.Tests.{ltb-true, lt-ltb, leb-true, le-leb}
-use lib.Dec.{leb, ltb}
+use borrow.Author.Tests.{ltb-true, lt-ltb}
+use lib.Dec.{ltb}
 use lib.ListN.{length, length-append}
 use Rattle.text.specs.Truth.{pick}
 use Rattle.text.specs.Quoted.{alike}
 use Rattle.answers.specs.Given.{Given, yes, worth, refused as no, _else_, inOrder}
 use Rattle.codes.specs.declared.Element.the-variants.{LclInstrm}
-use Rattle.money.specs.declared.Range.the-variants.{Total as theTotal}
-use Rattle.money.specs.Amount.{cents, most}
-use Rattle.profile.specs.declared.Kind.the-variants.{Amount, Code}
+use Rattle.profile.specs.declared.Kind.the-variants.{Code}
 use Rattle.profile.specs.Limits.{mostItems}
 use Rattle.profile.specs.Kinds.{sameKind}
 use Rattle.profile.specs.Profile.{isType}
 use Rattle.kinds.specs.Given.{kindGiven}
 use Rattle.reading.specs.Trace.{What, itemBegins, itemEnds, there, absent, value, Entry, Trace, met, upTo, fault}
 use Rattle.reading.specs.Noted.{on, Ended, noted}
-use Rattle.reading.specs.Rules.{itemsIn, ofKind, valuesOf, centsIn, ofType, typesIn, firstOf, _so_, unlikeFirst, fitting, weighed}
+use Rattle.reading.specs.Rules.{itemsIn, ofKind, valuesOf, ofType, typesIn, firstOf, _so_, unlikeFirst, fitting, weighed}
 use Rattle.reading.specs.Judged.{whats, orRefused, listed}
-use Rattle.reading.proofs.Lists.{whats-append, items-append, values-append, types-append, cents-append, alike-itself, alike-same}
+use Rattle.reading.proofs.Lists.{whats-append, items-append, values-append, types-append, alike-itself, alike-same}
 use Rattle.reading.proofs.Flat.{never, flat, Goes, goes-flat, through, taken}
 
 -- ---- an answer that lets pass
@@ -41,16 +39,13 @@ of-fine yes p s h = refl
 of-fine (worth n) p s h = refl
 of-fine (no n) p s h = absurd h
 
--- two rules that are as strict
-stricter : (g : Given) (a b c d : Bool) → (a ≡ true → c ≡ true) → (b ≡ true → d ≡ true) → Fine (fitting g (inOrder (a else 11 ∷ b else 13 ∷ []) yes))
-    → Fine (fitting g (inOrder (c else 11 ∷ d else 13 ∷ []) yes)) × (a ≡ true)
-stricter (no n) a b c d h k e = absurd e
-stricter yes false b c d h k e = absurd e
-stricter yes true false c d h k e = absurd e
-stricter yes true true c d h k e = (rw (h refl, k refl) tt, refl)
-stricter (worth n) false b c d h k e = absurd e
-stricter (worth n) true false c d h k e = absurd e
-stricter (worth n) true true c d h k e = (rw (h refl, k refl) tt, refl)
+-- a rule that is as strict
+stricter : (g : Given) (a c : Bool) → (a ≡ true → c ≡ true) → Fine (fitting g (inOrder (a else 11 ∷ []) yes)) → Fine (fitting g (inOrder (c else 11 ∷ []) yes)) × (a ≡ true)
+stricter (no n) a c h e = absurd e
+stricter yes false c h e = absurd e
+stricter yes true c h e = (rw (h refl) tt, refl)
+stricter (worth n) false c h e = absurd e
+stricter (worth n) true c h e = (rw (h refl) tt, refl)
 
 so-also : (c x y : Bool) → (x ≡ true → y ≡ true) → (c so x) ≡ true → (c so y) ≡ true
 so-also true x y h e = h e
@@ -99,18 +94,12 @@ module _ (pre ws : List What) (g : Lets (services pre) (services ws)) where
       joined : services (pre ++ ws) ≡ services pre ++ services ws
       joined = values-append (Code LclInstrm) pre ws
 
-      lower : leb (centsIn (pre ++ ws) + cents v) (most theTotal) ≡ true → leb (centsIn ws + cents v) (most theTotal) ≡ true
-      lower e = le-leb (centsIn ws + cents v) (most theTotal) (omega (arith, cents-append pre ws, leb-true (centsIn (pre ++ ws) + cents v) (most theTotal) e))
-
       x : Fine (weighed ws (value k f v)) × ((sameKind k (Code LclInstrm) so alike (firstOf v (services (pre ++ ws))) v) ≡ true)
       x =
           stricter (kindGiven k v)
           (sameKind k (Code LclInstrm) so alike (firstOf v (services (pre ++ ws))) v)
-          (sameKind k Amount so leb (centsIn (pre ++ ws) + cents v) (most theTotal))
           (sameKind k (Code LclInstrm) so alike (firstOf v (services ws)) v)
-          (sameKind k Amount so leb (centsIn ws + cents v) (most theTotal))
           (so-also (sameKind k (Code LclInstrm)) (alike (firstOf v (services (pre ++ ws))) v) (alike (firstOf v (services ws)) v) (λ e. g v (rw joined at e)))
-          (so-also (sameKind k Amount) (leb (centsIn (pre ++ ws) + cents v) (most theTotal)) (leb (centsIn ws + cents v) (most theTotal)) lower)
           h
 
       served : (i : Bool) → (i so alike (firstOf v (services (pre ++ ws))) v) ≡ true → Lets (services pre) (services ws ++ pick i (v ∷ []) [])

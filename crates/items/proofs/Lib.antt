@@ -5,3 +5,5 @@ pub mod Stands
 pub mod Chains
 pub mod Accepted
 pub mod Places
+pub mod Room
+pub mod Sums

@@ -3,3 +3,4 @@ pub mod Walk
 pub mod Sure
 pub mod Chain
 pub mod Places
+pub mod Sums

@@ -19,7 +19,7 @@ pub enum Range {
     Total,
 }
 
-// The most cents of the header total, and of the running sum.
+// The most cents of the header total.
 pub const MOST_TOTAL: u64 = 99_999_999_999_999_999;
 
 // The number that at most 15 digits write.

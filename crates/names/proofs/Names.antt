@@ -81,7 +81,7 @@ module _ (f : text.Field) (x v w y : List ℕ) (legal : textGiven f v ≡ yes) (
   notes u = noted listed (message (named f x u y)) []
 
   both-noted : sim.Alike (sim.Beside (Near Fit v w)) (notes v) (notes w)
-  both-noted = noted-near Fit v w (unlike (Code code.the-variants.LclInstrm) refl) (unlike Amount refl) passing beside [] [] none
+  both-noted = noted-near Fit v w (unlike (Code code.the-variants.LclInstrm) refl) passing beside [] [] none
 
   compared-same : (l l′ : List Entry) → Near Fit v w l l′ → compared l ≡ compared l′
   unfolding compared

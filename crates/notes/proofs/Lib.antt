@@ -1,3 +1,4 @@
 pub mod Notings
 pub mod Stays
 pub mod Sums
+pub mod Room

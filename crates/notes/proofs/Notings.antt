@@ -6,7 +6,7 @@ use Prim.Native.Nat.{ℕ, zero, suc, _+_, _-_, _<_, _≤_}
 use Prim.Native.String.{String}
 use native.Mathlib.Omega.{arith}
 use native.Mathlib.Numerals.{add-one}
-use borrow.Author.Tests.{le-leb, lt-leb, eq-eqb, ne-eqb, lt-ltb, le-ltb}
+use borrow.Author.Tests.{eq-eqb, ne-eqb, lt-ltb, le-ltb}
 use lib.Dec.{eqb}
 use lib.ListN.{length}
 use Rattle.text.specs.Quoted.{is}
@@ -17,8 +17,6 @@ use Rattle.answers.specs.Given.{Given, worth, refused, given, numberOf, valueOf
 use Rattle.codes.specs.declared.Element.{Element}
 use Rattle.codes.specs.declared.Element.the-variants.{SttlmMtd, SvcLvl, LclInstrm, SeqTp, ChrgBr, Prtry}
 use Rattle.codes.specs.Listed.{codesOf, orElse, place, codeGiven}
-use Rattle.money.specs.declared.Range as range
-use Rattle.money.specs.Amount.{most}
 use Rattle.profile.specs.declared.Kind.{Kind}
 use Rattle.profile.specs.declared.Kind.the-variants.{Plain, Count, Total, Amount, Code}
 use Rattle.profile.specs.declared.Field.{Field}
@@ -28,7 +26,7 @@ use Rattle.reading.specs.Noted.{Reading, on, stop, onward, Ended}
 use Rattle.reading.proofs.Flat.{never}
 use Rattle.notes.specs.declared.Notes.{Notes}
 use Rattle.notes.specs.declared.State.{State}
-use Rattle.notes.specs.Notes.{onGiven, withItem, typeNumber, withType, withCents, withService, withStart, addedUp, serviceKept, kept, Listed, valueNoted, itemNoted, typeRefusal, typeNoted}
+use Rattle.notes.specs.Notes.{onGiven, withItem, typeNumber, withType, withService, withStart, serviceKept, kept, Listed, valueNoted, itemNoted, typeRefusal, typeNoted}
 use Rattle.notes.specs.Steps.{staying}
 
 abbrev pub here : ℕ → Notes → Ended Notes
@@ -57,16 +55,6 @@ module _ (b : Bool) (i p : ℕ) (n : Notes) (mine : i ≡ typeNumber b) where
   pub other-type : (n .typed ≡ 0 → ⊥) → (n .typed ≡ i → ⊥) → on (here p n) ≡ staying p (typeNoted b p n)
   unfolding typeNoted
   other-type h g = rw (ne-eqb (n .typed) 0 h, ne-eqb (n .typed) (typeNumber b) (λ e. g (e ∙ sym mine)))
-
--- ---- the running sum, as the code asks for it
-module _ (c p : ℕ) (n : Notes) where
-  pub sum-over : most range.the-variants.Total < n .sum + c → stop 13 p ≡ staying p (addedUp c p n)
-  unfolding addedUp
-  sum-over h = rw (lt-leb (n .sum + c) (most range.the-variants.Total) h)
-
-  pub sum-within : n .sum + c ≤ most range.the-variants.Total → on (here p (withCents c n)) ≡ staying p (addedUp c p n)
-  unfolding addedUp
-  sum-within h = rw (le-leb (n .sum + c) (most range.the-variants.Total) h)
 
 -- ---- the service
 module _ (i p : ℕ) (n : Notes) where

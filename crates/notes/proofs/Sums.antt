@@ -7,7 +7,7 @@ use Prim.Native.String.{String}
 use native.Mathlib.Nat.{zero-add}
 use native.Mathlib.Omega.{arith}
 use borrow.Author.Tests.{eqb-true, eqb-false, ne-eqb}
-use lib.Dec.{eqb, leb, ltb}
+use lib.Dec.{eqb, ltb}
 use lib.ListN.{length, getD, set, replicate, length-set}
 use lib.Seq.{getD-set-same, getD-set-other}
 use Rattle.text.specs.Truth.{either, pick, between}
@@ -345,7 +345,7 @@ module _ (es : List Entry) (n : Notes) (r : Summed es n) where
         (rw (s, none (valuesOf lclInstrm (whats es))) (r .service))
 
     plain-keeps : (k : Kind) (g : Given) → Summed (es ++ (entry k ∷ [])) (withStart f p n)
-        → Alike Summed (orRefused (fitting g yes) p (es ++ (entry k ∷ []))) (onGiven g p (λ c. on (withStart f p n)))
+        → Alike Summed (orRefused (fitting g yes) p (es ++ (entry k ∷ []))) (onward (onGiven g p (λ c. on (withStart f p n))) on)
     plain-keeps k yes h = going h
     plain-keeps k (worth c) h = going h
     plain-keeps k (no i) h = stopped
@@ -355,7 +355,7 @@ module _ (es : List Entry) (n : Notes) (r : Summed es n) where
     count-keeps = go (countForm v)
       where
         go : (b : Bool) → Alike Summed (orRefused (fitting (inOrder (b else 7 ∷ []) (worth (decimal v))) yes) p (es ++ (entry Count ∷ [])))
-            (onGiven (inOrder (b else 7 ∷ []) (worth (decimal v))) p (λ c. on (withStart f p (withNumber c p n))))
+            (onward (onGiven (inOrder (b else 7 ∷ []) (worth (decimal v))) p (λ c. on (withStart f p (withNumber c p n)))) on)
         go true =
             going (kept-summed Count (withNumber (decimal v) p n) refl refl refl refl
             (rw (none (valuesOf Amount (whats es))) (r .cents)) (rw (none (valuesOf Amount (whats es))) (r .sum))
@@ -369,7 +369,7 @@ module _ (es : List Entry) (n : Notes) (r : Summed es n) where
     total-keeps = go (amountForm v) (between 1 (most theTotal) (worthOf v))
       where
         go : (a b : Bool) → Alike Summed (orRefused (fitting (inOrder (a else 7 ∷ b else 9 ∷ []) (worth (worthOf v))) yes) p (es ++ (entry Total ∷ [])))
-            (onGiven (inOrder (a else 7 ∷ b else 9 ∷ []) (worth (worthOf v))) p (λ c. on (withStart f p (withTotal c p n))))
+            (onward (onGiven (inOrder (a else 7 ∷ b else 9 ∷ []) (worth (worthOf v))) p (λ c. on (withStart f p (withTotal c p n)))) on)
         go true true =
             going (kept-summed Total (withTotal (worthOf v) p n) refl refl refl refl
             (rw (none (valuesOf Amount (whats es))) (r .cents)) (rw (none (valuesOf Amount (whats es))) (r .sum))
@@ -380,26 +380,20 @@ module _ (es : List Entry) (n : Notes) (r : Summed es n) where
         go false b = stopped
 
     amount-keeps : Keeping Amount
-    unfolding valueNoted amountGiven addedUp
-    amount-keeps = rw (← r .sum) (go (amountForm v) (between 1 (most anItem) (worthOf v)))
+    unfolding valueNoted amountGiven
+    amount-keeps = go (amountForm v) (between 1 (most anItem) (worthOf v))
       where
-        told : Summed (es ++ (entry Amount ∷ [])) (withStart f p (withCents (worthOf v) n))
+        told : Summed (es ++ (entry Amount ∷ [])) (addedUp Amount (withStart f p (withCents (worthOf v) n)))
         told =
-            kept-summed Amount (withCents (worthOf v) n) refl refl refl refl
+            kept-summed Amount (addedUp Amount (withCents (worthOf v) n)) refl refl refl refl
             (rw (last-more [] (valuesOf Amount (whats es)) v)) (omega (arith, r .sum, sum-append (valuesOf Amount (whats es)) (v ∷ [])))
             (rw (none (valuesOf Count (whats es))) (r .number)) (r .numberat)
             (rw (none (valuesOf Total (whats es))) (r .total)) (r .totalat)
             (rw (none (valuesOf lclInstrm (whats es))) (r .service))
 
-        summed : (c : Bool) → Alike Summed (orRefused (inOrder (c else 13 ∷ []) yes) p (es ++ (entry Amount ∷ [])))
-            (onward (pick c (on (withCents (worthOf v) n)) (stop 13 p)) (λ u. on (withStart f p u)))
-        summed true = going told
-        summed false = stopped
-
-        go : (a b : Bool) → Alike Summed (orRefused (fitting (inOrder (a else 7 ∷ b else 9 ∷ []) (worth (worthOf v))) (inOrder (leb (n .sum + worthOf v) (most theTotal) else 13 ∷ []) yes)) p (es ++ (entry Amount ∷ [])))
-            (onGiven (inOrder (a else 7 ∷ b else 9 ∷ []) (worth (worthOf v))) p
-            (λ c. onward (pick (leb (n .sum + c) (most theTotal)) (on (withCents c n)) (stop 13 p)) (λ u. on (withStart f p u))))
-        go true true = summed (leb (n .sum + worthOf v) (most theTotal))
+        go : (a b : Bool) → Alike Summed (orRefused (fitting (inOrder (a else 7 ∷ b else 9 ∷ []) (worth (worthOf v))) yes) p (es ++ (entry Amount ∷ [])))
+            (onward (onGiven (inOrder (a else 7 ∷ b else 9 ∷ []) (worth (worthOf v))) p (λ c. on (withStart f p (withCents c n)))) (λ u. on (addedUp Amount u)))
+        go true true = going told
         go true false = stopped
         go false b = stopped
 
@@ -420,7 +414,7 @@ module _ (es : List Entry) (n : Notes) (r : Summed es n) where
 
         serving : (i : ℕ) → codeGiven LclInstrm v ≡ worth i → (b : Bool) → either (eqb (n .service) 0) (eqb (n .service) (suc i)) ≡ b
             → Alike Summed (orRefused (inOrder (b else 11 ∷ []) yes) p (es ++ (entry lclInstrm ∷ [])))
-            (onward (pick b (on (withService (suc i) n)) (stop 11 p)) (λ u. on (withStart f p u)))
+            (onward (onward (pick b (on (withService (suc i) n)) (stop 11 p)) (λ u. on (withStart f p u))) on)
         serving i e true z =
             going (kept-summed lclInstrm (withService (suc i) n) refl refl refl refl
             (rw (none (valuesOf Amount (whats es))) (r .cents)) (rw (none (valuesOf Amount (whats es))) (r .sum))
@@ -431,7 +425,7 @@ module _ (es : List Entry) (n : Notes) (r : Summed es n) where
 
         go : (g : Given) → codeGiven LclInstrm v ≡ g
             → Alike Summed (orRefused (fitting g (inOrder (alike (firstOf v ss) v else 11 ∷ []) yes)) p (es ++ (entry lclInstrm ∷ [])))
-            (onGiven g p (λ i. onward (pick (either (eqb (n .service) 0) (eqb (n .service) (suc i))) (on (withService (suc i) n)) (stop 11 p)) (λ u. on (withStart f p u))))
+            (onward (onGiven g p (λ i. onward (pick (either (eqb (n .service) 0) (eqb (n .service) (suc i))) (on (withService (suc i) n)) (stop 11 p)) (λ u. on (withStart f p u)))) on)
         go yes e = never (code-no v e)
         go (worth i) e = rw (← asked ss (n .service) i (r .service) e) (serving i e (either (eqb (n .service) 0) (eqb (n .service) (suc i))) refl)
         go (no i) e = stopped

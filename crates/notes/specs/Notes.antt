@@ -3,13 +3,11 @@ use Prim.Native.Nat.{ℕ, suc, _+_, _≤_}
 use mathlib.Core.Bool.{Bool, true, false}
 use mathlib.Core.List.{List}
 use lib.ListN.{set, replicate}
-use lib.Dec.{eqb, leb, ltb}
+use lib.Dec.{eqb, ltb}
 use Rattle.text.specs.Truth.{either, pick}
 use Rattle.answers.specs.Given.{Given, yes, worth, refused}
 use Rattle.codes.specs.declared.Element.{Element}
 use Rattle.codes.specs.declared.Element.the-variants.{SttlmMtd, SvcLvl, LclInstrm, SeqTp, ChrgBr, Prtry}
-use Rattle.money.specs.declared.Range as range
-use Rattle.money.specs.Amount.{most}
 use Rattle.profile.specs.declared.Kind.{Kind}
 use Rattle.profile.specs.declared.Kind.the-variants.{Plain, Count, Total, Amount, Code}
 use Rattle.profile.specs.declared.Field.{Field}
@@ -85,13 +83,29 @@ withTotal c p n = record {
   starts = n .starts;
 }
 
--- an item's cents, and the running sum
+-- an item's cents
 abbrev pub withCents : ℕ → Notes → Notes
 withCents c n = record {
   count = n .count;
   first = n .first;
-  sum = n .sum + c;
+  sum = n .sum;
   cents = c;
+  number = n .number;
+  numberat = n .numberat;
+  total = n .total;
+  totalat = n .totalat;
+  typed = n .typed;
+  service = n .service;
+  starts = n .starts;
+}
+
+-- the running sum
+abbrev pub withSum : ℕ → Notes → Notes
+withSum s n = record {
+  count = n .count;
+  first = n .first;
+  sum = s;
+  cents = n .cents;
   number = n .number;
   numberat = n .numberat;
   total = n .total;
@@ -157,9 +171,6 @@ withStart f p n = record {
 }
 
 -- ---- what is noted of a value that passed its kind's checker with this worth, at this place
-unfoldable pub addedUp : ℕ → ℕ → Notes → Reading Notes
-addedUp c p n = pick (leb (n .sum + c) (most range.the-variants.Total)) (on (withCents c n)) (stop 13 p)
-
 unfoldable pub serviceKept : ℕ → ℕ → Notes → Reading Notes
 serviceKept i p n = pick (either (eqb (n .service) 0) (eqb (n .service) (suc i))) (on (withService (suc i) n)) (stop 11 p)
 
@@ -175,7 +186,7 @@ abbrev pub kept : Kind → ℕ → ℕ → Notes → Reading Notes
 kept (Plain s) c p n = on n
 kept Count c p n = on (withNumber c p n)
 kept Total c p n = on (withTotal c p n)
-kept Amount c p n = addedUp c p n
+kept Amount c p n = on (withCents c n)
 kept (Code e) c p n = coded e c p n
 
 -- a code's worth is its place in a list of at most four
@@ -194,6 +205,14 @@ onGiven (refused n) p f = stop n p
 
 unfoldable pub valueNoted : Kind → Field → List ℕ → ℕ → Notes → Reading Notes
 valueNoted k f v p n = onGiven (kindGiven k v) p (λ c. onward (kept k c p n) (λ u. on (withStart f p u)))
+
+-- the running sum, with the cents of an amount that was noted
+abbrev pub addedUp : Kind → Notes → Notes
+addedUp (Plain s) n = n
+addedUp Count n = n
+addedUp Total n = n
+addedUp Amount n = withSum (n .sum + n .cents) n
+addedUp (Code e) n = n
 
 unfoldable pub itemNoted : ℕ → Notes → Reading Notes
 itemNoted p n = pick (ltb (n .count) mostItems) (on (withItem p n)) (stop 12 p)
@@ -214,7 +233,7 @@ whatNoted itemBegins p n = itemNoted p n
 whatNoted itemEnds p n = on n
 whatNoted (there s) p n = pick (isType s) (typeNoted true p n) (on n)
 whatNoted (absent s) p n = pick (isType s) (typeNoted false p n) (on n)
-whatNoted (value k f v) p n = valueNoted k f v p n
+whatNoted (value k f v) p n = onward (valueNoted k f v p n) (λ u. on (addedUp k u))
 
 abbrev pub inNotes : Noting Notes
 inNotes e n = whatNoted (e .what) (e .place) n

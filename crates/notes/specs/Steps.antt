@@ -1,8 +1,8 @@
 -- What a step of the code means, and the bounds that it keeps.
-use Prim.Native.Nat.{ℕ, _≤_}
+use Prim.Native.Nat.{ℕ, _+_, _*_, _≤_}
 use mathlib.Core.List.{List}
 use lib.ListN.{length}
-use Rattle.money.specs.declared.Range as range
+use Rattle.money.specs.declared.Range.the-variants.{Item as anItem}
 use Rattle.money.specs.Amount.{most}
 use Rattle.profile.specs.Limits.{mostBytes, mostItems}
 use Rattle.reading.specs.Trace.{Trace}
@@ -37,7 +37,10 @@ pub record Good (m : List ℕ) (s : Ended Notes) : Type 0 where
   pub small : length m ≤ mostBytes
   pub within : s .at ≤ length m
   pub counted : s .notes .count ≤ mostItems
-  pub summed : s .notes .sum ≤ most range.the-variants.Total
+
+-- there is room for x amounts more, where each item that has begun makes room for one
+abbrev pub Room : ℕ → Notes → Type 0
+Room x n = n .sum + x * most anItem ≤ n .count * most anItem
 
 -- a reading from a place on: it goes on there or later, and stops within the message
 abbrev pub Fine : List ℕ → ℕ → Reading (Ended Notes) → Type 0

@@ -3,13 +3,11 @@ use codes::Element;
 use profile::Field;
 use profile::Kind;
 ghost use mathlib.Core.Path.{_≡_};
-ghost use Prim.Native.Nat.{_+_, _≤_, _<_};
-ghost use Rattle.money.specs.declared.Range.the-variants.{Total};
-ghost use Rattle.money.specs.Amount.{most};
+ghost use Prim.Native.Nat.{_≤_, _<_};
 ghost use Rattle.profile.specs.Limits.{mostItems};
 ghost use Rattle.reading.specs.Noted.{on, stop};
-ghost use Rattle.notes.specs.Notes.{fresh, withItem, withNumber, withTotal, typeNumber, withType, withCents, withService, withStart};
-ghost use Rattle.notes.specs.Notes.{addedUp, serviceKept, coded, kept, Listed, valueNoted, itemNoted, typeRefusal, typeNoted};
+ghost use Rattle.notes.specs.Notes.{fresh, withItem, withNumber, withTotal, typeNumber, withType, withCents, withSum, withService, withStart};
+ghost use Rattle.notes.specs.Notes.{serviceKept, coded, kept, Listed, valueNoted, itemNoted, typeRefusal, typeNoted};
 ghost use Rattle.notes.specs.Steps.{stated, stepped, staying};
 
 pub struct Notes {
@@ -156,14 +154,19 @@ impl State {
         self
     }
 
-    // An item's cents, and the running sum.
+    // An item's cents.
     fn with_cents(mut self, cents: u64) -> State
-        requires { ⌜ self .notes .sum + cents ≤ most Total ⌝ }
         ensures { λ r. ⌜ stated r ≡ record { at = self .at; notes = withCents cents (self .notes) } ⌝ }
     {
-        let sum = self.notes.sum + cents;
-        self.notes.sum = sum;
         self.notes.cents = cents;
+        self
+    }
+
+    // The running sum.
+    pub fn with_sum(mut self, sum: u64) -> State
+        ensures { λ r. ⌜ stated r ≡ record { at = self .at; notes = withSum sum (self .notes) } ⌝ }
+    {
+        self.notes.sum = sum;
         self
     }
 
@@ -223,19 +226,6 @@ fn type_refusal(there: bool) -> u8
     if there { 23 } else { 4 }
 }
 
-// The running sum with one item's cents more, or 13.
-fn add_up(cents: u64, st: State) -> Step
-    ensures { λ r. ⌜ stepped r ≡ staying (st .at) (addedUp cents (st .at) (st .notes)) ⌝ }
-{
-    if money::MOST_TOTAL < cents {
-        return st.refuse_here(13);
-    }
-    if money::MOST_TOTAL - cents < st.notes.sum {
-        return st.refuse_here(13);
-    }
-    st.with_cents(cents).read_on()
-}
-
 // The first item's LclInstrm, or the same again; else 11.
 fn keep_service(i: u64, st: State) -> Step
     requires { ⌜ i ≤ 4 ⌝ }
@@ -276,12 +266,12 @@ fn keep(k: Kind, worth: u64, st: State) -> Step
         Kind::Plain(_) => st.read_on(),
         Kind::Count => st.with_number(worth).read_on(),
         Kind::Total => st.with_total(worth).read_on(),
-        Kind::Amount => add_up(worth, st),
+        Kind::Amount => st.with_cents(worth).read_on(),
         Kind::Code(e) => keep_code(e, worth, st),
     }
 }
 
-// A value of a kind and a field, which begins at the state's place: judged, and noted.
+// A value of a kind and a field, which begins at the state's place: judged, and noted but for the running sum.
 pub fn note(k: Kind, f: Field, v: &[u8], st: State) -> Step
     ensures { λ r. ⌜ stepped r ≡ staying (st .at) (valueNoted k f (now (v .entry)) (st .at) (st .notes)) ⌝ }
 {

@@ -14,20 +14,22 @@ use Rattle.profile.specs.Tree.{more}
 use Rattle.reading.specs.Trace.{Trace, upTo, missing, trace}
 use Rattle.reading.specs.Noted.{Reading, on, stop, Ended}
 use Rattle.reading.proofs.Flat.{never}
+use Rattle.items.specs.Sums.{amountsIn}
 use Rattle.table.specs.declared.Row.{Row}
 use Rattle.table.specs.Table.{tags, occOf, markName, opensBy, due, manyRows}
 use Rattle.notes.specs.declared.Notes.{Notes}
-use Rattle.notes.specs.Steps.{reads, Good, Fine}
+use Rattle.notes.specs.Steps.{reads, Good, Room, Fine}
 use Rattle.notes.proofs.Notings.{here}
 use Rattle.notes.proofs.Stays.{later}
-use Rattle.reader.specs.Reader.{elementIn}
+use Rattle.reader.specs.Reader.{elementIn, restIn, amountsOf}
 use Rattle.reader.proofs.Steps.{passed-on, fine-on, halts, missing-fine}
+use Rattle.reader.proofs.Room.{split, item-own, missing-room, element-room, due-fair}
 use Rattle.reader.proofs.Turns.{from, start, Tells, cut, missed, passed, failed, gone-on, repeated, deep, rest-deep}
 
 abbrev Found : Type 0
 Found = Reading (Ended Notes)
 
--- what is due at the start is what is due here, with room for as many turns as bytes are left
+-- what is due at the start is what is due here, with room for as many turns as bytes are left, and for the amounts that are due; an element that is seen again is an item
 pub record Loop (v : Version) (m : List ℕ) (first : ℕ) (s₀ : Ended Notes) (k : ℕ) (seen : Bool) (s : Ended Notes) : Type 0 where
   pub row : k < manyRows v
   pub good : Good m s
@@ -35,10 +37,12 @@ pub record Loop (v : Version) (m : List ℕ) (first : ℕ) (s₀ : Ended Notes) 
   pub depth : deep (due v k) ≤ deep (due v first)
   pub left : ℕ
   pub room : length m ≤ s .at + left
+  pub amounts : Room (amountsIn (due v k)) (s .notes)
+  pub again : pick seen (amountsOf (due v k)) 0 ≡ 0
   pub same : reads (trace (due v first) m (s₀ .at)) (s₀ .notes) ≡ reads (from m left seen (due v k) (s .at)) (s .notes)
 
-pub begin : (v : Version) (m : List ℕ) (k : ℕ) (s : Ended Notes) → Good m s → k < manyRows v → Loop v m k s k false s
-begin v m k s g h =
+pub begin : (v : Version) (m : List ℕ) (k : ℕ) (s : Ended Notes) → Good m s → k < manyRows v → Room (amountsIn (due v k)) (s .notes) → Loop v m k s k false s
+begin v m k s g h a =
     record {
       row = h;
       good = g;
@@ -46,11 +50,20 @@ begin v m k s g h =
       depth = omega arith;
       left = length m;
       room = omega arith;
+      amounts = a;
+      again = refl;
       same = ap (λ (t : Trace). reads t (s .notes)) (start m (due v k) (s .at));
     }
 
 module _ (v : Version) (m : List ℕ) (first : ℕ) (s₀ : Ended Notes) (k : ℕ) (seen : Bool) (s : Ended Notes) (l : Loop v m first s₀ k seen s)
     (q : Ended Notes) (at : q ≡ here (skipped m (s .at)) (s .notes)) (good : Good m q) (on-to : s .at ≤ q .at) where
+  -- the notes are the same behind white space
+  due-room : Room (amountsIn (due v k)) (q .notes)
+  due-room = rw at (l .amounts)
+
+  pub element-amounts : Room (amountsOf (due v k)) (q .notes)
+  element-amounts = omega (arith, due-room, split (due v k))
+
   -- what is shown of `group`
   abbrev pub Reads : Found → Type 0
   Reads x = (x ≡ reads (trace (due v first) m (s₀ .at)) (s₀ .notes)) × Fine m (s₀ .at) x
@@ -64,9 +77,10 @@ module _ (v : Version) (m : List ℕ) (first : ℕ) (s₀ : Ended Notes) (k : �
     says c e = sym e ∙ (lies ∙ rw (lent, at))
 
     -- on to the row behind
-    on-to-next : (u : Ended Notes) → Good m u → q .at ≤ u .at → reads (from m (l .left) seen (due v k) (s .at)) (s .notes) ≡ reads (trace (due v (r .next)) m (u .at)) (u .notes)
+    on-to-next : (u : Ended Notes) → Good m u → q .at ≤ u .at → Room (amountsIn (restIn (due v k))) (u .notes)
+        → reads (from m (l .left) seen (due v k) (s .at)) (s .notes) ≡ reads (trace (due v (r .next)) m (u .at)) (u .notes)
         → Loop v m first s₀ (r .next) false u
-    on-to-next u g h e =
+    on-to-next u g h a e =
         let d : deep (due v (r .next)) ≤ deep (due v first) = rw (t .next) (omega (arith, rest-deep (due v k), l .depth)) in
         record {
           row = next-row;
@@ -75,6 +89,8 @@ module _ (v : Version) (m : List ℕ) (first : ℕ) (s₀ : Ended Notes) (k : �
           depth = d;
           left = length m;
           room = omega arith;
+          amounts = rw (t .next) a;
+          again = refl;
           same = l .same ∙ (e ∙ ap (λ (t : Trace). reads t (u .notes)) (start m (due v (r .next)) (u .at)));
         }
 
@@ -101,7 +117,9 @@ module _ (v : Version) (m : List ℕ) (first : ℕ) (s₀ : Ended Notes) (k : �
       pub loop-pass : (u : Ended Notes) → on u ≡ b → Loop v m first s₀ (r .next) false u
       loop-pass u z =
           let g = fine-on m (q .at) b u z fine in
-          on-to-next u (g .0) (g .1) (passed m v k (due v k) r t (l .left) seen occ now (s .at) (s .notes) (says Other e) u (z ∙ missed-in))
+          on-to-next u (g .0) (g .1)
+          (missing-room (occOf occ) (markName (r .mark)) (q .at) (q .notes) u (z ∙ held) (amountsIn (restIn (due v k))) (omega (arith, due-room, split (due v k))))
+          (passed m v k (due v k) r t (l .left) seen occ now (s .at) (s .notes) (says Other e) u (z ∙ missed-in))
 
     module _ (e : w ≡ Whole) (b : Found) (held : b ≡ reads (elementIn (due v k) m (q .at)) (q .notes)) (fit : Fine m (q .at + 1) b) where
       in-place : b ≡ reads (elementIn (due v k) m (skipped m (s .at))) (s .notes)
@@ -113,9 +131,12 @@ module _ (v : Version) (m : List ℕ) (first : ℕ) (s₀ : Ended Notes) (k : �
       beyond : (u : Ended Notes) → on u ≡ b → Good m u × (q .at + 1 ≤ u .at)
       beyond u z = fine-on m (q .at + 1) b u z fit
 
+      behind : (u : Ended Notes) → on u ≡ b → Room (amountsIn (restIn (due v k))) (u .notes)
+      behind u z = element-room m (due v k) (due-fair v k) (q .at) (q .notes) u (z ∙ held) (amountsIn (restIn (due v k))) (omega (arith, due-room, split (due v k)))
+
       pub loop-next : (u : Ended Notes) → on u ≡ b → occ < 2 → Loop v m first s₀ (r .next) false u
       loop-next u z h =
-          on-to-next u (beyond u z .0) (omega (arith, beyond u z .1))
+          on-to-next u (beyond u z .0) (omega (arith, beyond u z .1)) (behind u z)
           (gone-on m v k (due v k) r t (l .left) seen occ now (s .at) (s .notes) (says Whole e) u (z ∙ in-place) h)
 
       pub loop-more : (u : Ended Notes) → on u ≡ b → 2 ≤ occ → Loop v m first s₀ k true u
@@ -123,6 +144,13 @@ module _ (v : Version) (m : List ℕ) (first : ℕ) (s₀ : Ended Notes) (k : �
         where
           past : q .at + 1 ≤ u .at
           past = beyond u z .1
+
+          items : amountsOf (due v k) ≡ 0
+          items = said seen (l .again) now
+            where
+              said : (b : Bool) → pick b (amountsOf (due v k)) 0 ≡ 0 → occOf occ ≡ pick b more (occOf (r .occ)) → amountsOf (due v k) ≡ 0
+              said true e f = e
+              said false e f = item-own (due v k) occ h (f ∙ t .occ)
 
           go : (i : ℕ) → l .left ≡ i → Loop v m first s₀ k true u
           go zero f = absurd (let y : ⊥ = omega (arith, l .room, past, beyond u z .0 .within) in y)
@@ -134,5 +162,7 @@ module _ (v : Version) (m : List ℕ) (first : ℕ) (s₀ : Ended Notes) (k : �
                 depth = l .depth;
                 left = j;
                 room = omega (arith, l .room, past);
+                amounts = omega (arith, behind u z, split (due v k), items);
+                again = items;
                 same = l .same ∙ repeated m v k (due v k) r t (l .left) seen occ now (s .at) (s .notes) (says Whole e) u (z ∙ in-place) h j f;
               }

@@ -21,16 +21,18 @@ use Rattle.profile.specs.Profile.{isType}
 use Rattle.reading.specs.Trace.{Trace, upTo, fault, begins, missing, priced}
 use Rattle.reading.specs.Noted.{Reading, on, stop, onward, Ended}
 use Rattle.reading.proofs.Flat.{never}
+use Rattle.items.specs.Sums.{mostSum, ofAmount}
 use Rattle.table.specs.declared.Row.{Row}
 use Rattle.table.specs.Table.{occOf, markName, width}
 use Rattle.notes.specs.declared.Notes.{Notes}
 use Rattle.notes.specs.declared.State.{State}
 use Rattle.notes.specs.declared.Met.{Met}
 use Rattle.notes.specs.declared.Met.the-variants.{On, Stopped}
-use Rattle.notes.specs.Notes.{valueNoted, itemNoted, typeNoted}
-use Rattle.notes.specs.Steps.{stated, metIn, staying, reads, Good, Fine}
+use Rattle.notes.specs.Notes.{valueNoted, addedUp, itemNoted, typeNoted}
+use Rattle.notes.specs.Steps.{stated, metIn, staying, reads, Good, Room, Fine}
 use Rattle.notes.proofs.Notings.{here}
-use Rattle.notes.proofs.Stays.{later, good-at, value-fine, begun-fine, type-fine}
+use Rattle.notes.proofs.Stays.{later, good-at, added-good, value-fine, begun-fine, type-fine}
+use Rattle.notes.proofs.Room.{value-within}
 use Rattle.reader.specs.Reader.{stops, closedBy, entered, valuedBy}
 
 abbrev Found : Type 0
@@ -291,17 +293,30 @@ module _ (m : List ℕ) (p : ℕ) (ns : Notes) (g : Good m (here p ns)) (t : Lis
     value-there : p + n < length m
     value-there = omega (arith, value-fits m p n (g .within) e)
 
-    goes-on : (r : Found) → r ≡ staying p Noted → onward r (λ u. reads (closedBy t m (p + n)) (u .notes)) ≡ reads (valuedBy t k f m p) ns
+    added-on : (q : ℕ) (x : Reading Notes) → onward (onward x (λ u. on (addedUp k u))) (reads (closedBy t m q)) ≡ onward (staying p x) (λ u. reads (closedBy t m q) (addedUp k (u .notes)))
+    added-on q (on u) = refl
+    added-on q (stop i y) = refl
+
+    goes-on : (r : Found) → r ≡ staying p Noted → onward r (λ u. reads (closedBy t m (p + n)) (addedUp k (u .notes))) ≡ reads (valuedBy t k f m p) ns
     unfolding valuedBy
-    goes-on r w = rw (w, lent-is, ← found, lt-ltb (p + n) (length m) value-there) (sym (then-on p (λ q. closedBy t m (p + n)) (valueNoted k f (take n (drop p m)) p ns)))
+    goes-on r w = rw (w, lent-is, ← found, lt-ltb (p + n) (length m) value-there) (sym (added-on (p + n) (valueNoted k f (take n (drop p m)) p ns)))
 
     pub value-stops : (c q : ℕ) → stop c q ≡ staying p Noted → (x : Found) → x ≡ stop c q → Values x
     value-stops c q w x z = passed-on m p x (stop c q) (reads (valuedBy t k f m p) ns) z (goes-on (stop c q) w) (fine-stop m p (staying p Noted) c q w (value-fine m p ns g k f lent))
 
     module _ (s : Ended Notes) (w : on s ≡ staying p Noted) where
-      pub value-good : Good m (here (p + n) (s .notes))
-      value-good = good-at m s (p + n) (fine-on m p (staying p Noted) s w (value-fine m p ns g k f lent) .0) (value-fits m p n (g .within) e)
+      pub value-sum : Room (ofAmount k) ns → addedUp k (s .notes) .sum ≤ mostSum
+      value-sum r = value-within k f lent p ns (s .notes) (g .counted) r (go Noted w)
+        where
+          go : (x : Reading Notes) → on s ≡ staying p x → x ≡ on (s .notes)
+          go (on u) q = let d : s ≡ here p u = cc in ap (λ (t : Ended Notes). on (t .notes)) (sym d)
+          go (stop i y) q = never (cc)
 
-      -- u is the state behind the value
-      pub value-closes : (u : Ended Notes) → u ≡ here (p + n) (s .notes) → (x : Found) → x ≡ reads (closedBy t m (u .at)) (u .notes) → Fine m (u .at) x → Values x
-      value-closes u a x z y = (z ∙ (rw a (goes-on (on s) w)), later m p (p + n) (omega arith) x (rw a at y))
+      -- a is the state with the sum, and u the one behind the value
+      pub value-good : (a : Ended Notes) → a ≡ here (s .at) (addedUp k (s .notes)) → Good m (here (p + n) (a .notes))
+      value-good a q =
+          rw q (added-good m k (p + n) (s .notes) (good-at m s (p + n) (fine-on m p (staying p Noted) s w (value-fine m p ns g k f lent) .0) (value-fits m p n (g .within) e)))
+
+      pub value-closes : (a : Ended Notes) → a ≡ here (s .at) (addedUp k (s .notes)) → (u : Ended Notes) → u ≡ here (p + n) (a .notes)
+          → (x : Found) → x ≡ reads (closedBy t m (u .at)) (u .notes) → Fine m (u .at) x → Values x
+      value-closes a q u b x z y = (z ∙ (rw (b, q) (goes-on (on s) w)), later m p (p + n) (omega arith) x (rw b at y))

@@ -64,7 +64,7 @@ module _ (v : Version) (m : List ℕ) (p : ℕ) where
     near = rw (le-leb (length m) mostBytes h, le-leb p (length m) g)
 
     pub begins : Good m s
-    begins = rw e (record { small = h; within = g; counted = omega arith; summed = omega arith })
+    begins = rw e (record { small = h; within = g; counted = omega arith })
 
     pub message-is : (x : Found) → x ≡ reads (trace (due v 0) m (s .at)) (s .notes) → Fine m (s .at) x → Told messageAt x
     unfolding messageAt

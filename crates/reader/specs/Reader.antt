@@ -18,6 +18,7 @@ use Rattle.profile.specs.Profile.{profile}
 use Rattle.reading.specs.Trace.{value, _at_, Trace, met, upTo, fault, begins, priced, leafBody, groupBody, trace}
 use Rattle.reading.specs.Noted.{Reading, stop, Ended}
 use Rattle.items.specs.Alone.{alone}
+use Rattle.items.specs.Sums.{ofAmount, ofOthers, amountsIn}
 use Rattle.notes.specs.declared.Notes.{Notes}
 use Rattle.notes.specs.declared.Met.{Met}
 use Rattle.notes.specs.declared.Met.the-variants.{On, Stopped}
@@ -67,6 +68,12 @@ abbrev pub restIn : Shape → Shape
 restIn (end n) = end n
 restIn (leaf o n k f rest) = rest
 restIn (group o n inner rest) = rest
+
+-- how many amounts are due in an element: an item has its own
+abbrev pub amountsOf : Shape → ℕ
+amountsOf (end n) = 0
+amountsOf (leaf o n k f rest) = ofOthers o (ofAmount k)
+amountsOf (group o n inner rest) = ofOthers o (amountsIn inner)
 
 -- ---- what the other crates ask, with nothing noted before
 abbrev pub fits : List ℕ → ℕ → Bool

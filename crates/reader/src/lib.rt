@@ -2,6 +2,7 @@
 use notes::Met;
 use notes::State;
 use notes::Step;
+use profile::Kind;
 use table::Row;
 use tags::Look;
 ghost use mathlib.Core.Path.{_≡_};
@@ -14,8 +15,10 @@ ghost use Rattle.profile.specs.Version.{v02};
 ghost use Rattle.profile.specs.Tree.{Occ};
 ghost use Rattle.reading.specs.Trace.{upTo, begins, missing, priced, trace};
 ghost use Rattle.table.specs.Table.{tags, table, manyRows, rowIn, kindOf, fieldOf, occOf, markName, amountKind, width, opensBy, closesBy, due, Element};
-ghost use Rattle.notes.specs.Steps.{stated, stepped, reads, Good, Fine};
-ghost use Rattle.reader.specs.Reader.{stops, closedBy, entered, valuedBy, elementIn, messageAt, itemAt};
+ghost use Rattle.items.specs.Sums.{mostSum, ofAmount, amountsIn};
+ghost use Rattle.notes.specs.Notes.{addedUp};
+ghost use Rattle.notes.specs.Steps.{stated, stepped, reads, Good, Room, Fine};
+ghost use Rattle.reader.specs.Reader.{stops, closedBy, entered, valuedBy, elementIn, amountsOf, messageAt, itemAt};
 
 // On past white space.
 fn skip(m: &[u8], st: State) -> State
@@ -115,9 +118,23 @@ fn enter(m: &[u8], r: Row, st: State) -> Step
     }
 }
 
+// The running sum, with the cents of an amount that was noted.
+fn add_up(k: Kind, st: State) -> State
+    requires { ⌜ addedUp k (st .notes) .sum ≤ mostSum ⌝ }
+    ensures { λ r. ⌜ stated r ≡ record { at = st .at; notes = addedUp k (st .notes) } ⌝ }
+{
+    match k {
+        Kind::Plain(_) => st,
+        Kind::Count => st,
+        Kind::Total => st,
+        Kind::Amount => st.with_sum(st.notes.sum + st.notes.cents),
+        Kind::Code(_) => st,
+    }
+}
+
 // The value at the state's place, and its end tag.
 fn value(m: &[u8], names: &[u8], r: Row, st: State) -> Step
-    requires { ⌜ Good (now m) (stated st) × (r .finish ≡ length (closesBy (now names) r)) ⌝ }
+    requires { ⌜ Good (now m) (stated st) × (r .finish ≡ length (closesBy (now names) r)) × Room (ofAmount (kindOf (r .kind))) (st .notes) ⌝ }
     ensures { λ s. ⌜ (stepped s ≡ reads (valuedBy (closesBy (now (names .entry)) r) (kindOf (r .kind)) (fieldOf (r .field)) (now (m .entry)) (st .at)) (st .notes)) × Fine (now (m .entry)) (st .at) (stepped s) ⌝ }
 {
     let at = st.at as usize;
@@ -125,17 +142,13 @@ fn value(m: &[u8], names: &[u8], r: Row, st: State) -> Step
     if e == m.len() {
         return st.refuse(3, e);
     }
-    let n = notes::note(
-        table::kind_of(r.kind),
-        table::field_of(r.field),
-        &m[at..e],
-        st,
-    );
+    let k = table::kind_of(r.kind);
+    let n = notes::note(k, table::field_of(r.field), &m[at..e], st);
     let met = n.met;
     let s = n.state;
     match met {
         Met::Stopped(number, place) => s.refuse(number, place),
-        Met::On => close(m, names, r, s.at_place(e as u32)),
+        Met::On => close(m, names, r, add_up(k, s).at_place(e as u32)),
     }
 }
 
@@ -159,7 +172,7 @@ fn is_stopped(s: Step) -> bool
 
 // What is due from row `first` up to the end of its group.
 fn group(m: &[u8], names: &[u8], rows: &[[u16; table::COLUMNS]], first: usize, start: State) -> Step
-    requires { ⌜ Good (now m) (stated start) × (first < manyRows v02) × (now names ≡ tags v02) × (now rows ≡ table v02) ⌝ }
+    requires { ⌜ Good (now m) (stated start) × (first < manyRows v02) × (now names ≡ tags v02) × (now rows ≡ table v02) × Room (amountsIn (due v02 first)) (start .notes) ⌝ }
     ensures { λ s. ⌜ (stepped s ≡ reads (trace (due v02 first) (now (m .entry)) (start .at)) (start .notes)) × Fine (now (m .entry)) (start .at) (stepped s) ⌝ }
 {
     let mut k = first;
@@ -201,7 +214,7 @@ fn group(m: &[u8], names: &[u8], rows: &[[u16; table::COLUMNS]], first: usize, s
 
 // Row k's element, from the `<` of its start tag, which lies whole at the state's place.
 fn element(m: &[u8], names: &[u8], rows: &[[u16; table::COLUMNS]], k: usize, st: State) -> Step
-    requires { ⌜ Good (now m) (stated st) × (k < manyRows v02) × Element (due v02 k) × (st .at + width (rowIn (table v02) k) ≤ length (now m)) × (now names ≡ tags v02) × (now rows ≡ table v02) ⌝ }
+    requires { ⌜ Good (now m) (stated st) × (k < manyRows v02) × Element (due v02 k) × (st .at + width (rowIn (table v02) k) ≤ length (now m)) × (now names ≡ tags v02) × (now rows ≡ table v02) × Room (amountsOf (due v02 k)) (st .notes) ⌝ }
     ensures { λ s. ⌜ (stepped s ≡ reads (elementIn (due v02 k) (now (m .entry)) (st .at)) (st .notes)) × Fine (now (m .entry)) (st .at + 1) (stepped s) ⌝ }
 {
     let r = table::row_at(rows, k);

@@ -2,13 +2,12 @@
 use Prim.Native.Nat.{ℕ, suc, _+_}
 use mathlib.Core.Bool.{Bool, true, false, not}
 use mathlib.Core.List.{List, [], _∷_, _++_}
-use lib.Dec.{leb, ltb}
+use lib.Dec.{ltb}
 use Rattle.text.specs.Truth.{pick}
 use Rattle.text.specs.Quoted.{alike}
 use Rattle.answers.specs.Given.{Given, yes, worth, refused, Rule, _else_, inOrder}
 use Rattle.codes.specs.declared.Element as code
-use Rattle.money.specs.declared.Range as range
-use Rattle.money.specs.Amount.{cents, most}
+use Rattle.money.specs.Amount.{cents}
 use Rattle.profile.specs.declared.Kind.{Kind}
 use Rattle.profile.specs.declared.Kind.the-variants.{Amount, Code}
 use Rattle.profile.specs.declared.Field.{Field}
@@ -113,8 +112,6 @@ rules before (absent n) =
 rules before (value k f v) =
     -- "LclInstrm differs from the first item's"
     (sameKind k (Code code.the-variants.LclInstrm) so alike (firstOf v (valuesOf (Code code.the-variants.LclInstrm) before)) v) else 11
-    -- "running sum over the header total's upper range"
-    ∷ (sameKind k Amount so leb (centsIn before + cents v) (most range.the-variants.Total)) else 13
     ∷ []
 
 -- "Then its kind is judged (7, then 8, then 9; codes 10 [..])"

@@ -7,7 +7,7 @@ use Rattle.text.specs.Truth.{pick}
 use Rattle.answers.specs.Given.{Given, yes, worth, refused as no}
 use Rattle.codes.specs.declared.Element as code
 use Rattle.profile.specs.declared.Kind.{Kind}
-use Rattle.profile.specs.declared.Kind.the-variants.{Amount, Code}
+use Rattle.profile.specs.declared.Kind.the-variants.{Code}
 use Rattle.profile.specs.declared.Field.{Field}
 use Rattle.profile.specs.Kinds.{sameKind}
 use Rattle.kinds.specs.Given.{kindGiven}
@@ -69,13 +69,13 @@ module _ (Fit : Kind → Field → Type 0) (v w : List ℕ) where
   near-values j u (changed {k = k} {f = f} x n) = rw (u k f x) (near-values j u n)
 
   -- ---- noting
-  module _ (services : Unlike (Code code.the-variants.LclInstrm)) (amounts : Unlike Amount) where
+  module _ (services : Unlike (Code code.the-variants.LclInstrm)) where
     near-weighed : {l l′ : List Entry} → Near l l′ → (x : What) → weighed (whats l) x ≡ weighed (whats l′) x
     near-weighed n itemBegins = rw (near-items n)
     near-weighed n itemEnds = refl
     near-weighed n (there i) = rw (near-types n)
     near-weighed n (absent i) = rw (near-types n)
-    near-weighed n (value k f u) = rw (near-values (Code code.the-variants.LclInstrm) services n, near-values Amount amounts n)
+    near-weighed n (value k f u) = rw (near-values (Code code.the-variants.LclInstrm) services n)
 
     or-refused : (g : Given) (p : ℕ) {l l′ : List Entry} → Near l l′ → Alike Near (orRefused g p l) (orRefused g p l′)
     or-refused yes p n = going n
@@ -87,7 +87,7 @@ module _ (Fit : Kind → Field → Type 0) (v w : List ℕ) where
 
     -- such a value passes where its kind does
     pub passing : (k : Kind) (f : Field) → Fit k f → (u : List ℕ) → Passing (kindGiven k u) → (ws : List What) → weighed ws (value k f u) ≡ yes
-    passing k f x u p ws = rw (services k f x, amounts k f x) p
+    passing k f x u p ws = rw (services k f x) p
 
     pub noted-near : ((k : Kind) (f : Field) → Fit k f → Passing (kindGiven k v) × Passing (kindGiven k w))
         → {t t′ : Trace} → Beside Fit v w t t′ → (l l′ : List Entry) → Near l l′ → Alike (sim.Beside Near) (noted listed t l) (noted listed t′ l′)

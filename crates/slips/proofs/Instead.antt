@@ -35,7 +35,6 @@ use Rattle.replaced.proofs.Beside.{Beside}
 use Rattle.replaced.proofs.Behind.{OfVersion, Placed}
 use Rattle.replaced.proofs.Values.{Fine, Stood, values-placed, tagless, before-long, is-itself, value-there, value-beside}
 use Rattle.slips.specs.Slip.{In, entries, StandsAt, totalPlace}
-use Rattle.slips.proofs.Few.{amounts-items}
 use Rattle.slips.proofs.Changed.{all-in, parted, Changed, beside-whole, beside-changed}
 use Rattle.slips.proofs.Lists.{Sound, place-is, with, refused-own, plain-passes}
 use Rattle.slips.proofs.Values.{Fitting}
@@ -70,7 +69,6 @@ sound m n c e =
       kept = rw z (h .0);
       compared = rw z (h .1);
       one = rw z (one-header (p .version) (p .message .inside) (p .lawful .inside));
-      few = rw z (amounts-items (p .version) (p .message .inside) (p .lawful .inside));
     }
 
 -- two neighbours exchanged, behind what stands before them

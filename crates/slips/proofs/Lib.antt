@@ -1,5 +1,4 @@
 pub mod Values
-pub mod Few
 pub mod Changed
 pub mod Lists
 pub mod Instead

@@ -1,9 +1,9 @@
 -- A list of what was read that is noted through and accepted, and the same list with a slip in one value: how the other is refused.
 use mathlib.Core.Path.{_≡_, refl, sym, ap, _∙_}
 use mathlib.Core.Logic.{_≢_, _⊎_, inl, inr}
-use mathlib.Core.Bool.{Bool, true, false}
+use mathlib.Core.Bool.{true, false}
 use mathlib.Core.List.{List, [], _∷_, _++_}
-use Prim.Native.Nat.{ℕ, _+_, _≤_}
+use Prim.Native.Nat.{ℕ, _+_}
 use native.Mathlib.Omega.{arith}
 use borrow.Author.Tests.{eq-eqb, ne-eqb}
 use lib.ListN.{length, length-append}
@@ -33,7 +33,6 @@ use Rattle.documents.proofs.Lists.{Kept, kept-first, kept-listed, listed-stops,
 use Rattle.replaced.proofs.Near.{Near, changed, Unlike, near-append, near-itself, near-items, near-types, near-place, near-values}
 use Rattle.slips.specs.Slip.{Slip, Refused}
 use Rattle.slips.proofs.Values.{plain-slip, count-slip, amount-slip, unwatched}
-use Rattle.slips.proofs.Few.{sum-in-range}
 
 -- ---- what is compared at the end
 count-told : (es : List Entry) → decimal (onlyOf Count es) ≢ itemsIn (whats es) → compared es ≡ refused 14 (placeOf Count es)
@@ -63,7 +62,6 @@ pub record Sound (l : List Entry) (n c : ℕ) : Type 0 where
   pub kept : Kept (whats l)
   pub compared : Compared (whats l) n c
   pub one : OneHeader (whats l)
-  pub few : length (valuesOf Amount (whats l)) ≤ itemsIn (whats l)
 
 module _ (k : Kind) (f : Field) (q : ℕ) (v w : List ℕ) (xs ys : List Entry) (n c : ℕ) where
   -- the list with a value u there
@@ -119,16 +117,6 @@ module _ (k : Kind) (f : Field) (q : ℕ) (v w : List ℕ) (xs ys : List Entry) 
       items-too : itemsIn (whats (with w)) ≡ n
       items-too = sym (near-items This v w near) ∙ s .compared .items
 
-      -- as many amounts as before
-      as-many : length (valuesOf Amount (whats (with w))) ≡ length (valuesOf Amount (whats (with v)))
-      as-many = ap length (values-with Amount w) ∙ go (sameKind k Amount) ∙ sym (ap length (values-with Amount v))
-        where
-          go : (b : Bool) → length (valuesOf Amount (whats xs) ++ (pick b (w ∷ []) [] ++ valuesOf Amount (whats ys)))
-              ≡ length (valuesOf Amount (whats xs) ++ (pick b (v ∷ []) [] ++ valuesOf Amount (whats ys)))
-          go true =
-              length-append (valuesOf Amount (whats xs)) (w ∷ valuesOf Amount (whats ys)) ∙ sym (length-append (valuesOf Amount (whats xs)) (v ∷ valuesOf Amount (whats ys)))
-          go false = refl
-
       kept-too : Kept (whats (with w))
       kept-too =
           record {
@@ -136,7 +124,6 @@ module _ (k : Kind) (f : Field) (q : ℕ) (v w : List ℕ) (xs ys : List Entry) 
             typed = rw (near-types This v w near) at (s .kept .typed);
             alike = rw (near-values This v w (Code LclInstrm) (unlike (Code LclInstrm) service) near) at (s .kept .alike);
             few = omega (arith, near-items This v w near, s .kept .few);
-            summed = sum-in-range (whats (with w)) kinds-too (omega (arith, as-many, s .few, s .kept .few));
           }
 
       pub goes-on : decided (listedAll (with w) []) ≡ compared (with w)

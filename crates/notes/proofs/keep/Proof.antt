@@ -33,8 +33,11 @@ read-on-requires-3 c κs = search needs
 enum-told-4 : tie.Need-enum-told-4
 enum-told-4 c = search needs
 
-add-up-requires : tie.Need-add-up-requires
-add-up-requires c κs = search needs
+with-cents-requires : tie.Need-with-cents-requires
+with-cents-requires c κs = search needs
+
+read-on-requires-4 : tie.Need-read-on-requires-4
+read-on-requires-4 c κs = search needs
 
 enum-known-k : tie.Need-enum-known-k
 enum-known-k c = search needs
@@ -52,7 +55,7 @@ returns-3 : tie.Need-returns-3
 returns-3 c = rw (c .before .before .enum-told3 .given .1) (c .read-on3 .ensures ∙ ap on (c .before .with-total .ensures))
 
 returns-4 : tie.Need-returns-4
-returns-4 c = rw (c .before .enum-told4 .given .1) (c .add-up .ensures)
+returns-4 c = rw (c .before .before .enum-told4 .given .1) (c .read-on4 .ensures ∙ ap on (c .before .with-cents .ensures))
 
 returns-5 : tie.Need-returns-5
 returns-5 c = rw (c .before .before .k .given .1) (c .keep-code .ensures)
@@ -70,7 +73,8 @@ keep-spec =
     with-total-requires
     read-on-requires-3
     enum-told-4
-    add-up-requires
+    with-cents-requires
+    read-on-requires-4
     enum-known-k
     keep-code-requires
     returns

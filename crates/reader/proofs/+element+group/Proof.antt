@@ -15,7 +15,8 @@ use Rattle.reader.specs.Reader.{closedBy, elementIn}
 use Rattle.reader.proofs.Steps.{passed-on, fine-on, fine-stop, halted, went-on, missing-fine}
 use Rattle.reader.proofs.Turns.{deep, deepIn, element-deep}
 use Rattle.reader.proofs.Rows.{tells, ended, element-stops, element-group, element-value, inner-deep, within}
-use Rattle.reader.proofs.Loops.{Loop, begin, loop-end, loop-cut, loop-miss, loop-pass, loop-fail, loop-next, loop-more}
+use Rattle.reader.proofs.Room.{due-fair, group-room, value-room}
+use Rattle.reader.proofs.Loops.{Loop, begin, element-amounts, loop-end, loop-cut, loop-miss, loop-pass, loop-fail, loop-next, loop-more}
 use borrow.Fn.Kinds.{In}
 use borrow.Fn.PlainCycle.{Measures, is, falls, and}
 use Rattle.reader.proofs.element.Reads as element
@@ -127,7 +128,14 @@ element-group-requires n c κs =
     let q = ap (λ x. metIn x (e .result .state)) (sym (c .before .before .enum-told .given .1)) in
     let g = fine-on (a .args .m .now) (a .args .st .at + 1) (stepped (e .result)) (stated (e .result .state)) q (e .ensures .1) in (
       omega (arith, a .pre .0, g .0 .within, g .1, inner-deep v02 (a .args .k) (r .result) (due v02 (a .args .k)) (w .0) (a .pre .1 .2) (c .if1 .taken)),
-      (g .0, group-below-row v02 (a .args .k) (r .result) (due v02 (a .args .k)) (w .0) (a .pre .1 .2) (c .if1 .taken), a .pre .1 .4, a .pre .1 .5),
+      (
+        g .0,
+        group-below-row v02 (a .args .k) (r .result) (due v02 (a .args .k)) (w .0) (a .pre .1 .2) (c .if1 .taken),
+        a .pre .1 .4,
+        a .pre .1 .5,
+        group-room (a .args .m .now) v02 (a .args .k) (r .result) (a .args .st .at) (a .args .st .notes) (stated (e .result .state)) (q ∙ e .ensures .0)
+            (due v02 (a .args .k)) (w .0) (a .pre .1 .2) (c .if1 .taken) (due-fair v02 (a .args .k)) (a .pre .1 .6),
+      ),
     )
 
 element-returns : (t : ℕ) → element-lts.Need-returns (element-calls t) (element-at t) element.Post
@@ -150,8 +158,12 @@ element-value-requires n c κs =
     let w = row-tied v02 (a .args .rows .now) (a .args .k) (r .result) (r .ensures) (a .pre .1 .5) (a .pre .1 .1) in
     let e = c .before .before .before .before .before .enter in
     let q = ap (λ x. metIn x (e .result .state)) (sym (c .before .before .enum-told .given .1)) in
-    let g = fine-on (a .args .m .now) (a .args .st .at + 1) (stepped (e .result)) (stated (e .result .state)) q (e .ensures .1) in
-    (g .0, leaf-finish v02 (a .args .k) (r .result) (a .args .names .now) (a .pre .1 .4) (due v02 (a .args .k)) (w .0) (a .pre .1 .2) (c .if1 .left))
+    let g = fine-on (a .args .m .now) (a .args .st .at + 1) (stepped (e .result)) (stated (e .result .state)) q (e .ensures .1) in (
+      g .0,
+      leaf-finish v02 (a .args .k) (r .result) (a .args .names .now) (a .pre .1 .4) (due v02 (a .args .k)) (w .0) (a .pre .1 .2) (c .if1 .left),
+      value-room (a .args .m .now) v02 (a .args .k) (r .result) (a .args .st .at) (a .args .st .notes) (stated (e .result .state)) (q ∙ e .ensures .0)
+          (due v02 (a .args .k)) (w .0) (a .pre .1 .2) (c .if1 .left) (due-fair v02 (a .args .k)) (a .pre .1 .6),
+    )
 
 element-returns-2 : (t : ℕ) → element-lts.Need-returns-2 (element-calls t) (element-at t) element.Post
 element-returns-2 n c =
@@ -186,7 +198,7 @@ group-μ-loop m names rows first k₀ seen₀ st₀ k seen st = 256 * (length m 
 group-loop-holds : (t : ℕ) → group-lts.Need-loop-holds (group-calls t) (group-at t) group.Post group-Inv-loop group-μ-loop
 group-loop-holds n c =
     let a = c .before .before in
-    begin v02 (a .args .m .now) (a .args .first) (stated (a .args .start)) (a .pre .1 .0) (a .pre .1 .1)
+    begin v02 (a .args .m .now) (a .args .first) (stated (a .args .start)) (a .pre .1 .0) (a .pre .1 .1) (a .pre .1 .4)
 
 group-row-at-requires : (t : ℕ) → group-lts.Need-row-at-requires (group-calls t) (group-at t) group.Post group-Inv-loop group-μ-loop
 group-row-at-requires n c κs = search needs
@@ -330,6 +342,8 @@ group-element-requires n c κs =
             (s .ensures .1 .within) t (sym (c .enum-told3 .given .1) ∙ the-start-at .ensures),
         a .pre .1 .2,
         a .pre .1 .3,
+        element-amounts v02 (a .args .m .now) (a .args .first) (stated (a .args .start)) (l .k) (l .seen) (stated (l .st)) (l .inv) (stated (s .result)) (s .ensures .0)
+            (s .ensures .1) (s .ensures .2),
       ),
     )
 

@@ -6,6 +6,7 @@ use Rattle.tags.specs.Tags.{look}
 use Rattle.table.specs.Table.{due}
 use Rattle.notes.specs.Steps.{stated, stepped, reads}
 use Rattle.reader.specs.Reader.{elementIn}
+use Rattle.reader.proofs.Room.{item-room}
 use Rattle.reader.proofs.Whole.{item-long, item-far, begins, item-enters, item-cut, item-other, item-start, item-below, item-there, item-within}
 use borrow.Author.Needs.{needs}
 use Rattle.reader.proofs.item.Statement.{statement}
@@ -80,6 +81,7 @@ slice-aggregate-element-2 c = search needs
 element-requires : tie.Need-element-requires
 element-requires c κs =
     let a = c .before .before .before .before .before .before .before .before .before .before .before .before .before .before .before .before .before .args in
+    let the-new3 = c .before .before .before .before .before .before .before .before .before .before .before .before .before .new3 in
     let the-all-tags = c .before .before .before .before .before .before .before .before .before .before .before .before .all-tags in
     let the-all-rows = c .before .before .before .before .before .before .before .before .before .before .before .all-rows in
     let the-skip = c .before .before .before .before .before .before .before .before .before .before .skip in
@@ -96,6 +98,7 @@ element-requires c κs =
           (sym (c .before .before .enum-told .given .1) ∙ the-start-at .ensures),
       the-all-tags .ensures,
       the-all-rows .ensures,
+      item-room v02 (the-item-row .result) (the-item-row .ensures) _ _ (stated (the-new3 .result)) (stated (the-skip .result)) (the-new3 .ensures) (the-skip .ensures .0),
     )
 
 enum-told-2 : tie.Need-enum-told-2

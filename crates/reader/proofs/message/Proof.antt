@@ -3,6 +3,7 @@ use mathlib.Core.Path.{_∙_, ap}
 use Rattle.profile.specs.Version.{v02}
 use Rattle.table.proofs.Rows.{first-row}
 use Rattle.notes.specs.Steps.{stated, stepped}
+use Rattle.reader.proofs.Room.{profile-room}
 use Rattle.reader.proofs.Whole.{message-long, message-far, begins, message-is}
 use borrow.Author.Needs.{needs}
 use Rattle.reader.proofs.message.Statement.{statement}
@@ -56,6 +57,7 @@ group-requires c κs =
       first-row v02,
       c .before .before .before .all-tags .ensures,
       c .before .before .all-rows .ensures,
+      profile-room v02 (a .at) (stated (the-new3 .result)) (the-new3 .ensures),
     )
 
 returns-3 : tie.Need-returns-3

@@ -3,7 +3,7 @@ use mathlib.Core.Path.{_∙_, ap, sym, refl}
 use native.Mathlib.Omega.{arith}
 use Rattle.table.specs.Table.{closesBy, kindOf, fieldOf}
 use Rattle.notes.specs.Steps.{stated, metIn, stepped}
-use Rattle.reader.proofs.Steps.{value-fits, value-none, value-good, value-stops, value-closes}
+use Rattle.reader.proofs.Steps.{value-fits, value-none, value-sum, value-good, value-stops, value-closes}
 use borrow.Author.Needs.{needs}
 use Rattle.reader.proofs.value.Statement.{statement}
 use Rattle.reader.proofs.value.Tie as tie
@@ -71,11 +71,24 @@ refuse-requires-2 c κs = search needs
 enum-told : tie.Need-enum-told
 enum-told c = search needs
 
-cast-at-place : tie.Need-cast-at-place
-cast-at-place c =
+add-up-requires : tie.Need-add-up-requires
+add-up-requires c κs =
     let a = c .before .before .before .before .before .before .before .before .before .before .before .before .before .args in
     let the-pre = c .before .before .before .before .before .before .before .before .before .before .before .before .before .pre in
     let the-upto = c .before .before .before .before .before .before .before .before .upto in
+    let the-if1 = c .before .before .before .before .before .before .before .if1 in
+    let the-kind-of = c .before .before .before .before .before .before .kind-of in
+    let the-field-of = c .before .before .before .before .before .field-of in
+    let the-note = c .before .before .before .note in
+    rw (the-kind-of .ensures) (value-sum (a .m .now) (a .st .at) (a .st .notes) (the-pre .0) (closesBy (a .names .now) (a .r)) (kindOf (a .r .kind)) (fieldOf (a .r .field))
+    (the-upto .result) (the-upto .ensures) (the-if1 .left) (stated (the-note .result .state))
+    (ap (λ x. metIn x (the-note .result .state)) (sym (c .enum-told .given .1)) ∙ (the-note .ensures ∙ rw (the-kind-of .ensures, the-field-of .ensures))) (the-pre .2))
+
+cast-at-place : tie.Need-cast-at-place
+cast-at-place c =
+    let a = c .before .before .before .before .before .before .before .before .before .before .before .before .before .before .args in
+    let the-pre = c .before .before .before .before .before .before .before .before .before .before .before .before .before .before .pre in
+    let the-upto = c .before .before .before .before .before .before .before .before .before .upto in
     omega (arith, value-fits (a .m .now) (a .st .at) (the-upto .result) (the-pre .0 .within) (the-upto .ensures), the-pre .0 .small)
 
 at-place-requires : tie.Need-at-place-requires
@@ -83,16 +96,17 @@ at-place-requires c κs = search needs
 
 close-requires : tie.Need-close-requires
 close-requires c κs =
-    let a = c .before .before .before .before .before .before .before .before .before .before .before .before .before .before .args in
-    let the-pre = c .before .before .before .before .before .before .before .before .before .before .before .before .before .before .pre in
-    let the-upto = c .before .before .before .before .before .before .before .before .before .upto in
-    let the-if1 = c .before .before .before .before .before .before .before .before .if1 in
-    let the-kind-of = c .before .before .before .before .before .before .before .kind-of in
-    let the-field-of = c .before .before .before .before .before .before .field-of in
-    let the-note = c .before .before .before .before .note in (
+    let a = c .before .before .before .before .before .before .before .before .before .before .before .before .before .before .before .args in
+    let the-pre = c .before .before .before .before .before .before .before .before .before .before .before .before .before .before .before .pre in
+    let the-upto = c .before .before .before .before .before .before .before .before .before .before .upto in
+    let the-if1 = c .before .before .before .before .before .before .before .before .before .if1 in
+    let the-kind-of = c .before .before .before .before .before .before .before .before .kind-of in
+    let the-field-of = c .before .before .before .before .before .before .before .field-of in
+    let the-note = c .before .before .before .before .before .note in (
       rw (c .at-place .ensures) (value-good (a .m .now) (a .st .at) (a .st .notes) (the-pre .0) (closesBy (a .names .now) (a .r)) (kindOf (a .r .kind))
           (fieldOf (a .r .field)) (the-upto .result) (the-upto .ensures) (the-if1 .left) (stated (the-note .result .state))
-          (ap (λ x. metIn x (the-note .result .state)) (sym (c .before .enum-told .given .1)) ∙ (the-note .ensures ∙ rw (the-kind-of .ensures, the-field-of .ensures)))),
+          (ap (λ x. metIn x (the-note .result .state)) (sym (c .before .before .enum-told .given .1)) ∙ (the-note .ensures ∙ rw (the-kind-of .ensures, the-field-of .ensures)))
+          (stated (c .before .add-up .result)) (c .before .add-up .ensures ∙ rw (the-kind-of .ensures))),
       the-pre .1,
     )
 
@@ -111,16 +125,17 @@ returns-2 c =
 
 returns-3 : tie.Need-returns-3
 returns-3 c =
-    let a = c .before .before .before .before .before .before .before .before .before .before .before .before .before .before .before .args in
-    let the-pre = c .before .before .before .before .before .before .before .before .before .before .before .before .before .before .before .pre in
-    let the-upto = c .before .before .before .before .before .before .before .before .before .before .upto in
-    let the-if1 = c .before .before .before .before .before .before .before .before .before .if1 in
-    let the-kind-of = c .before .before .before .before .before .before .before .before .kind-of in
-    let the-field-of = c .before .before .before .before .before .before .before .field-of in
-    let the-note = c .before .before .before .before .before .note in
+    let a = c .before .before .before .before .before .before .before .before .before .before .before .before .before .before .before .before .args in
+    let the-pre = c .before .before .before .before .before .before .before .before .before .before .before .before .before .before .before .before .pre in
+    let the-upto = c .before .before .before .before .before .before .before .before .before .before .before .upto in
+    let the-if1 = c .before .before .before .before .before .before .before .before .before .before .if1 in
+    let the-kind-of = c .before .before .before .before .before .before .before .before .before .kind-of in
+    let the-field-of = c .before .before .before .before .before .before .before .before .field-of in
+    let the-note = c .before .before .before .before .before .before .note in
     value-closes (a .m .now) (a .st .at) (a .st .notes) (the-pre .0) (closesBy (a .names .now) (a .r)) (kindOf (a .r .kind)) (fieldOf (a .r .field)) (the-upto .result)
     (the-upto .ensures) (the-if1 .left) (stated (the-note .result .state))
-    (ap (λ x. metIn x (the-note .result .state)) (sym (c .before .before .enum-told .given .1)) ∙ (the-note .ensures ∙ rw (the-kind-of .ensures, the-field-of .ensures)))
+    (ap (λ x. metIn x (the-note .result .state)) (sym (c .before .before .before .enum-told .given .1)) ∙ (the-note .ensures ∙ rw (the-kind-of .ensures, the-field-of .ensures)))
+    (stated (c .before .before .add-up .result)) (c .before .before .add-up .ensures ∙ rw (the-kind-of .ensures))
     (stated (c .before .at-place .result)) (c .before .at-place .ensures) (stepped (c .close .result)) (c .close .ensures .0) (c .close .ensures .1)
 
 pub value-spec : {M : Type 1} → statement M
@@ -144,6 +159,7 @@ value-spec =
     enum-known-met
     refuse-requires-2
     enum-told
+    add-up-requires
     cast-at-place
     at-place-requires
     close-requires
