@@ -113,6 +113,22 @@ fn the_texts_as_an_office_writes_them() {
     }
 }
 
+/// The numbers that are not used: 13 tells since when, and why it could never come.
+#[test]
+fn the_texts_of_the_unused_numbers() {
+    assert_eq!(overview(5), ["Not used.", "Nicht verwendet."]);
+    assert_eq!(overview(13), ["Not used since request 8.", "Seit Anforderung 8 nicht verwendet."]);
+    let said = flat(&bulk(&["--en", "explain", "13"]).done(0));
+    let said_in_german = flat(&bulk(&["--de", "explain", "13"]).done(0));
+    for words in ["it could never come", "10,000 items", "9999999999900.00", "999999999999999.99"] {
+        assert!(said.contains(words), "{words}\n{said}");
+    }
+    for words in ["konnte nie vorkommen", "10.000 Posten", "9999999999900.00", "999999999999999.99"]
+    {
+        assert!(said_in_german.contains(words), "{words}\n{said_in_german}");
+    }
+}
+
 /// Where the payment type stands, and what the header's means for 11.
 #[test]
 fn the_texts_of_the_payment_type() {

@@ -109,7 +109,7 @@ impl Asker {
         library
     }
 
-    /// "The first fault met ends it": for a refusal 2 to 13, 19 or 23 at place p, the first p bytes
+    /// "The first fault met ends it": for a refusal 2 to 12, 19 or 23 at place p, the first p bytes
     /// alone are refused with 3 at p, so all before p was still in order. The bytes behind p stay where
     /// they are: whoever read past the end would meet them. The judge gives no number of others.
     fn first_fault(&mut self, name: &Name, bytes: &[u8], [number, place, last]: Words) {
@@ -118,7 +118,7 @@ impl Asker {
             && (number != 3 || place == bytes.len() as u64);
         let question = || format!("may the judge answer {number} {place} {last}?");
         self.tally.hold(name, &question, bytes, ("library", &may_come), ("law", &true));
-        if may_come && matches!(number, 2..=13 | 19 | 23) {
+        if may_come && matches!(number, 2..=12 | 19 | 23) {
             let before = &bytes[..place as usize];
             let law = [3, place, 0];
             let question = || format!("judge, the first {place} bytes alone");

@@ -308,12 +308,7 @@ impl<'m> Run<'m> {
                     return Err((11, place));
                 }
             }
-            "IntrBkSttlmAmt" => {
-                self.sum += u128::from(worth);
-                if self.sum > 99_999_999_999_999_999 {
-                    return Err((13, place));
-                }
-            }
+            "IntrBkSttlmAmt" => self.sum += u128::from(worth),
             _ => {}
         }
         let meaning = match kind {

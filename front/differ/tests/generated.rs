@@ -301,16 +301,19 @@ fn every_damage_and_every_number() {
     }
     let missing: Vec<&str> = damage::ways().filter(|way| !damages.contains(way)).collect();
     assert!(missing.is_empty(), "{missing:?}");
-    // 1 and 12 are met at the limits; 13 no message reaches.
+    // 1 and 12 are met at the limits.
     let met: Vec<u8> = numbers.into_iter().collect();
     assert_eq!(met, [2, 3, 4, 6, 7, 8, 9, 10, 11, 14, 15, 16, 19, 23]);
     let mut at_limits = BTreeSet::new();
-    sweep::limits(|_, case| {
-        if let Known::Refused { number, .. } = case.known {
-            at_limits.insert(number);
-        }
+    let mut highest = 0;
+    sweep::limits(|_, case| match case.known {
+        Known::Refused { number, .. } => drop(at_limits.insert(number)),
+        Known::Accepted { cents, .. } => highest = highest.max(cents),
+        Known::Bad | Known::Nothing => {}
     });
     assert!(at_limits.contains(&1) && at_limits.contains(&12), "{at_limits:?}");
+    // The highest sum that a message can have: 10,000 times the highest amount.
+    assert_eq!(highest, 999_999_999_990_000);
 }
 
 /// Each way to make a twin, with what is known of it: whether the plain form is the same.

@@ -2,7 +2,7 @@
 
 use crate::value::{
     bic, code, count, creditor_id, date, end_to_end, header_amount, iban, item_amount, number,
-    reference, text140, text70, time, HEADER_MOST,
+    reference, text140, text70, time,
 };
 
 /// A refusal: "Each gives its number and a place".
@@ -423,11 +423,8 @@ impl<'m, const ACCEPTED: bool> Cursor<'m, ACCEPTED> {
     fn amount(&mut self, sum: &mut u64) -> Result<u64, Refusal> {
         self.amount_tag(b"<IntrBkSttlmAmt Ccy=\"")?;
         let amount = self.value(item_amount)?;
-        // "13: running sum over the header total's upper range". No 10,000 items reach it.
+        // "Ten thousand items of at most 99,999,999,999 cents stay below the header's upper range."
         *sum += amount.worth;
-        if *sum > HEADER_MOST {
-            return Err((number::SUM, amount.place));
-        }
         self.end_tag(b"</IntrBkSttlmAmt>")?;
         Ok(amount.worth)
     }

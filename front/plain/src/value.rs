@@ -4,7 +4,8 @@
 //! "Accepting, the amount's answers the cents and the count's the number, the others yes" (here 0).
 //! "A single checker asked alone answers with 7 to 9"; since request 1 that of an IBAN with 19 too.
 
-/// The refusal numbers of the paper's table. "Number 5 is not used."
+/// The refusal numbers of the paper's table. "Number 5 is not used", and request 8 leaves one more
+/// unused.
 pub mod number {
     /// over 16,777,216 bytes, the message or its plain form
     pub const TOO_LONG: u8 = 1;
@@ -28,8 +29,6 @@ pub mod number {
     pub const INSTRUMENT: u8 = 11;
     /// item 10,001 begins
     pub const TOO_MANY: u8 = 12;
-    /// running sum over the header total's upper range
-    pub const SUM: u8 = 13;
     /// NbOfTxs is not the item count
     pub const COUNT: u8 = 14;
     /// total is not the sum
