@@ -8,7 +8,7 @@ use lib.ListN.{length, replicate, length-append}
 use Rattle.text.proofs.Truths.{never}
 use Rattle.profile.specs.declared.Kind.{Kind}
 use Rattle.profile.specs.declared.Field.{Field}
-use Rattle.profile.specs.declared.Field.the-variants.{SeqTp}
+use Rattle.profile.specs.declared.Field.the-variants.{LclInstrm, SeqTp}
 use Rattle.profile.specs.Version.{Version, v02}
 use Rattle.profile.specs.Tree.{Shape}
 use Rattle.profile.specs.Profile.{isType, inHeader, inItem}
@@ -19,16 +19,18 @@ use Rattle.reading.specs.Verdict.{accepted}
 use Rattle.reading.specs.Judged.{whats, listed, judged}
 use Rattle.reading.specs.Items.{Item, notesOf, theItems, theHeader}
 use Rattle.reading.proofs.Lists.{at-append, types-append}
+use Rattle.reading.proofs.Each.{AllIn}
 use Rattle.documents.specs.Document.{Doc, Each, LedBy, Proper}
 use Rattle.documents.specs.Said.{said}
 use Rattle.documents.specs.Holds.{TypeStands, inHeader as above, inItems}
 use Rattle.documents.proofs.Often.{aKind, aField, aType, times, fixed, as-often, weight-field, weight-types, of-kind, at-field}
-use Rattle.documents.proofs.Each.{each-rest}
+use Rattle.documents.proofs.Each.{each-first, each-rest}
 use Rattle.documents.proofs.Typed.{lacking, lacking-append, lacking-all, lacking-none, orAbsent, once-or-lacking}
+use Rattle.items.proofs.Accepted.{accepted-chained}
 use Rattle.bulks.specs.Bulk.{DocItem, itemText, front, itemsFrom}
 use Rattle.bulks.specs.Accepted.{Bulked}
 use Rattle.bulks.proofs.Parts.{itemsSaid, said-parts, items-said}
-use Rattle.bulks.proofs.Items.{bulk-read, bulk-holds, items-proper, header-proper, its-judgement, accepted-items, accepted-header}
+use Rattle.bulks.proofs.Items.{bulk-read, bulk-holds, items-proper, header-proper, its-judgement, accepted-many, accepted-items, accepted-header}
 
 -- a tree in which the payment type may stand once, and holds then one of a field that stands nowhere else
 pub record OneIn (f : Field) (sh : Shape) : Type 0 where
@@ -42,16 +44,19 @@ pub record InEach (f : Field) : Type 0 where
   pub header : (v : Version) → OneIn f (inHeader v)
   pub item : (v : Version) → OneIn f (inItem v)
 
-header-sequence : (v : Version) → OneIn SeqTp (inHeader v)
+in-headers : (v : Version) → AllIn (λ f. OneIn f (inHeader v)) (LclInstrm ∷ SeqTp ∷ [])
 unfolding inHeader isType
-header-sequence v02 = record { level = refl; once = refl; placed = refl; place = refl }
+in-headers v02 = (record { level = refl; once = refl; placed = refl; place = refl }, (record { level = refl; once = refl; placed = refl; place = refl }, tt))
 
-item-sequence : (v : Version) → OneIn SeqTp (inItem v)
+in-items : (v : Version) → AllIn (λ f. OneIn f (inItem v)) (LclInstrm ∷ SeqTp ∷ [])
 unfolding inItem isType
-item-sequence v02 = record { level = refl; once = refl; placed = refl; place = refl }
+in-items v02 = (record { level = refl; once = refl; placed = refl; place = refl }, (record { level = refl; once = refl; placed = refl; place = refl }, tt))
+
+pub instrument : InEach LclInstrm
+instrument = record { header = λ v. in-headers v .0; item = λ v. in-items v .0 }
 
 pub sequence : InEach SeqTp
-sequence = record { header = header-sequence; item = item-sequence }
+sequence = record { header = λ v. in-headers v .1 .0; item = λ v. in-items v .1 .0 }
 
 -- one of the field where the payment type stands, and none where it does not
 module _ (f : Field) {sh : Shape} (i : OneIn f sh) (d : Doc sh) (pr : Proper sh d) where
@@ -101,9 +106,16 @@ module _ (v : Version) (f : Field) (i : InEach f) where
       )
 
   -- each of them has one or lacks the payment type
-  each-has : (p : ℕ) (l : List (DocItem v)) → Each (LedBy (Proper (inItem v))) l → Each (λ x. length (valuesAt f (x .holds)) + lacks x ≡ 1) (itemsFrom v p l)
+  abbrev HasOne : Item → Type 0
+  HasOne x = length (valuesAt f (x .holds)) + lacks x ≡ 1
+
+  each-has : (p : ℕ) (l : List (DocItem v)) → Each (LedBy (Proper (inItem v))) l → Each HasOne (itemsFrom v p l)
   each-has p [] pr = tt
   each-has p (x ∷ l) pr = (one-or-lacking f (i .item v) (x .held) (pr .0 .1), each-has (p + length (itemText v x)) l (pr .1))
+
+  at-most : (l : List Item) → Each HasOne l → allLack l ≤ length l
+  at-most [] h = omega arith
+  at-most (y ∷ l) h = omega (arith, h .0, at-most l (h .1))
 
 -- ---- where the header's payment type stands: with one place in the header
 at-first : (h r : List Bool) (b c : Bool) (n : ℕ) → length h ≡ 1 → h ++ r ≡ b ∷ replicate n c → (h ≡ b ∷ []) × (r ≡ replicate n c)
@@ -140,34 +152,69 @@ module _ (m : List ℕ) (n c : ℕ) (e : judged m ≡ accepted n c) (k : Bulked 
   as-many : itemsIn (H ++ I) ≡ length (k .bulk .items)
   as-many = ap itemsIn (sym (said-parts (k .bulk))) ∙ items-said (k .bulk) proper headed
 
-  -- an item that has none lacks the payment type, so that the header has it; and then no item has one
-  pub only-above : (a b : List Item) (x : Item) → theItems m ≡ a ++ (x ∷ b) → valuesAt f (x .holds) ≡ [] → valuesAt f (whats (notesOf (noted listed (theTrace m) []))) ≡ valuesAt f (theHeader m)
-  only-above a b x is none =
-      ap (valuesAt f) read
-      ∙ (at-append f H I ∙ (ap (λ (l : List (List ℕ)). valuesAt f H ++ l) (go stands) ∙ (append-nil (valuesAt f H) ∙ ap (valuesAt f) (sym (accepted-header m n c e k)))))
-    where
-      items : List Item
-      items = itemsFrom v (length (front (k .bulk))) (k .bulk .items)
+  module _ (a b : List Item) (x : Item) (is : theItems m ≡ a ++ (x ∷ b)) where
+    its : itemsFrom v (length (front (k .bulk))) (k .bulk .items) ≡ a ++ (x ∷ b)
+    its = sym (accepted-items m n c e k) ∙ is
 
-      there : items ≡ a ++ (x ∷ b)
-      there = sym (accepted-items m n c e k) ∙ is
+    -- it has one or lacks the payment type; and so has each of the others
+    each-one : Each (HasOne v f i) (a ++ (x ∷ b))
+    each-one = rw its at (each-has v f i (length (front (k .bulk))) (k .bulk .items) proper)
 
-      lacks-one : 1 ≤ lacking (typesIn I)
-      lacks-one =
-          let h : Each (λ y. length (valuesAt f (y .holds)) + lacks v f i y ≡ 1) (a ++ (x ∷ b)) = rw there at (each-has v f i (length (front (k .bulk))) (k .bulk .items) proper) in
-          let o : length (valuesAt f (x .holds)) + lacks v f i x ≡ 1 = each-rest (λ y. length (valuesAt f (y .holds)) + lacks v f i y ≡ 1) a (x ∷ b) h .0 in
-          omega (arith, o, ap length none, items-lack v f i (length (front (k .bulk))) (k .bulk .items), ap (allLack v f i) there, lack-append v f i a (x ∷ b))
+    its-one : HasOne v f i x
+    its-one = each-rest (HasOne v f i) a (x ∷ b) each-one .0
 
-      place : length (typesIn H) ≡ 1
-      place = one-place f (i .header v) (k .bulk .header .held) headed
+    all-lack : lacking (typesIn I) ≡ allLack v f i a + (lacks v f i x + allLack v f i b)
+    all-lack = items-lack v f i (length (front (k .bulk))) (k .bulk .items) ∙ (ap (allLack v f i) its ∙ lack-append v f i a (x ∷ b))
 
-      go : TypeStands (H ++ I) → valuesAt f I ≡ []
-      go (inItems t) =
-          let s = at-first (typesIn H) (typesIn I) false true (itemsIn (H ++ I)) place (sym (types-append H I) ∙ t) in
-          never (let z = lacks-one in omega (arith, z, ap lacking (s .1), lacking-none (itemsIn (H ++ I))))
-      go (above t) =
-          let s = at-first (typesIn H) (typesIn I) true false (itemsIn (H ++ I)) place (sym (types-append H I) ∙ t) in
-          none-left (valuesAt f I) (omega (arith, ap lacking (s .1), lacking-all (itemsIn (H ++ I)), items-have v f i (k .bulk .items) proper, as-many))
+    place : length (typesIn H) ≡ 1
+    place = one-place f (i .header v) (k .bulk .header .held) headed
+
+    head-one : length (valuesAt f H) + lacking (typesIn H) ≡ 1
+    head-one = one-or-lacking f (i .header v) (k .bulk .header .held) headed
+
+    -- an item that has none lacks the payment type, so that the header has it; and then no item has one
+    pub only-above : valuesAt f (x .holds) ≡ [] → valuesAt f (whats (notesOf (noted listed (theTrace m) []))) ≡ valuesAt f (theHeader m)
+    only-above none =
+        ap (valuesAt f) read
+        ∙ (at-append f H I ∙ (ap (λ (l : List (List ℕ)). valuesAt f H ++ l) (go stands) ∙ (append-nil (valuesAt f H) ∙ ap (valuesAt f) (sym (accepted-header m n c e k)))))
+      where
+        go : TypeStands (H ++ I) → valuesAt f I ≡ []
+        go (inItems t) =
+            let s = at-first (typesIn H) (typesIn I) false true (itemsIn (H ++ I)) place (sym (types-append H I) ∙ t) in
+            never (omega (arith, its-one, ap length none, all-lack, ap lacking (s .1), lacking-none (itemsIn (H ++ I))))
+        go (above t) =
+            let s = at-first (typesIn H) (typesIn I) true false (itemsIn (H ++ I)) place (sym (types-append H I) ∙ t) in
+            none-left (valuesAt f I) (omega (arith, ap lacking (s .1), lacking-all (itemsIn (H ++ I)), items-have v f i (k .bulk .items) proper, as-many))
+
+    -- the header and the item together have one
+    pub one-wherever : length (valuesAt f (theHeader m ++ x .holds)) ≡ 1
+    one-wherever =
+        let z : valuesAt f (theHeader m ++ x .holds) ≡ valuesAt f H ++ valuesAt f (x .holds) =
+        ap (λ (l : List What). valuesAt f (l ++ x .holds)) (accepted-header m n c e k) ∙ at-append f H (x .holds) in
+        omega (arith, ap length z, length-append (valuesAt f H) (valuesAt f (x .holds)), go stands)
+      where
+        go : TypeStands (H ++ I) → length (valuesAt f H) + length (valuesAt f (x .holds)) ≡ 1
+        go (inItems t) =
+            let s = at-first (typesIn H) (typesIn I) false true (itemsIn (H ++ I)) place (sym (types-append H I) ∙ t) in
+            omega (arith, head-one, its-one, ap lacking (s .0), all-lack, ap lacking (s .1), lacking-none (itemsIn (H ++ I)))
+        go (above t) =
+            let s = at-first (typesIn H) (typesIn I) true false (itemsIn (H ++ I)) place (sym (types-append H I) ∙ t) in
+            omega (
+              arith,
+              head-one,
+              its-one,
+              ap lacking (s .0),
+              all-lack,
+              ap lacking (s .1),
+              lacking-all (itemsIn (H ++ I)),
+              as-many,
+              accepted-many m n c e k,
+              ap length is,
+              length-append a (x ∷ b),
+              accepted-chained m n c e .many,
+              at-most v f i a (each-first (HasOne v f i) a (x ∷ b) each-one),
+              at-most v f i b (each-rest (HasOne v f i) a (x ∷ b) each-one .1),
+            )
 
 -- ---- what stands in no header
 module _ (m : List ℕ) (n c : ℕ) (e : judged m ≡ accepted n c) (k : Bulked m) where

@@ -12,7 +12,7 @@ use Rattle.profile.specs.declared.Kind.the-variants.{Plain, Count, Total, Amoun
 use Rattle.profile.specs.declared.Simple.{Simple}
 use Rattle.profile.specs.declared.Simple.the-variants.{Reference, EndToEnd, Text70, Text140, Date, Time, Bic, Iban, Identifier}
 use Rattle.profile.specs.declared.Field.{Field}
-use Rattle.profile.specs.declared.Field.the-variants.{TxId, EndToEndId, MndtId, DbtrIban, CdtrIban, DbtrBic, ReqdColltnDt, SeqTp, CdtrId, CdtrBic}
+use Rattle.profile.specs.declared.Field.the-variants.{TxId, EndToEndId, MndtId, DbtrIban, CdtrIban, DbtrBic, ReqdColltnDt, SeqTp, CdtrId, CdtrBic, InstrId, LclInstrm, DtOfSgntr}
 use Rattle.profile.specs.Fields.{sameField}
 use Rattle.profile.specs.Version.{Version, v02}
 use Rattle.profile.specs.Tree.{Occ, once, optional, many, more, Shape, end, leaf, group}
@@ -201,6 +201,9 @@ record-is v02 c d =
       read-is v02 c d SeqTp refl refl,
       read-is v02 c d CdtrId refl refl,
       read-is v02 c d CdtrBic refl refl,
+      read-is v02 c d InstrId refl refl,
+      read-is v02 c d LclInstrm refl refl,
+      read-is v02 c d DtOfSgntr refl refl,
     )
 
 meant-append : (a b : List What) → meantAll (a ++ b) ≡ meantAll a ++ meantAll b

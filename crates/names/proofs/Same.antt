@@ -11,7 +11,7 @@ use Rattle.text.proofs.Truths.{never, both-true}
 use Rattle.profile.specs.declared.Kind.{Kind}
 use Rattle.profile.specs.declared.Kind.the-variants.{Amount}
 use Rattle.profile.specs.declared.Field.{Field}
-use Rattle.profile.specs.declared.Field.the-variants.{TxId, EndToEndId, MndtId, DbtrIban, CdtrIban, DbtrBic, ReqdColltnDt, SeqTp, CdtrId, CdtrBic}
+use Rattle.profile.specs.declared.Field.the-variants.{TxId, EndToEndId, MndtId, DbtrIban, CdtrIban, DbtrBic, ReqdColltnDt, SeqTp, CdtrId, CdtrBic, InstrId, LclInstrm, DtOfSgntr}
 use Rattle.profile.specs.Fields.{sameField}
 use Rattle.reading.specs.Trace.{What, itemBegins, itemEnds, there, absent, value, Entry, _at_}
 use Rattle.reading.specs.Rules.{gathered, ofKind, valuesOf, ofField, valuesAt}
@@ -25,7 +25,7 @@ use Rattle.replaced.proofs.Near.{Near, none, like, changed, Unlike}
 
 -- the fields of a posting record, and whether a field is none of some
 abbrev pub recordedFields : List Field
-recordedFields = TxId ∷ EndToEndId ∷ MndtId ∷ DbtrIban ∷ CdtrIban ∷ DbtrBic ∷ ReqdColltnDt ∷ SeqTp ∷ CdtrId ∷ CdtrBic ∷ []
+recordedFields = TxId ∷ EndToEndId ∷ MndtId ∷ DbtrIban ∷ CdtrIban ∷ DbtrBic ∷ ReqdColltnDt ∷ SeqTp ∷ CdtrId ∷ CdtrBic ∷ InstrId ∷ LclInstrm ∷ DtOfSgntr ∷ []
 
 abbrev pub noneOf : List Field → Field → Bool
 noneOf [] f = true
@@ -42,7 +42,7 @@ oneFrom p l = record { from = p; to = nextEnd l; holds = upToEnd l }
 -- two lists that give the same amounts and the same values of a record's fields
 pub record Recorded (a b : List What) : Type 0 where
   pub cents : valuesOf Amount a ≡ valuesOf Amount b
-  pub values : (i : ℕ) → i < 10 → valuesAt (getD recordedFields i TxId) a ≡ valuesAt (getD recordedFields i TxId) b
+  pub values : (i : ℕ) → i < length recordedFields → valuesAt (getD recordedFields i TxId) a ≡ valuesAt (getD recordedFields i TxId) b
 
 recorded-both : {a b c d : List What} → Recorded a b → Recorded c d → Recorded (a ++ c) (b ++ d)
 recorded-both {a} {b} {c} {d} h k = record {
@@ -65,6 +65,9 @@ same-record n =
       n .values 7 (omega arith),
       n .values 8 (omega arith),
       n .values 9 (omega arith),
+      n .values 10 (omega arith),
+      n .values 11 (omega arith),
+      n .values 12 (omega arith),
     )
 
 module _ (Fit : Kind → Field → Type 0) (v w : List ℕ) (unrecorded : (k : Kind) (f : Field) → Fit k f → noneOf recordedFields f ≡ true) (amounts : Unlike Fit v w Amount) where
@@ -109,7 +112,7 @@ module _ (Fit : Kind → Field → Type 0) (v w : List ℕ) (unrecorded : (k : K
   no-amount : (k : Kind) (f : Field) → Fit k f → ofKind Amount (value k f v) ≡ ofKind Amount (value k f w)
   no-amount k f x = rw (amounts k f x)
 
-  no-field : (i : ℕ) → i < 10 → (k : Kind) (f : Field) → Fit k f → ofField (getD recordedFields i TxId) (value k f v) ≡ ofField (getD recordedFields i TxId) (value k f w)
+  no-field : (i : ℕ) → i < length recordedFields → (k : Kind) (f : Field) → Fit k f → ofField (getD recordedFields i TxId) (value k f v) ≡ ofField (getD recordedFields i TxId) (value k f w)
   no-field i h k f x = rw (none-at recordedFields f (unrecorded k f x) i h)
 
   held-alike : {l l′ : List Entry} → Near Fit v w l l′ → Recorded (upToEnd l) (upToEnd l′)

@@ -1,3 +1,1 @@
-pub mod Padded
-pub mod Legal
 pub mod Own

@@ -1,11 +1,10 @@
 -- The key of an accepted bulk is made of its document's own four values, and two bulks of one key have the same four.
 use mathlib.Core.Path.{_≡_, refl, sym, ap, _∙_}
-use mathlib.Core.Bool.{Bool, true, false}
-use mathlib.Core.List.{List, [], _∷_, _++_}
-use Prim.Native.Nat.{ℕ, _+_, _≤_, _<_}
+use mathlib.Core.Bool.{true}
+use mathlib.Core.List.{List, [], _∷_}
+use Prim.Native.Nat.{ℕ, _≤_}
 use native.Mathlib.Omega.{arith}
-use lib.ListN.{length, take, replicate}
-use lib.Seq.{take-at}
+use lib.ListN.{length}
 use Rattle.text.specs.Truth.{pick}
 use Rattle.text.proofs.Truths.{never}
 use Rattle.codes.specs.declared.Element.the-variants.{LclInstrm}
@@ -25,7 +24,6 @@ use Rattle.reading.specs.Rules.{itemsIn, valuesOf, valuesAt, firstOf}
 use Rattle.reading.specs.Judged.{whats, lastOf, listed, judged}
 use Rattle.reading.specs.Items.{notesOf}
 use Rattle.reading.proofs.Flat.{flat, goes-flat, goes-whole}
-use Rattle.postings.specs.Record.{padded}
 use Rattle.documents.specs.Document.{Doc, Proper, Each}
 use Rattle.documents.specs.Said.{said}
 use Rattle.documents.specs.Message.{Message, whole, Lawful}
@@ -40,10 +38,10 @@ use Rattle.items.specs.Sure.{sure}
 use Rattle.items.specs.Chain.{Itemized}
 use Rattle.items.proofs.Parts.{surely}
 use Rattle.items.proofs.Accepted.{accepted-chained}
+use Rattle.padding.proofs.Padded.{padded-one, first-field}
+use Rattle.padding.proofs.Legal.{Written, aStranger, each-legal, each-of, service-fits, aPlain, Fits, plain-fits}
 use Rattle.naming.specs.Key.{keyWith, keyOf, readIn, keyed}
 use Rattle.naming.specs.Own.{Four, keyFor, Names, Named}
-use Rattle.naming.proofs.Padded.{Held, padded-one, parts-one}
-use Rattle.naming.proofs.Legal.{aStranger, each-legal, services-held, aPlain, Fits, plain-fits}
 
 -- ---- each stands once in the header, and is of its kind
 pub id-once : (v : Version) → OnceAt MsgId (profile v)
@@ -181,27 +179,23 @@ module _ (m : List ℕ) (n c : ℕ) (e : judged m ≡ accepted n c) where
       (rw (one-of (valuesAt h ws) (one-at (doc .document .inside) proper h o)) at l) .0
 
   pub record FourHeld (f : Four) : Type 0 where
-    pub service : Held 4 (f .service)
-    pub id : Held 35 (f .id)
-    pub bic : Held 11 (f .bic)
-    pub date : length (f .date) ≡ 10
+    pub service : Written 4 (f .service)
+    pub id : Written 35 (f .id)
+    pub bic : Written 11 (f .bic)
+    pub date : Written 10 (f .date)
 
   pub four-held : FourHeld four
   unfolding four
   four-held =
       let s = headed (valuesOf (Code LclInstrm) ws) service-there (holds .alike) in
       record {
-        service = (rw (s .is) at (services-held ws (holds .kinds))) .0;
+        service = (rw (s .is) at (each-of (Code LclInstrm) (Written 4) service-fits ws (holds .kinds))) .0;
         id = held-at MsgId Reference (id-kind (doc .version)) (id-once (doc .version));
         bic = held-at InstgBic Bic (bic-kind (doc .version)) (bic-once (doc .version));
         date = held-at IntrBkSttlmDt Date (date-kind (doc .version)) (date-once (doc .version));
       }
 
 -- ---- four values that their fields hold are told from the key
-full : (n : ℕ) (v : List ℕ) → length v ≡ n → padded n v ≡ v
-unfolding padded
-full n v h = take-at v (replicate n 32) n h
-
 module _ (m k : List ℕ) {n c i d : ℕ} (e : judged m ≡ accepted n c) (g : judged k ≡ accepted i d) where
   -- **Two accepted bulks of one key have the same service, MsgId, instructing BIC and settlement date.**
   pub same-four : keyed m .key ≡ keyed k .key → four m n c e ≡ four k i d g
@@ -212,13 +206,13 @@ module _ (m k : List ℕ) {n c i d : ℕ} (e : judged m ≡ accepted n c) (g : j
       let h = four-held m n c e in
       let j = four-held k i d g in
       let y : keyFor f ≡ keyFor t = sym (named m n c e .key) ∙ (z ∙ named k i d g .key) in
-      let p = parts-one 4 (f .service) (t .service) _ _ y in
-      let q = parts-one 35 (f .id) (t .id) _ _ (p .1) in
-      let r = parts-one 11 (f .bic) (t .bic) _ _ (q .1) in
-      let a : f .service ≡ t .service = padded-one 4 (f .service) (t .service) (h .service) (j .service) (p .0) in
-      let b : f .id ≡ t .id = padded-one 35 (f .id) (t .id) (h .id) (j .id) (q .0) in
-      let w : f .bic ≡ t .bic = padded-one 11 (f .bic) (t .bic) (h .bic) (j .bic) (r .0) in
-      let x : f .date ≡ t .date = sym (full 10 (f .date) (h .date)) ∙ (r .1 ∙ full 10 (t .date) (j .date)) in
+      let p = first-field 4 (f .service) (t .service) _ _ y in
+      let q = first-field 35 (f .id) (t .id) _ _ (p .1) in
+      let r = first-field 11 (f .bic) (t .bic) _ _ (q .1) in
+      let a : f .service ≡ t .service = padded-one 4 (f .service) (t .service) (h .service .1) (j .service .1) (p .0) in
+      let b : f .id ≡ t .id = padded-one 35 (f .id) (t .id) (h .id .1) (j .id .1) (q .0) in
+      let w : f .bic ≡ t .bic = padded-one 11 (f .bic) (t .bic) (h .bic .1) (j .bic .1) (r .0) in
+      let x : f .date ≡ t .date = padded-one 10 (f .date) (t .date) (h .date .1) (j .date .1) (r .1) in
       ap (λ (l : List ℕ). record { service = l; id = f .id; bic = f .bic; date = f .date }) a
       ∙ ap (λ (l : List ℕ). record { service = t .service; id = l; bic = f .bic; date = f .date }) b
       ∙ ap (λ (l : List ℕ). record { service = t .service; id = t .id; bic = l; date = f .date }) w

@@ -20,7 +20,7 @@ length-digits (suc n) c = length-append (digits n (c / 10)) ((48 + c % 10) ∷ [
 
 pub length-record : (ws : List What) → length (recordFor ws) ≡ recordLength
 unfolding recordFor
-length-record ws = simp (length-append, length-padded, length-digits)
+length-record ws = simp (length-append, length-padded, length-digits, length-replicate)
 
 pub length-records : (h : List What) (l : List Item) → length (recordsFor h l) ≡ recordLength * length l
 length-records h [] = refl

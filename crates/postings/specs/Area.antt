@@ -10,7 +10,7 @@ use Rattle.reading.specs.Judged.{judged}
 use Rattle.reading.specs.Items.{Item, theHeader, theItems}
 use Rattle.postings.specs.Record.{recordLength, recordFor}
 
--- the records of items under a header, in their order: "Records take SeqTp from wherever it stands"
+-- the records of items under a header, in their order: "Records take SeqTp from wherever it stands", and LclInstrm
 abbrev pub recordsFor : List What → List Item → List ℕ
 recordsFor h [] = []
 recordsFor h (x ∷ l) = recordFor (h ++ x .holds) ++ recordsFor h l
@@ -24,7 +24,7 @@ pub record Outcome : Type 0 where
 abbrev pub asLent : ℕ → ℕ → List ℕ → Outcome
 asLent n p a = record { verdict = refused n p; area = a }
 
--- the judge's own refusal; 17 "record area under 256 times the count", at 0; else "record i goes to bytes 256i to 256i+255" and
+-- the judge's own refusal; "refusal 17 compares with 320 times the count", at 0; else record i goes to bytes 320i to 320i+319 and
 -- "Bytes beyond the last record keep what they held."
 abbrev pub outcome : List What → List Item → List ℕ → Judged → Outcome
 outcome h l a (refused n p) = asLent n p a

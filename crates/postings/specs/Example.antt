@@ -1,4 +1,4 @@
--- The paper's whole example, over a message's own text.
+-- The paper's whole example, over a message's own text, with what request 9 puts behind it.
 use mathlib.Core.Path.{_≡_, refl}
 use mathlib.Core.List.{List, [], _∷_, _++_}
 use Prim.Native.Nat.{ℕ, _≤_}
@@ -67,7 +67,8 @@ abbrev pub _and_ : String → ℕ → List ℕ
 t and n = bytes t ++ replicate n (byte " ")
 
 -- "`T1` and 33 spaces, `E1` and 33, `M1` and 33, `DE21500500009876543210` and 12, `DE87200500001234567890` and 12, `SPUEDE2UXXX`,
--- `00000001234`, `2010-12-03`, `RCUR`, `DE98ZZZ09999999999` and 17 spaces, `BANKDEFFXXX`, LF."
+-- `00000001234`, `2010-12-03`, `RCUR`, `DE98ZZZ09999999999` and 17 spaces, `BANKDEFFXXX`"; then "InstrId 35 (spaces if absent)", and it is absent, "LclInstrm 4",
+-- "DtOfSgntr 10, 15 spaces, LF"
 abbrev pub exampleRecord : List ℕ
 exampleRecord =
     "T1" and 33
@@ -81,6 +82,9 @@ exampleRecord =
     ++ bytes "RCUR"
     ++ "DE98ZZZ09999999999" and 17
     ++ bytes "BANKDEFFXXX"
+    ++ "" and 35
+    ++ bytes "CORE"
+    ++ "2010-11-01" and 15
     ++ (10 ∷ [])
 
 -- it is accepted, and its one item has this record: computed

@@ -7,7 +7,8 @@ use borrow.Author.Tests.{lt-ltb, le-ltb}
 use borrow.Rule.Slice.PartMut.{putMid}
 use lib.ListN.{length, take, drop, length-append, length-take, length-drop}
 use lib.Seq.{take-at, drop-at, drop-drop}
-use Rattle.profile.specs.declared.Field.the-variants.{SeqTp}
+use Rattle.profile.specs.declared.Field.{Field}
+use Rattle.profile.specs.declared.Field.the-variants.{LclInstrm, SeqTp}
 use Rattle.profile.specs.Version.{v02}
 use Rattle.profile.specs.Limits.{mostBytes}
 use Rattle.reading.specs.Trace.{What, Entry, message}
@@ -75,9 +76,17 @@ module _ (m : List ℕ) (count first : ℕ) (above area₀ : List ℕ) (r : Room
   chain : (first ≤ length m) × Chained v02 m first (theItems m)
   chain = rw first-is (found-chained m count (r .cents) (r .accepted))
 
+  -- what was noted of the whole message, of the fields that may stand in its header
+  above-noted : (f : Field) → startOf above f ≡ startOf (places (notesOf (noted listed (message m) []))) f
+  above-noted f = ap (λ (l : List ℕ). startOf l f) (r .noted ∙ places-noted m count (r .cents) (r .accepted))
+
   sequence-noted : startOf above SeqTp ≡ fieldPlace SeqTp (notesOf (noted listed (message m) []))
   unfolding places
-  sequence-noted = ap (λ (l : List ℕ). startOf l SeqTp) (r .noted ∙ places-noted m count (r .cents) (r .accepted))
+  sequence-noted = above-noted SeqTp
+
+  instrument-noted : startOf above LclInstrm ≡ fieldPlace LclInstrm (notesOf (noted listed (message m) []))
+  unfolding places
+  instrument-noted = above-noted LclInstrm
 
   pub fill-begins : Filling m count area₀ 0 first area₀
   fill-begins =
@@ -142,7 +151,7 @@ module _ (m : List ℕ) (count first : ℕ) (above area₀ : List ℕ) (r : Room
               let q : x ≡ recordFor (theHeader m ++ it .holds) =
               w
               ∙ (ap (λ (u : Ended Notes). recordOf m (u .notes) above) (sym z)
-              ∙ record-is m count (r .cents) (r .accepted) at it t (f .done) l b (a .state .notes) above (a .summed) sequence-noted) in
+              ∙ record-is m count (r .cents) (r .accepted) at it t (f .done) l b (a .state .notes) above (a .summed) sequence-noted instrument-noted) in
               let n : length (after x) ≡ length area₀ =
               ap length (after-is x)
               ∙ simp (length-append, length-drop) (omega (arith, length-records (theHeader m) (f .done), f .many, ap length q, length-record (theHeader m ++ it .holds), r .room)) in

@@ -15,7 +15,7 @@ use Rattle.text.proofs.Scan.{rest-of, lead-le}
 use Rattle.text.proofs.Truths.{never}
 use Rattle.tags.specs.Values.{inValue, valueAt}
 use Rattle.profile.specs.declared.Field.{Field}
-use Rattle.profile.specs.declared.Field.the-variants.{TxId, EndToEndId, MndtId, DbtrIban, CdtrIban, DbtrBic, ReqdColltnDt, SeqTp, CdtrId, CdtrBic}
+use Rattle.profile.specs.declared.Field.the-variants.{TxId, EndToEndId, MndtId, DbtrIban, CdtrIban, DbtrBic, ReqdColltnDt, SeqTp, CdtrId, CdtrBic, InstrId, LclInstrm, DtOfSgntr}
 use Rattle.words.specs.Collapsed.{collapsed}
 use Rattle.words.specs.Walk.{overwritten}
 use Rattle.postings.specs.Record.{recordLength, padded, digits}
@@ -187,19 +187,25 @@ module _ {at : ℕ} {d r : List ℕ} (s : So at d r) where
       ∙ rw (z, ← replicate-append-replicate {A = ℕ} (w - length u) rest 32, padded-is w v) (simp append-assoc) in
       record { is = e ∙ f; long = length-append d (padded w v) ∙ (rw (s .long, length-padded w v)) }
 
--- the last byte
-pub ended : {d r : List ℕ} → So 255 d r → set r 255 10 ≡ d ++ (10 ∷ [])
-ended {d} s = rw (s .is) (set-at d 32 [] 10 255 (s .long))
+-- the spaces that stay, and the last byte
+pub ended : {d r : List ℕ} → So 304 d r → set r 319 10 ≡ d ++ replicate 15 32 ++ (10 ∷ [])
+ended {d} s =
+    let e : d ++ replicate 16 32 ≡ d ++ replicate 15 32 ++ (32 ∷ []) = simp append-assoc in
+    rw (s .is, e) (set-at (d ++ replicate 15 32) 32 [] 10 319 (length-append d (replicate 15 32) ∙ rw (s .long)))
 
 -- ---- all fields
 pub blank : So 0 [] (replicate recordLength 32)
 blank = record { is = refl; long = refl }
 
 module _ (m : List ℕ) (n : Notes) (above : List ℕ) where
+  -- a field of the item, and one that is had from wherever it stands
   abbrev pub own : Field → List ℕ
   own f = heldAt m (startOf (n .starts) f)
 
-  pub whole : {r0 r1 r2 r3 r4 r5 r6 r7 r8 r9 r10 : List ℕ}
+  abbrev pub anywhere : Field → List ℕ
+  anywhere f = heldAt m (ownOr (startOf above f) (startOf (n .starts) f))
+
+  pub whole : {r0 r1 r2 r3 r4 r5 r6 r7 r8 r9 r10 r11 r12 r13 : List ℕ}
       → r0 ≡ laid 0 (take 35 (own TxId)) (replicate recordLength 32)
       → r1 ≡ laid 35 (padded 35 (collapsed (own EndToEndId))) r0
       → r2 ≡ laid 70 (take 35 (own MndtId)) r1
@@ -208,12 +214,15 @@ module _ (m : List ℕ) (n : Notes) (above : List ℕ) where
       → r5 ≡ laid 173 (take 11 (own DbtrBic)) r4
       → r6 ≡ laid 184 (digits 11 (n .cents)) r5
       → r7 ≡ laid 195 (take 10 (own ReqdColltnDt)) r6
-      → r8 ≡ laid 205 (take 4 (heldAt m (ownOr (startOf above SeqTp) (startOf (n .starts) SeqTp)))) r7
+      → r8 ≡ laid 205 (take 4 (anywhere SeqTp)) r7
       → r9 ≡ laid 209 (take 35 (own CdtrId)) r8
       → r10 ≡ laid 244 (take 11 (own CdtrBic)) r9
-      → set r10 255 10 ≡ recordOf m n above
+      → r11 ≡ laid 255 (take 35 (own InstrId)) r10
+      → r12 ≡ laid 290 (take 4 (anywhere LclInstrm)) r11
+      → r13 ≡ laid 294 (take 10 (own DtOfSgntr)) r12
+      → set r13 319 10 ≡ recordOf m n above
   unfolding recordOf
-  whole e0 e1 e2 e3 e4 e5 e6 e7 e8 e9 e10 =
+  whole e0 e1 e2 e3 e4 e5 e6 e7 e8 e9 e10 e11 e12 e13 =
       let s0 = next-padded blank 35 (own TxId) (omega arith) e0 in
       let s1 = next-whole s0 35 (padded 35 (collapsed (own EndToEndId))) (length-padded 35 (collapsed (own EndToEndId))) e1 in
       let s2 = next-padded s1 35 (own MndtId) (omega arith) e2 in
@@ -222,6 +231,9 @@ module _ (m : List ℕ) (n : Notes) (above : List ℕ) where
       let s5 = next-padded s4 11 (own DbtrBic) (omega arith) e5 in
       let s6 = next-whole s5 11 (digits 11 (n .cents)) (length-digits 11 (n .cents)) e6 in
       let s7 = next-padded s6 10 (own ReqdColltnDt) (omega arith) e7 in
-      let s8 = next-padded s7 4 (heldAt m (ownOr (startOf above SeqTp) (startOf (n .starts) SeqTp))) (omega arith) e8 in
+      let s8 = next-padded s7 4 (anywhere SeqTp) (omega arith) e8 in
       let s9 = next-padded s8 35 (own CdtrId) (omega arith) e9 in
-      ended (next-padded s9 11 (own CdtrBic) (omega arith) e10)
+      let s10 = next-padded s9 11 (own CdtrBic) (omega arith) e10 in
+      let s11 = next-padded s10 35 (own InstrId) (omega arith) e11 in
+      let s12 = next-padded s11 4 (anywhere LclInstrm) (omega arith) e12 in
+      ended (next-padded s12 10 (own DtOfSgntr) (omega arith) e13)

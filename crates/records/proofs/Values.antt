@@ -6,7 +6,7 @@ use Prim.Native.Nat.{ℕ}
 use Rattle.money.specs.Amount.{cents}
 use Rattle.profile.specs.declared.Kind.the-variants.{Amount}
 use Rattle.profile.specs.declared.Field.{Field}
-use Rattle.profile.specs.declared.Field.the-variants.{TxId, EndToEndId, MndtId, DbtrIban, CdtrIban, DbtrBic, ReqdColltnDt, SeqTp, CdtrId, CdtrBic}
+use Rattle.profile.specs.declared.Field.the-variants.{TxId, EndToEndId, MndtId, DbtrIban, CdtrIban, DbtrBic, ReqdColltnDt, SeqTp, CdtrId, CdtrBic, InstrId, LclInstrm, DtOfSgntr}
 use Rattle.profile.specs.Version.{Version, v02}
 use Rattle.profile.specs.Profile.{inHeader}
 use Rattle.reading.specs.Trace.{Entry, message}
@@ -24,7 +24,7 @@ use Rattle.items.specs.Places.{fieldPlace, heldAt}
 use Rattle.items.proofs.Places.{noted-of, item-held, item-or-held, accepted-held}
 use Rattle.bulks.specs.Accepted.{Bulked}
 use Rattle.bulks.proofs.Trees.{accepted-bulk}
-use Rattle.bulks.proofs.Typed.{InEach, sequence, only-above, none-above, no-kind-above}
+use Rattle.bulks.proofs.Typed.{InEach, instrument, sequence, only-above, none-above, no-kind-above}
 use Rattle.notes.specs.declared.Notes.{Notes}
 use Rattle.notes.proofs.Sums.{Summed}
 use Rattle.records.specs.Engine.{startOf, ownOr, placeFor, recordOf}
@@ -33,19 +33,39 @@ use Rattle.records.specs.Engine.{startOf, ownOr, placeFor, recordOf}
 abbrev Below : Version → Field → Type 0
 Below v f = (fixed (aField f) (inHeader v) ≡ true) × (times (aField f) (inHeader v) ≡ 0)
 
-all-below : (v : Version) → AllIn (Below v) (TxId ∷ EndToEndId ∷ MndtId ∷ DbtrIban ∷ CdtrIban ∷ DbtrBic ∷ ReqdColltnDt ∷ CdtrId ∷ CdtrBic ∷ [])
+abbrev own : List Field
+own = TxId ∷ EndToEndId ∷ MndtId ∷ DbtrIban ∷ CdtrIban ∷ DbtrBic ∷ ReqdColltnDt ∷ CdtrId ∷ CdtrBic ∷ InstrId ∷ DtOfSgntr ∷ []
+
+all-below : (v : Version) → AllIn (Below v) own
 unfolding inHeader
-all-below v02 = ((refl, refl), ((refl, refl), ((refl, refl), ((refl, refl), ((refl, refl), ((refl, refl), ((refl, refl), ((refl, refl), ((refl, refl), tt)))))))))
+all-below v02 = (
+  (refl, refl),
+  ((refl, refl), ((refl, refl), ((refl, refl), ((refl, refl), ((refl, refl), ((refl, refl), ((refl, refl), ((refl, refl), ((refl, refl), ((refl, refl), tt)))))))))),
+)
 
 amount-below : (v : Version) → (fixed (aKind Amount) (inHeader v) ≡ true) × (times (aKind Amount) (inHeader v) ≡ 0)
 unfolding inHeader
 amount-below v02 = (refl, refl)
 
 -- ---- two records of the same values
-same-record : (u w : Field → List ℕ) (c d : ℕ)
-    → u TxId ≡ w TxId → u EndToEndId ≡ w EndToEndId → u MndtId ≡ w MndtId → u DbtrIban ≡ w DbtrIban → u CdtrIban ≡ w CdtrIban → u DbtrBic ≡ w DbtrBic
-    → c ≡ d → u ReqdColltnDt ≡ w ReqdColltnDt → u SeqTp ≡ w SeqTp → u CdtrId ≡ w CdtrId → u CdtrBic ≡ w CdtrBic → recordWith u c ≡ recordWith w d
-same-record u w c d e0 e1 e2 e3 e4 e5 e6 e7 e8 e9 e10 = rw (e0, e1, e2, e3, e4, e5, e6, e7, e8, e9, e10)
+same-record : (u w : Field → List ℕ) (c d : ℕ) → c ≡ d → AllIn (λ f. u f ≡ w f) own → u SeqTp ≡ w SeqTp → u LclInstrm ≡ w LclInstrm → recordWith u c ≡ recordWith w d
+same-record u w c d e h s l =
+    rw (
+      e,
+      h .0,
+      h .1 .0,
+      h .1 .1 .0,
+      h .1 .1 .1 .0,
+      h .1 .1 .1 .1 .0,
+      h .1 .1 .1 .1 .1 .0,
+      h .1 .1 .1 .1 .1 .1 .0,
+      h .1 .1 .1 .1 .1 .1 .1 .0,
+      h .1 .1 .1 .1 .1 .1 .1 .1 .0,
+      h .1 .1 .1 .1 .1 .1 .1 .1 .1 .0,
+      h .1 .1 .1 .1 .1 .1 .1 .1 .1 .1 .0,
+      s,
+      l,
+    )
 
 -- ---- the last of two lists
 last-append : (d : List ℕ) (a b : List (List ℕ)) → lastOf d (a ++ b) ≡ lastOf (lastOf d a) b
@@ -89,17 +109,44 @@ module _ (m : List ℕ) (count cents′ : ℕ) (e : judged m ≡ accepted count 
       ap (λ (l : List (List ℕ)). cents (lastOf [] l)) (noted-of s Amount ∙ sym h)
 
   -- the record of what was noted of it and of the message is the record of what it holds and what the header says
-  pub record-is : (n : Notes) (above : List ℕ) → Summed (around x (s .inner)) n → startOf above SeqTp ≡ fieldPlace SeqTp all → recordOf m n above ≡ recordFor (theHeader m ++ x .holds)
-  unfolding recordOf recordFor
-  record-is n above u q =
-      same-record (λ f. heldAt m (placeFor above n f)) inRecord (n .cents) (centsFor (theHeader m ++ x .holds))
-      (its TxId (h .0)) (its EndToEndId (h .1 .0)) (its MndtId (h .1 .1 .0)) (its DbtrIban (h .1 .1 .1 .0)) (its CdtrIban (h .1 .1 .1 .1 .0))
-      (its DbtrBic (h .1 .1 .1 .1 .1 .0)) (u .cents ∙ cents-is) (its ReqdColltnDt (h .1 .1 .1 .1 .1 .1 .0))
-      (ap (λ (k : ℕ). heldAt m (ownOr k (startOf (n .starts) SeqTp))) q ∙ (ap (λ (k : ℕ). heldAt m (ownOr (fieldPlace SeqTp all) k)) (u .starts SeqTp) ∙ wherever-is SeqTp sequence))
-      (its CdtrId (h .1 .1 .1 .1 .1 .1 .1 .0)) (its CdtrBic (h .1 .1 .1 .1 .1 .1 .1 .1 .0))
-    where
-      h : AllIn (Below (k .version)) (TxId ∷ EndToEndId ∷ MndtId ∷ DbtrIban ∷ CdtrIban ∷ DbtrBic ∷ ReqdColltnDt ∷ CdtrId ∷ CdtrBic ∷ [])
-      h = all-below (k .version)
+  module _ (n : Notes) (above : List ℕ) (u : Summed (around x (s .inner)) n) where
+    its : (f : Field) → Below (k .version) f → heldAt m (startOf (n .starts) f) ≡ inRecord f
+    its f b = ap (heldAt m) (u .starts f) ∙ own-is f b
 
-      its : (f : Field) → Below (k .version) f → heldAt m (startOf (n .starts) f) ≡ inRecord f
-      its f b = ap (heldAt m) (u .starts f) ∙ own-is f b
+    from-wherever : (f : Field) → InEach f → startOf above f ≡ fieldPlace f all → heldAt m (ownOr (startOf above f) (startOf (n .starts) f)) ≡ inRecord f
+    from-wherever f i q =
+        ap (λ (k : ℕ). heldAt m (ownOr k (startOf (n .starts) f))) q ∙ (ap (λ (k : ℕ). heldAt m (ownOr (fieldPlace f all) k)) (u .starts f) ∙ wherever-is f i)
+
+    pub record-is : startOf above SeqTp ≡ fieldPlace SeqTp all → startOf above LclInstrm ≡ fieldPlace LclInstrm all → recordOf m n above ≡ recordFor (theHeader m ++ x .holds)
+    unfolding recordOf recordFor
+    record-is q r =
+        let h = all-below (k .version) in
+        same-record (λ f. heldAt m (placeFor above n f)) inRecord (n .cents) (centsFor (theHeader m ++ x .holds)) (u .cents ∙ cents-is) (
+          its TxId (h .0),
+          (
+            its EndToEndId (h .1 .0),
+            (
+              its MndtId (h .1 .1 .0),
+              (
+                its DbtrIban (h .1 .1 .1 .0),
+                (
+                  its CdtrIban (h .1 .1 .1 .1 .0),
+                  (
+                    its DbtrBic (h .1 .1 .1 .1 .1 .0),
+                    (
+                      its ReqdColltnDt (h .1 .1 .1 .1 .1 .1 .0),
+                      (
+                        its CdtrId (h .1 .1 .1 .1 .1 .1 .1 .0),
+                        (
+                          its CdtrBic (h .1 .1 .1 .1 .1 .1 .1 .1 .0),
+                          (its InstrId (h .1 .1 .1 .1 .1 .1 .1 .1 .1 .0), (its DtOfSgntr (h .1 .1 .1 .1 .1 .1 .1 .1 .1 .1 .0), tt)),
+                        ),
+                      ),
+                    ),
+                  ),
+                ),
+              ),
+            ),
+          ),
+        )
+        (from-wherever SeqTp sequence q) (from-wherever LclInstrm instrument r)

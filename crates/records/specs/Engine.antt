@@ -4,9 +4,9 @@ use mathlib.Core.Path.{_≡_}
 use mathlib.Core.List.{List, _++_}
 use lib.Dec.{eqb}
 use lib.ListN.{length, take, drop, getD}
-use Rattle.text.specs.Truth.{pick}
+use Rattle.text.specs.Truth.{either, pick}
 use Rattle.profile.specs.declared.Field.{Field}
-use Rattle.profile.specs.declared.Field.the-variants.{SeqTp}
+use Rattle.profile.specs.declared.Field.the-variants.{LclInstrm, SeqTp}
 use Rattle.profile.specs.Fields.{fieldNumber, sameField}
 use Rattle.reading.specs.Verdict.{accepted}
 use Rattle.reading.specs.Judged.{judged}
@@ -23,9 +23,9 @@ startOf starts f = getD starts (fieldNumber f) 0
 abbrev pub ownOr : ℕ → ℕ → ℕ
 ownOr above own = pick (eqb own 0) above own
 
--- "Records take SeqTp from wherever it stands"; every other field stands in the item
+-- "Records take SeqTp from wherever it stands", "LclInstrm 4 (from wherever it stands)"; every other field stands in the item or nowhere
 abbrev pub placeFor : List ℕ → Notes → Field → ℕ
-placeFor above n f = pick (sameField f SeqTp) (ownOr (startOf above f) (startOf (n .starts) f)) (startOf (n .starts) f)
+placeFor above n f = pick (either (sameField f SeqTp) (sameField f LclInstrm)) (ownOr (startOf above f) (startOf (n .starts) f)) (startOf (n .starts) f)
 
 unfoldable pub recordOf : List ℕ → Notes → List ℕ → List ℕ
 recordOf m n above = recordWith (λ f. heldAt m (placeFor above n f)) (n .cents)

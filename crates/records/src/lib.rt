@@ -18,7 +18,7 @@ ghost use Rattle.judge.specs.Verdict.{meant};
 ghost use Rattle.records.specs.Engine.{startOf, ownOr, recordOf, laid, Room};
 
 // How many bytes a record has.
-pub const LENGTH: usize = 256;
+pub const LENGTH: usize = 320;
 
 // A value's bytes, laid into the record from an offset on.
 fn lay(rec: [u8; LENGTH], at: usize, v: &[u8]) -> [u8; LENGTH]
@@ -140,7 +140,10 @@ fn make_record(m: &[u8], n: Notes, above: [u32; profile::FIELDS]) -> [u8; LENGTH
     rec = put_at(rec, 205, 4, m, wherever(s, above, Field::SeqTp));
     rec = put(rec, 209, 35, m, s, Field::CdtrId);
     rec = put(rec, 244, 11, m, s, Field::CdtrBic);
-    rec[255] = 10;
+    rec = put(rec, 255, 35, m, s, Field::InstrId);
+    rec = put_at(rec, 290, 4, m, wherever(s, above, Field::LclInstrm));
+    rec = put(rec, 294, 10, m, s, Field::DtOfSgntr);
+    rec[319] = 10;
     rec
 }
 

@@ -50,23 +50,37 @@ put-requires-7 c κs = search needs
 put-requires-8 : tie.Need-put-requires-8
 put-requires-8 c κs = search needs
 
+put-requires-9 : tie.Need-put-requires-9
+put-requires-9 c κs = search needs
+
+wherever-requires-2 : tie.Need-wherever-requires-2
+wherever-requires-2 c κs = search needs
+
+put-at-requires-2 : tie.Need-put-at-requires-2
+put-at-requires-2 c κs = search needs
+
+put-requires-10 : tie.Need-put-requires-10
+put-requires-10 c κs = search needs
+
 array-write-rec : tie.Need-array-write-rec
 array-write-rec c = search needs
 
 returns : tie.Need-returns
 returns c =
-    let a = c .before .before .before .before .before .before .before .before .before .before .before .before .before .before .before .args in
-    let first = c .before .before .before .before .before .before .before .before .before .before .before .before .put in
-    let start = c .before .before .before .before .before .before .before .before .before .before .before .start-of in
-    let second = c .before .before .before .before .before .before .before .before .before .before .put-end-to-end in
-    let cents = c .before .before .before .before .before in
+    let cents = c .before .before .before .before .before .before .before .before .before in
     let mandate = cents .before .before .before .before in
-    let due = c .before .before .before .before .put6 in
-    whole (a .m .now) (a .n) (a .above) (first .ensures)
-    (second .ensures ∙ ap (λ (p : ℕ). laid 35 (padded 35 (collapsed (heldAt (a .m .now) p))) (first .result)) (start .ensures))
+    let first = mandate .before .before .before in
+    let a = first .before .before .before .args in
+    let sequence = c .before .before .before .before .before .before in
+    let due = sequence .before .before .put6 in
+    let instruction = c .before .before .before .put9 in
+    whole (a .m .now) (a .n) (a .above) (first .put .ensures)
+    (mandate .before .put-end-to-end .ensures ∙ ap (λ (p : ℕ). laid 35 (padded 35 (collapsed (heldAt (a .m .now) p))) (first .put .result)) (mandate .before .before .start-of .ensures))
     (mandate .put2 .ensures) (cents .before .before .before .put3 .ensures) (cents .before .before .put4 .ensures) (cents .before .put5 .ensures) (cents .put-cents .ensures) (due .ensures)
-    (c .before .before .put-at .ensures ∙ ap (λ (p : ℕ). laid 205 (take 4 (heldAt (a .m .now) p)) (due .result)) (c .before .before .before .wherever .ensures))
-    (c .before .put7 .ensures) (c .put8 .ensures)
+    (sequence .put-at .ensures ∙ ap (λ (p : ℕ). laid 205 (take 4 (heldAt (a .m .now) p)) (due .result)) (sequence .before .wherever .ensures))
+    (c .before .before .before .before .before .put7 .ensures) (c .before .before .before .before .put8 .ensures) (instruction .ensures)
+    (c .before .put-at2 .ensures ∙ ap (λ (p : ℕ). laid 290 (take 4 (heldAt (a .m .now) p)) (instruction .result)) (c .before .before .wherever2 .ensures))
+    (c .put10 .ensures)
 
 pub make-record-spec : {M : Type 1} → statement M
 make-record-spec =
@@ -85,5 +99,9 @@ make-record-spec =
     put-at-requires
     put-requires-7
     put-requires-8
+    put-requires-9
+    wherever-requires-2
+    put-at-requires-2
+    put-requires-10
     array-write-rec
     returns)

@@ -4,14 +4,14 @@ use native.Mathlib.Omega.{arith}
 use mathlib.Core.Path.{_≡_, sym, _∙_}
 use Prim.Native.Nat.{_≤_}
 use lib.ListN.{length}
-use Rattle.postings.specs.Record.{digits}
+use Rattle.postings.specs.Record.{recordLength, digits}
 use Rattle.records.specs.Engine.{laid}
 use Rattle.records.proofs.Digits.{due, due-all, due-less, due-none}
 use Rattle.records.proofs.put_cents.Statement.{statement}
 use Rattle.records.proofs.put_cents.Tie as tie
 
 abbrev Inv-loop : tie.InvT-loop
-Inv-loop cents out₀ left₀ i₀ out left i = (due 184 i left out ≡ laid 184 (digits 11 cents) out₀) × (i ≤ 11) × (length out ≡ 256)
+Inv-loop cents out₀ left₀ i₀ out left i = (due 184 i left out ≡ laid 184 (digits 11 cents) out₀) × (i ≤ 11) × (length out ≡ recordLength)
 
 abbrev μ-loop : tie.MeasureT-loop
 μ-loop cents out₀ left₀ i₀ out left i = i

@@ -1,18 +1,19 @@
--- `records::write` meets its contract. The loop's invariant: the first i bytes are the record's. The measure is what is left of 256.
+-- `records::write` meets its contract. The loop's invariant: the first i bytes are the record's. The measure is what is left of the record.
 use borrow.Author.Needs.{needs}
 use native.Mathlib.Omega.{arith}
 use mathlib.Core.Path.{_≡_, refl}
 use Prim.Native.Nat.{_≤_, _-_}
 use lib.ListN.{length, take}
 use Rattle.text.proofs.Scan.{copy-more, copy-end}
+use Rattle.postings.specs.Record.{recordLength}
 use Rattle.records.proofs.write.Statement.{statement}
 use Rattle.records.proofs.write.Tie as tie
 
 abbrev Inv-loop : tie.InvT-loop
-Inv-loop part₀ rec i₀ part i = (take i part ≡ take i rec) × (i ≤ 256) × (length part ≡ 256)
+Inv-loop part₀ rec i₀ part i = (take i part ≡ take i rec) × (i ≤ recordLength) × (length part ≡ recordLength)
 
 abbrev μ-loop : tie.MeasureT-loop
-μ-loop part₀ rec i₀ part i = 256 - i
+μ-loop part₀ rec i₀ part i = recordLength - i
 
 loop-holds : tie.Need-loop-holds Inv-loop μ-loop
 loop-holds c = (refl, search needs, c .pre)

@@ -1,0 +1,4 @@
+pub mod Padded
+pub mod Legal
+pub mod Values
+pub mod Agree
