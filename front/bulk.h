@@ -24,8 +24,8 @@ extern "C" {
 /* The words of an answer. */
 #define BULK_ANSWER 3
 
-/* The bytes of one posting record. */
-#define BULK_RECORD 256
+/* The bytes of one posting record; docs/PROFILE.md has its fields. */
+#define BULK_RECORD 320
 
 /* A message: 0, its count, its cents; or number, place, 0. */
 void bulk_judge(const uint8_t *message, size_t length, uint64_t answer[BULK_ANSWER]);

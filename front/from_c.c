@@ -253,6 +253,25 @@ static void check_records(const uint8_t *message, size_t length, const uint8_t r
     }
 }
 
+/* The example without its InstrId: its record has spaces there, and all else is as before. */
+static void check_no_instruction(const uint8_t *message, size_t length, const uint8_t record[BULK_RECORD])
+{
+    static uint8_t shorter[65536];
+    size_t start = behind(message, "<PmtId>"), end = behind(message, "</InstrId>");
+    uint64_t answer[BULK_ANSWER];
+    uint8_t area[BULK_RECORD], due[BULK_RECORD];
+    memcpy(shorter, message, start);
+    memcpy(shorter + start, message + end, length - end);
+    bulk_records(shorter, length - (end - start), area, sizeof area, answer);
+    hold("records, no InstrId", answer, 0, 1, 1234);
+    memcpy(due, record, BULK_RECORD);
+    memset(due + 255, ' ', 35);
+    if (memcmp(area, due, BULK_RECORD) != 0 || memcmp(due, record, BULK_RECORD) == 0) {
+        printf("records, no InstrId: not spaces in its place, or not the rest of the record\n");
+        wrong++;
+    }
+}
+
 /* The plain form of the example, which lacks but the declaration: in an area too small and in one that is larger. */
 static void check_plain(const uint8_t *message, size_t length)
 {
@@ -313,6 +332,7 @@ int main(int words, char **word)
     check_withdraw(message, length);
     check_handmade();
     check_records(message, length, record);
+    check_no_instruction(message, length, record);
     check_plain(message, length);
     check_collapsed(message, length, record);
     return wrong ? 1 : 0;

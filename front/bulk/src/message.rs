@@ -172,6 +172,8 @@ mod tests {
                 let front = format!("{tx_id:35}{end_to_end_id:35}{mandate:35}{iban:34}");
                 let back = format!("{cents}{date}{sequence}");
                 assert_eq!((text(&record[..139]), text(&record[184..209])), (front, back));
+                let [instrument, mandate_date] = [item.instrument, item.mandate_date].map(text);
+                assert_eq!(text(&record[290..304]), format!("{instrument:4}{mandate_date}"));
             }
         }
     }

@@ -8,13 +8,16 @@ use crate::{read, system};
 use face::RECORD;
 use std::ffi::{CStr, OsStr, OsString};
 use std::fs::{self, File, Metadata, OpenOptions, Permissions};
-use std::io::{self, Read, Write};
+use std::io::{self, Read, Seek, Write};
 use std::os::unix::ffi::OsStrExt;
 use std::os::unix::fs::{fchown, MetadataExt, OpenOptionsExt, PermissionsExt};
 use std::path::{Path, PathBuf};
 
 /// The most links that are followed, as the system does.
 const MOST_LINKS: usize = 40;
+
+/// The bytes of a record before request 9.
+const OLD_RECORD: usize = 256;
 
 /// The extended attribute that lets others read: the access control list.
 const ACCESS: &CStr = c"system.posix_acl_access";
@@ -188,17 +191,23 @@ fn is_same(data: &Metadata, message: &OsStr) -> bool {
     fs::metadata(source).is_ok_and(is_it)
 }
 
-/// Whether a file is empty or looks like records: as long as some number of them, with a line end at
-/// the last byte of each.
+/// Whether a file is empty or looks like records, also those of an evening before request 9.
 fn looks_like_records(file: &mut File) -> io::Result<bool> {
-    if file.metadata()?.len() % RECORD as u64 != 0 {
+    Ok(has_records_of(file, RECORD)? || has_records_of(file, OLD_RECORD)?)
+}
+
+/// Whether a file is as long as some number of records of this length, with a line end at the last byte
+/// of each.
+fn has_records_of(file: &mut File, length: usize) -> io::Result<bool> {
+    if file.metadata()?.len() % length as u64 != 0 {
         return Ok(false);
     }
+    file.rewind()?;
     let mut reader = io::BufReader::new(file);
-    let mut record = [0; RECORD];
+    let mut record = vec![0; length];
     loop {
         match reader.read_exact(&mut record) {
-            Ok(()) if record[RECORD - 1] == b'\n' => {}
+            Ok(()) if record.last() == Some(&b'\n') => {}
             Ok(()) => return Ok(false),
             Err(error) if error.kind() == io::ErrorKind::UnexpectedEof => return Ok(true),
             Err(error) => return Err(error),

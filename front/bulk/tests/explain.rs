@@ -100,6 +100,7 @@ fn the_texts_as_an_office_writes_them() {
         (11, &["Basis- (CORE) und Firmenlastschriften (B2B)"]),
         (1, &["A plain form over that limit", "Auch eine Normalform über dieser Grenze"]),
         (17, &["or asked for the plain form and lent fewer bytes", "für die Normalform die Länge"]),
+        (17, &["lend 320 times the count", "320-mal die Anzahl", "as before request 9"]),
         (19, &["AT EE LT LU 20", "Germany (DE) has 22", "aus Deutschland (DE) hat 22 Stellen"]),
         (14, &["Each item by itself", "Bedeutung", "Häufige Ursachen", "Was tun?"]),
     ] {

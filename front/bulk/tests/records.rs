@@ -114,6 +114,45 @@ fn only_an_empty_file_or_records_are_replaced() {
     assert_eq!(folder.names(), ["out"]);
 }
 
+/// Records of 256 bytes, as they were before request 9, are replaced by the new ones; what is nearly so
+/// is not.
+#[test]
+fn records_of_the_old_length_are_replaced() {
+    let (folder, file) = (Folder::new(), sample("evening.xml"));
+    let old = |count| format!("{:255}\n", "OLD").repeat(count);
+    for count in [1, 4, 5] {
+        let out = folder.put("out", old(count));
+        bulk(&["records", text(&file), text(&out)]).done(0);
+        assert_eq!(fs::metadata(&out).unwrap().len() as usize, 5 * RECORD);
+    }
+    for bytes in [old(2)[1..].to_string(), old(2).replacen('\n', " ", 1), old(1) + "\n"] {
+        let out = folder.put("out", &bytes);
+        bulk(&["records", text(&file), text(&out)]).trouble();
+        assert_eq!(fs::read_to_string(&out).unwrap(), bytes);
+    }
+}
+
+/// The fields of request 9 in the evening, where the second item alone has an InstrId, and in the
+/// partner's bulk, which has its LclInstrm in the header.
+#[test]
+fn instruction_instrument_and_signature_date() {
+    let fields = |file: &str| -> Vec<String> {
+        let said = bulk(&["records", text(&sample(file)), "-"]);
+        let records = said.out.as_bytes().chunks(RECORD);
+        records.map(|record| String::from_utf8_lossy(&record[255..]).into_owned()).collect()
+    };
+    let field = |id: &str, date: &str| format!("{id:35}CORE{date}{:15}\n", "");
+    let due = [
+        field("", "2021-03-29"),
+        field("BATCH-7/LINE-2", "2026-09-30"),
+        field("", "2023-02-14"),
+        field("", "2026-10-06"),
+        field("", "2022-05-02"),
+    ];
+    assert_eq!(fields("evening.xml"), due);
+    assert_eq!(fields("partner.xml"), [field("", "2021-03-29"), field("", "2023-02-14")]);
+}
+
 #[test]
 fn nothing_under_dev_or_proc_is_replaced() {
     let folder = Folder::new();

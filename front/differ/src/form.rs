@@ -138,7 +138,7 @@ impl Asker {
 }
 
 /// The answer and the records of the library, for so many items.
-fn records(message: &[u8], count: u64) -> (Words, Vec<u8>) {
+pub(crate) fn records(message: &[u8], count: u64) -> (Words, Vec<u8>) {
     let mut area = vec![0xAA; RECORD * count as usize];
     let answer = face::records(message, &mut area);
     (answer, area)

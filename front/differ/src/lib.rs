@@ -13,8 +13,8 @@
 //! - [`spellings`]: every spelling of counts and amounts, white space at every place.
 //! - [`slow`]: a second judge, made from a table of the elements, to hold `plain` against.
 //! - [`face`]: the library under test, asked by the kinds of these tests.
-//! - [`ask`], [`form`]: the questions: the judges, what is known, and the laws held against each
-//!   other; those about the plain form.
+//! - [`ask`], [`form`], [`recorded`]: the questions: the judges, what is known, and the laws held
+//!   against each other; those about the plain form; that about equal records.
 //! - [`days`], [`daybook`]: days of the day book, and the questions about them.
 //! - [`tally`]: what a run has seen; a difference, printed so that it can be run again.
 //! - [`usual`], [`bench`]: messages like those that are sent, and the stopwatch.
@@ -34,6 +34,7 @@ pub mod kind;
 pub mod letters;
 pub mod message;
 pub mod random;
+pub mod recorded;
 pub mod slips;
 pub mod slow;
 pub mod spellings;

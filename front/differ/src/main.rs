@@ -21,7 +21,7 @@ differ typed SEED             the payment type in the header, in items, in both,
 differ slips N SEED           every slip of N messages
 differ records N SEED         N messages with record areas of all sizes
 differ plain N SEED           N messages with areas of all sizes for the plain form
-differ twins N SEED           N pairs of messages, of the same plain form or not
+differ twins N SEED           N pairs of messages, of the same plain form or not: that, records
 differ spellings SEED         every spelling of small messages: plain form, records
 differ days N SEED            N days of the day book, call by call
 differ limits                 messages at the limits of length and of items
@@ -238,6 +238,7 @@ fn twinned(n: u64, seed: u64) -> ExitCode {
         let name = Name { run: "twins", seed, number, sort: case.damage };
         asker.quickly(&name, &case);
         asker.plain(&name, &case, &[case.plain.len()]);
+        asker.equal_records(&name, &case);
     }
     asker.tally.end()
 }
@@ -377,12 +378,13 @@ fn file_asked(file: &str) -> ExitCode {
     every_question(&name, &case)
 }
 
-/// The judge, the items, the laws, the records and the plain form of one case.
+/// The judge, the items, the laws, the records and the plain form of one case, and its twin's.
 fn every_question(name: &Name, case: &Case) -> ExitCode {
     let mut asker = Asker::new(format!("{} {} {}", name.run, name.seed, name.number));
     asker.message(name, case);
     asker.records(name, case, &areas(name.seed, name.number, case));
     asker.plain(name, case, &form_areas(name.seed, name.number, case));
+    asker.equal_records(name, case);
     asker.tally.end()
 }
 

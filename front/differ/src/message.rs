@@ -216,24 +216,15 @@ impl Writer<'_> {
         optional: (bool, bool),
     ) -> Vec<u8> {
         self.open("DrctDbtTxInf");
-        let (end_to_end, transaction) = self.identification(optional.0);
-        let sequence = match of_header {
-            Some(sequence) => sequence.to_vec(),
-            None => self.payment_type(instrument),
-        };
-
+        let (instruction, end_to_end, transaction) = self.identification(optional.0);
+        let sequence = of_header.map_or_else(|| self.payment_type(instrument), <[u8]>::to_vec);
         let amount = value::amount(cents, self.random);
         self.given("IntrBkSttlmAmt", Kind::ItemAmount, &amount);
         self.element("ChrgBr", BEARERS);
         let date = self.element("ReqdColltnDt", Kind::Date);
-        let (mandate, identifier) = self.direct_debit();
-
-        self.group("Cdtr", |w| drop(w.element("Nm", Kind::Text70)));
-        let creditor_iban = self.account("CdtrAcct");
-        let creditor_bic = self.agent("CdtrAgt");
-        self.group("Dbtr", |w| drop(w.element("Nm", Kind::Text70)));
-        let debtor_iban = self.account("DbtrAcct");
-        let debtor_bic = self.agent("DbtrAgt");
+        let (mandate, signature_date, identifier) = self.direct_debit();
+        let (creditor_iban, creditor_bic) = self.party(["Cdtr", "CdtrAcct", "CdtrAgt"]);
+        let (debtor_iban, debtor_bic) = self.party(["Dbtr", "DbtrAcct", "DbtrAgt"]);
         if optional.1 {
             self.group("RmtInf", |w| drop(w.element("Ustrd", Kind::Text140)));
         }
@@ -251,19 +242,30 @@ impl Writer<'_> {
             (sequence, 4),
             (identifier, 35),
             (creditor_bic, 11),
+            (instruction, 35),
+            (instrument.to_vec(), 4),
+            (signature_date, 10),
+            (Vec::new(), 15),
         ])
     }
 
-    /// PmtId; answers EndToEndId and TxId.
-    fn identification(&mut self, instruction: bool) -> (Vec<u8>, Vec<u8>) {
+    /// A creditor or a debtor: name, account, agent; answers IBAN and BIC.
+    fn party(&mut self, [name, account, agent]: [&'static str; 3]) -> (Vec<u8>, Vec<u8>) {
+        self.group(name, |w| drop(w.element("Nm", Kind::Text70)));
+        (self.account(account), self.agent(agent))
+    }
+
+    /// PmtId; answers InstrId, nothing where it is left out, EndToEndId and TxId.
+    fn identification(&mut self, has_instruction: bool) -> (Vec<u8>, Vec<u8>, Vec<u8>) {
         self.open("PmtId");
-        if instruction {
-            self.element("InstrId", Kind::Reference);
-        }
+        let instruction = match has_instruction {
+            true => self.element("InstrId", Kind::Reference),
+            false => Vec::new(),
+        };
         let end_to_end = self.element("EndToEndId", Kind::EndToEnd);
         let transaction = self.element("TxId", Kind::Reference);
         self.close("PmtId");
-        (end_to_end, transaction)
+        (instruction, end_to_end, transaction)
     }
 
     /// PmtTpInf; answers SeqTp.
@@ -276,12 +278,12 @@ impl Writer<'_> {
         sequence
     }
 
-    /// DrctDbtTx; answers the mandate and the creditor identifier.
-    fn direct_debit(&mut self) -> (Vec<u8>, Vec<u8>) {
+    /// DrctDbtTx; answers the mandate, its date and the creditor identifier.
+    fn direct_debit(&mut self) -> (Vec<u8>, Vec<u8>, Vec<u8>) {
         self.open("DrctDbtTx");
         self.open("MndtRltdInf");
         let mandate = self.element("MndtId", Kind::Reference);
-        self.element("DtOfSgntr", Kind::Date);
+        let signature_date = self.element("DtOfSgntr", Kind::Date);
         self.close("MndtRltdInf");
         for name in ["CdtrSchmeId", "Id", "PrvtId", "Othr"] {
             self.open(name);
@@ -292,7 +294,7 @@ impl Writer<'_> {
             self.close(name);
         }
         self.close("DrctDbtTx");
-        (mandate, identifier)
+        (mandate, signature_date, identifier)
     }
 
     /// GrpHdr of so many items and cents, with PmtTpInf where an instrument is given; answers its

@@ -393,17 +393,32 @@ impl Slow {
         Ok(Accepted { count: items.len() as u64, cents: total.0, items, said })
     }
 
-    /// The records of a message that says this, item by item. What an item does not say itself, the
-    /// header says, before all items.
-    pub fn records(&self, said: &[Said]) -> Vec<u8> {
-        let record = |item: &[Said]| {
-            let all = || item.iter().rev().chain(said);
-            let fields =
-                FIELDS.iter().map(|&(name, which, width)| field(all(), name, which, width));
-            format!("{}\n", fields.collect::<String>())
+    /// What is recorded of each item of a message that says this, field by field; nothing for an
+    /// InstrId that is absent.
+    pub fn recorded<'s>(&self, said: &'s [Said<'s>]) -> Vec<Recorded<'s>> {
+        // The header has no item closed before it, so it stands with the first item.
+        let items: Vec<&[Said]> = said.chunk_by(|one, other| one.items == other.items).collect();
+        let of_item = |item: &&'s [Said<'s>]| {
+            let value = |&(name, which, _, stands): &Field| {
+                let above = if stands == Stands::InItemOrHeader { items[0] } else { &[] };
+                let all = item.iter().rev().chain(above.iter().rev());
+                let value = all.filter(|value| value.name == name).nth(which);
+                assert!(value.is_some() || stands == Stands::PerhapsInItem, "{name} is missing");
+                value.map(|value| &value.meaning)
+            };
+            FIELDS.iter().map(value).collect()
         };
-        let items = said.chunk_by(|one, other| one.items == other.items);
-        items.map(record).collect::<String>().into_bytes()
+        items.iter().map(of_item).collect()
+    }
+
+    /// The records of a message that says this, item by item: the fields, 15 spaces and LF.
+    pub fn records(&self, said: &[Said]) -> Vec<u8> {
+        let record = |values: Recorded| {
+            let widths = FIELDS.iter().map(|&(_, _, width, _)| width);
+            let fields: String = values.into_iter().zip(widths).map(in_width).collect();
+            format!("{fields}{:15}\n", "")
+        };
+        self.recorded(said).into_iter().map(record).collect::<String>().into_bytes()
     }
 
     /// The plain form of a message that says this: the table written out, with these values.
@@ -418,34 +433,46 @@ impl Slow {
     }
 }
 
-/// The fields of a record: the element's name, which of that name it is from the item's end, and the
-/// width. (The header has a BIC too, so they are counted from the end.)
-const FIELDS: [(&str, usize, usize); 11] = [
-    ("TxId", 0, 35),
-    ("EndToEndId", 0, 35),
-    ("MndtId", 0, 35),
-    ("IBAN", 0, 34),
-    ("IBAN", 1, 34),
-    ("BIC", 0, 11),
-    ("IntrBkSttlmAmt", 0, 11),
-    ("ReqdColltnDt", 0, 10),
-    ("SeqTp", 0, 4),
-    ("Id", 0, 35),
-    ("BIC", 1, 11),
+/// What is recorded of an item: for each field its value, if it has one.
+pub type Recorded<'s> = Vec<Option<&'s Meaning<'s>>>;
+
+/// Where the value of a field stands.
+#[derive(Clone, Copy, PartialEq, Eq)]
+enum Stands {
+    InItem,
+    PerhapsInItem,
+    InItemOrHeader,
+}
+
+/// A field of a record: the element's name, which of that name it is, the width, where it stands. They
+/// are counted back from the end of the item, then of the header. (So a BIC is not the header's, and
+/// the first `Cd` is LclInstrm's, since that of SvcLvl stands before it.)
+type Field = (&'static str, usize, usize, Stands);
+
+const FIELDS: [Field; 14] = [
+    ("TxId", 0, 35, Stands::InItem),
+    ("EndToEndId", 0, 35, Stands::InItem),
+    ("MndtId", 0, 35, Stands::InItem),
+    ("IBAN", 0, 34, Stands::InItem),
+    ("IBAN", 1, 34, Stands::InItem),
+    ("BIC", 0, 11, Stands::InItem),
+    ("IntrBkSttlmAmt", 0, 11, Stands::InItem),
+    ("ReqdColltnDt", 0, 10, Stands::InItem),
+    ("SeqTp", 0, 4, Stands::InItemOrHeader),
+    ("Id", 0, 35, Stands::InItem),
+    ("BIC", 1, 11, Stands::InItem),
+    ("InstrId", 0, 35, Stands::PerhapsInItem),
+    ("Cd", 0, 4, Stands::InItemOrHeader),
+    ("DtOfSgntr", 0, 10, Stands::InItem),
 ];
 
-/// One field of a record, from what is said: back from the item's end, then from the beginning.
-fn field<'s>(
-    said: impl Iterator<Item = &'s Said<'s>>,
-    name: &str,
-    which: usize,
-    width: usize,
-) -> String {
-    let value = said.filter(|value| value.name == name).nth(which);
-    match value.map(|value| &value.meaning) {
+/// A value in a field of this width.
+fn in_width((value, width): (Option<&Meaning>, usize)) -> String {
+    match value {
         Some(Meaning::Cents(cents)) => format!("{cents:0width$}"),
         Some(Meaning::Bytes(bytes)) => format!("{:width$}", String::from_utf8_lossy(bytes)),
-        _ => panic!("each item says {name}"),
+        Some(Meaning::Count(_)) => panic!("no count is recorded"),
+        None => " ".repeat(width),
     }
 }
 

@@ -2,9 +2,11 @@
 
 use differ::ask::{other_names, plain_check};
 use differ::damage::{self, Known};
+use differ::face::RECORD;
 use differ::kind::{Kind, CHECKED};
-use differ::message::{Message, What};
+use differ::message::{Message, Part, What, INSTRUMENTS};
 use differ::random::Random;
+use differ::slow::Slow;
 use differ::value::{self, WHITE};
 use differ::{letters, slips, spellings, sweep, twins, typed};
 use std::collections::{BTreeMap, BTreeSet};
@@ -351,6 +353,64 @@ fn twins_whose_values_collapse_alike() {
     assert_eq!(seen, COLLAPSING.into_iter().collect());
 }
 
+/// The value of an item's InstrId, if it has one.
+fn instruction(item: &[Part]) -> Option<&[u8]> {
+    let is_it = |part: &&Part| part.name == "InstrId" && matches!(part.what, What::Value(_));
+    item.iter().find(is_it).map(|part| part.bytes.as_slice())
+}
+
+/// The last three fields of a record: an InstrId behind one, behind none, and none behind each; CORE
+/// and B2B, in the header and in items.
+#[test]
+fn what_records_hold_since_request_9() {
+    let mut seen = BTreeSet::new();
+    for message in messages() {
+        let place = if typed::is_in_header(&message) { "in the header" } else { "in items" };
+        let mut before = None;
+        for (record, &(first, after)) in message.records.iter().zip(&message.items) {
+            let is_instrument = |part: &&Part| part.what == What::Value(INSTRUMENTS);
+            let last = message.parts[..after].iter().rev().find(is_instrument);
+            let instrument = text(&last.expect("it stands in one of them").bytes);
+            let own = instruction(&message.parts[first..after]);
+            let due = format!("{:35}{instrument:4}", text(own.unwrap_or(b"")));
+            assert_eq!((text(&record[255..294]), record.len()), (due, RECORD));
+            assert_eq!(text(&record[304..]), format!("{:15}\n", ""));
+            seen.insert(format!("{instrument} {place}"));
+            let is_there = own.is_some();
+            seen.extend(before.map(|before| format!("InstrId {is_there} behind {before}")));
+            before = Some(is_there);
+        }
+    }
+    let both = ["true", "false"].map(|one| ["true", "false"].map(|other| (one, other)));
+    let ways =
+        both.concat().into_iter().map(|(one, other)| format!("InstrId {one} behind {other}"));
+    let codes = ["B2B in items", "B2B in the header", "CORE in items", "CORE in the header"];
+    assert_eq!(seen, ways.chain(codes.map(String::from)).collect());
+}
+
+/// Of the items of twins, some differ in one recorded field alone, whichever it is; in InstrId also
+/// where one of them has none.
+#[test]
+fn twins_that_differ_in_one_recorded_field() {
+    let slow = Slow::new();
+    let mut seen = BTreeSet::new();
+    for case in (0..10_000).map(|case| twins::case(1, case)) {
+        let twin = case.twin.expect("it is made from another message");
+        let (one, other) = (slow.judge(&case.bytes), slow.judge(&twin.bytes));
+        let (Ok(one), Ok(other)) = (one, other) else { panic!("{} is refused", case.damage) };
+        let (one, other) = (slow.recorded(&one.said), slow.recorded(&other.said));
+        for (one, other) in one.iter().zip(&other) {
+            let apart: Vec<usize> = (0..one.len()).filter(|&at| one[at] != other[at]).collect();
+            if let [at] = apart[..] {
+                seen.insert((at, one[at].is_some(), other[at].is_some()));
+            }
+        }
+    }
+    let instruction = [(11, false, true), (11, true, false)];
+    let due = (0..14).map(|at| (at, true, true)).chain(instruction);
+    assert_eq!(seen, due.collect());
+}
+
 /// What is told apart by bytes alone is among the twins: a zero, a space, a branch, a sign, a case.
 #[test]
 fn twins_that_are_nearly_the_same() {
@@ -440,7 +500,7 @@ fn every_spelling_of_values_that_collapse() {
         if case.damage != "white space in a value" {
             return;
         }
-        assert_eq!(case.records.len(), 256);
+        assert_eq!(case.records.len(), RECORD);
         for (element, longest) in [("EndToEndId", 35), ("Nm", 70), ("Ustrd", 140)] {
             for value in values(&case.bytes, &format!("<{element}>")) {
                 let meant = collapsed(&value);

@@ -10,7 +10,7 @@ use std::io::Write;
 pub type Words = [u64; 3];
 
 /// The bytes of one posting record, with its LF.
-pub const RECORD: usize = 256;
+pub const RECORD: usize = 320;
 
 /// The folder that the library was linked from. What tests leave behind lies beside it.
 pub const FOLDER: &str = env!("BULK_FOLDER");

@@ -57,9 +57,9 @@ pub fn item(message: &[u8], i: u64) -> Result<(usize, usize), (u8, usize)> {
     asked.ok_or((number::NO_SUCH_ITEM, 0))
 }
 
-/// Judges a message and writes one record of 256 bytes for each item: "record i goes to bytes 256i
-/// to 256i+255. Bytes beyond the last record keep what they held." A refusal "leaves the record area
-/// exactly as lent"; "17: record area under 256 times the count, place 0" comes after the judge's.
+/// Judges a message and writes one record of 320 bytes for each item, record i to bytes 320i to
+/// 320i+319. "Bytes beyond the last record keep what they held." A refusal "leaves the record area
+/// exactly as lent"; 17, which "compares with 320 times the count", place 0, comes after the judge's.
 pub fn records(message: &[u8], area: &mut [u8]) -> Verdict {
     let judged = judge(message);
     let Verdict::Accepted { count, .. } = judged else {

@@ -25,9 +25,21 @@ struct Header<'m> {
     count_place: usize,
     total: u64,
     total_place: usize,
-    /// SeqTp, where PmtTpInf stands in the header.
-    sequence_type: Option<&'m [u8]>,
+    /// PmtTpInf, where it stands in the header.
+    payment_type: Option<PaymentType<'m>>,
 }
+
+/// What a record takes of PmtTpInf.
+#[derive(Clone, Copy)]
+struct PaymentType<'m> {
+    /// LclInstrm.
+    instrument: &'m [u8],
+    /// SeqTp.
+    sequence: &'m [u8],
+}
+
+/// InstrId, where there is one, EndToEndId and TxId.
+type Identification<'m> = (Option<&'m [u8]>, &'m [u8], &'m [u8]);
 
 /// One item: where it lies, and what its record takes of it.
 pub struct Item<'m> {
@@ -48,6 +60,11 @@ pub struct Item<'m> {
     pub sequence_type: &'m [u8],
     pub creditor_id: &'m [u8],
     pub creditor_bic: &'m [u8],
+    /// Nothing where it is absent.
+    pub instruction: Option<&'m [u8]>,
+    /// The item's own, or the header's.
+    pub instrument: &'m [u8],
+    pub signature_date: &'m [u8],
 }
 
 /// A value that was judged: its bytes, the place of its first byte, and its worth (a number, cents,
@@ -297,10 +314,10 @@ impl<'m, const ACCEPTED: bool> Cursor<'m, ACCEPTED> {
         self.element(b"<SttlmMtd>", code::settlement_method, b"</SttlmMtd>")?;
         self.tag(b"</SttlmInf>")?;
 
-        let mut sequence_type = None;
+        let mut payment_type = None;
         if self.first_of(PAYMENT_TYPE, b"<InstgAgt>")?.is_some() {
             // "With it in the header, rule 11 has nothing to compare".
-            sequence_type = Some(self.payment_type(&mut None)?);
+            payment_type = Some(self.payment_type(&mut None)?);
             self.tag(b"<InstgAgt>")?;
         }
         self.financial_institution()?;
@@ -312,7 +329,7 @@ impl<'m, const ACCEPTED: bool> Cursor<'m, ACCEPTED> {
             count_place: count.place,
             total: total.worth,
             total_place: total.place,
-            sequence_type,
+            payment_type,
         })
     }
 
@@ -326,22 +343,15 @@ impl<'m, const ACCEPTED: bool> Cursor<'m, ACCEPTED> {
         instrument: &mut Option<&'m [u8]>,
         sum: &mut u64,
     ) -> Result<Item<'m>, Refusal> {
-        let (end_to_end, transaction) = self.payment_identification()?;
-        let sequence_type = self.type_of_item(header, instrument)?;
+        let (instruction, end_to_end, transaction) = self.payment_identification()?;
+        let payment_type = self.type_of_item(header, instrument)?;
         let cents = self.amount(sum)?;
         self.element(b"<ChrgBr>", code::charge_bearer, b"</ChrgBr>")?;
         let collection_date = self.element(b"<ReqdColltnDt>", date, b"</ReqdColltnDt>")?.bytes;
-        let (mandate, creditor_id) = self.direct_debit()?;
-
+        let [mandate, signature_date, creditor_id] = self.direct_debit()?;
         let (creditor_iban, creditor_bic) = self.creditor()?;
         let (debtor_iban, debtor_bic) = self.debtor()?;
-
-        // "RmtInf/Ustrd (0 or 1)"
-        if self.first_of(b"<RmtInf>", ITEM_END)?.is_some() {
-            self.element(b"<Ustrd>", text140, b"</Ustrd>")?;
-            self.tag(b"</RmtInf>")?;
-            self.tag(ITEM_END)?;
-        }
+        self.remittance_and_end()?;
         Ok(Item {
             start,
             end: self.place(),
@@ -353,35 +363,39 @@ impl<'m, const ACCEPTED: bool> Cursor<'m, ACCEPTED> {
             debtor_bic,
             cents,
             collection_date,
-            sequence_type,
+            sequence_type: payment_type.sequence,
             creditor_id,
             creditor_bic,
+            instruction,
+            instrument: payment_type.instrument,
+            signature_date,
         })
     }
 
-    /// "PmtId: InstrId (0 or 1), EndToEndId, TxId". Answers the last two.
+    /// "PmtId: InstrId (0 or 1), EndToEndId, TxId". Answers the three.
     #[inline]
-    fn payment_identification(&mut self) -> Result<(&'m [u8], &'m [u8]), Refusal> {
+    fn payment_identification(&mut self) -> Result<Identification<'m>, Refusal> {
         self.tag(b"<PmtId>")?;
+        let mut instruction = None;
         if self.first_of(b"<InstrId>", b"<EndToEndId>")?.is_some() {
-            self.value_and_end(reference, b"</InstrId>")?;
+            instruction = Some(self.value_and_end(reference, b"</InstrId>")?.bytes);
             self.tag(b"<EndToEndId>")?;
         }
         let end_to_end = self.value_and_end(end_to_end, b"</EndToEndId>")?.bytes;
         let transaction = self.element(b"<TxId>", reference, b"</TxId>")?.bytes;
         self.tag(b"</PmtId>")?;
-        Ok((end_to_end, transaction))
+        Ok((instruction, end_to_end, transaction))
     }
 
     /// PmtTpInf of an item, or nothing where the header has one: "and then no item has it; otherwise
-    /// every item has it". Answers SeqTp "from wherever it stands".
+    /// every item has it". Answers it "from wherever it stands".
     #[inline]
     fn type_of_item(
         &mut self,
         header: &Header<'m>,
         instrument: &mut Option<&'m [u8]>,
-    ) -> Result<&'m [u8], Refusal> {
-        let Some(sequence_type) = header.sequence_type else {
+    ) -> Result<PaymentType<'m>, Refusal> {
+        let Some(payment_type) = header.payment_type else {
             self.tag(PAYMENT_TYPE)?;
             return self.payment_type(instrument);
         };
@@ -393,12 +407,15 @@ impl<'m, const ACCEPTED: bool> Cursor<'m, ACCEPTED> {
         if PAYMENT_TYPE.starts_with(self.rest) {
             return Err((number::ENDS, self.length));
         }
-        Ok(sequence_type)
+        Ok(payment_type)
     }
 
-    /// "PmtTpInf: SvcLvl/Cd, LclInstrm/Cd, SeqTp", from behind its start tag. Answers the last.
+    /// "PmtTpInf: SvcLvl/Cd, LclInstrm/Cd, SeqTp", from behind its start tag. Answers the last two.
     #[inline]
-    fn payment_type(&mut self, instrument: &mut Option<&'m [u8]>) -> Result<&'m [u8], Refusal> {
+    fn payment_type(
+        &mut self,
+        instrument: &mut Option<&'m [u8]>,
+    ) -> Result<PaymentType<'m>, Refusal> {
         self.tag(b"<SvcLvl>")?;
         self.element(b"<Cd>", code::sepa, b"</Cd>")?;
         self.tag(b"</SvcLvl>")?;
@@ -413,9 +430,9 @@ impl<'m, const ACCEPTED: bool> Cursor<'m, ACCEPTED> {
         self.end_tag(b"</Cd>")?;
         self.tag(b"</LclInstrm>")?;
 
-        let sequence_type = self.element(b"<SeqTp>", code::sequence_type, b"</SeqTp>")?.bytes;
+        let sequence = self.element(b"<SeqTp>", code::sequence_type, b"</SeqTp>")?.bytes;
         self.tag(b"</PmtTpInf>")?;
-        Ok(sequence_type)
+        Ok(PaymentType { instrument: local.bytes, sequence })
     }
 
     /// "IntrBkSttlmAmt". Answers the cents and adds them to the running sum.
@@ -430,13 +447,13 @@ impl<'m, const ACCEPTED: bool> Cursor<'m, ACCEPTED> {
     }
 
     /// "DrctDbtTx: MndtRltdInf (MndtId, DtOfSgntr), then CdtrSchmeId/Id/PrvtId/Othr (Id,
-    /// SchmeNm/Prtry)". Answers the mandate and the creditor identifier.
+    /// SchmeNm/Prtry)". Answers the mandate, its date and the creditor identifier.
     #[inline]
-    fn direct_debit(&mut self) -> Result<(&'m [u8], &'m [u8]), Refusal> {
+    fn direct_debit(&mut self) -> Result<[&'m [u8]; 3], Refusal> {
         self.tag(b"<DrctDbtTx>")?;
         self.tag(b"<MndtRltdInf>")?;
         let mandate = self.element(b"<MndtId>", reference, b"</MndtId>")?.bytes;
-        self.element(b"<DtOfSgntr>", date, b"</DtOfSgntr>")?;
+        let signature_date = self.element(b"<DtOfSgntr>", date, b"</DtOfSgntr>")?.bytes;
         self.tag(b"</MndtRltdInf>")?;
 
         self.tag(b"<CdtrSchmeId>")?;
@@ -452,7 +469,7 @@ impl<'m, const ACCEPTED: bool> Cursor<'m, ACCEPTED> {
         self.tag(b"</Id>")?;
         self.tag(b"</CdtrSchmeId>")?;
         self.tag(b"</DrctDbtTx>")?;
-        Ok((mandate, identifier))
+        Ok([mandate, signature_date, identifier])
     }
 
     /// "Cdtr/Nm, CdtrAcct/Id/IBAN, CdtrAgt/FinInstnId/BIC". Answers the last two.
@@ -483,6 +500,17 @@ impl<'m, const ACCEPTED: bool> Cursor<'m, ACCEPTED> {
         let agent = self.financial_institution()?;
         self.tag(b"</DbtrAgt>")?;
         Ok((account, agent))
+    }
+
+    /// "RmtInf/Ustrd (0 or 1)", and the item's end.
+    #[inline]
+    fn remittance_and_end(&mut self) -> Result<(), Refusal> {
+        if self.first_of(b"<RmtInf>", ITEM_END)?.is_some() {
+            self.element(b"<Ustrd>", text140, b"</Ustrd>")?;
+            self.tag(b"</RmtInf>")?;
+            self.tag(ITEM_END)?;
+        }
+        Ok(())
     }
 
     /// "Id/IBAN" of CdtrAcct and DbtrAcct.

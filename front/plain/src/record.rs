@@ -1,15 +1,17 @@
-//! The posting record: "256 bytes, no file header, every unused byte a space".
+//! The posting record: "no file header, every unused byte a space"; since request 9 "a record has 320
+//! bytes".
 
 use crate::message::Item;
 use crate::value::collapsed;
 
 /// The bytes of one record. The other crates have it from `face`; this one takes nothing from there.
-pub const LENGTH: usize = 256;
+pub const LENGTH: usize = 320;
 
 /// Writes one record: "TxId 35, EndToEndId 35, MndtId 35, debtor IBAN 34, creditor IBAN 34, debtor
 /// agent BIC 11, item cents as 11 digits, ReqdColltnDt 10, SeqTp 4, creditor identifier 35, creditor
-/// agent BIC 11, then LF (byte 255). Each record is first made as 256 spaces". Since request 4 "the
-/// record and the plain form hold the collapsed value".
+/// agent BIC 11". Since request 4 "the record and the plain form hold the collapsed value"; since
+/// request 9 come behind these "bytes 0 to 254" the "InstrId 35 (spaces if absent), LclInstrm 4 (from
+/// wherever it stands), DtOfSgntr 10, 15 spaces, LF".
 #[inline]
 pub fn write(record: &mut [u8], item: &Item) {
     record.fill(b' ');
@@ -24,7 +26,10 @@ pub fn write(record: &mut [u8], item: &Item) {
     put(record, 205, item.sequence_type);
     put(record, 209, item.creditor_id);
     put(record, 244, item.creditor_bic);
-    record[255] = b'\n';
+    put(record, 255, item.instruction.unwrap_or(b""));
+    put(record, 290, item.instrument);
+    put(record, 294, item.signature_date);
+    record[319] = b'\n';
 }
 
 /// A field, from its offset on.

@@ -1,6 +1,7 @@
 //! The paper's cases: "Either side of each line", the whole example, and the readings of the open
 //! points of documents 01 and 02.
 
+mod recorded;
 mod typed;
 
 use super::*;
@@ -11,7 +12,8 @@ const ROOT: &str = r#"<Document xmlns="urn:iso:std:iso:20022:tech:xsd:pacs.003.0
 
 /// The message of the paper's whole example, in one line.
 const EXAMPLE: &str = include_str!("../../../samples/example.xml");
-/// Its record: "`T1` and 33 spaces, `E1` and 33, `M1` and 33, `DE21500500009876543210` and 12, .."
+/// Its record: "`T1` and 33 spaces, `E1` and 33, `M1` and 33, `DE21500500009876543210` and 12, ..", and
+/// behind these 255 bytes the fields of request 9.
 const RECORD: &str = include_str!("../../../samples/example.record");
 
 /// What stands in the example from this tag to before that one.
@@ -697,11 +699,11 @@ fn item_places() {
 
 #[test]
 fn record_of_the_whole_example() {
-    let mut area = [0xAA; 300];
+    let mut area = [0xAA; 364];
     let verdict = records(EXAMPLE.as_bytes(), &mut area);
     assert_eq!(verdict, Verdict::Accepted { count: 1, cents: 1234 });
-    assert_eq!(&area[..256], RECORD.as_bytes());
-    assert_eq!(area[256..], [0xAA; 44]);
+    assert_eq!(&area[..320], RECORD.as_bytes());
+    assert_eq!(area[320..], [0xAA; 44]);
 }
 
 /// "The record and the plain form hold the collapsed value."
@@ -709,18 +711,12 @@ fn record_of_the_whole_example() {
 fn records_and_plain_forms_hold_the_collapsed_value() {
     let longest = format!("{} {}", "A".repeat(17), "B".repeat(17));
     assert_eq!(longest.len(), 35);
-    let of = |message: &str| {
-        let mut area = [0xAA; 256];
-        let accepted = Verdict::Accepted { count: 1, cents: 1234 };
-        assert_eq!(records(message.as_bytes(), &mut area), accepted, "{message:?}");
-        area
-    };
     for meant in ["E1", "RENT 2023 04", "A", &longest] {
         for white in WHITE {
             let spelled = format!("{white}{}{white}", meant.replace(' ', white));
             let message = EXAMPLE.replacen(">E1<", &format!(">{spelled}<"), 1);
             let due = [&RECORD[..35], &format!("{meant:35}"), &RECORD[70..]].concat();
-            assert_eq!(of(&message), due.as_bytes(), "{message:?}");
+            assert_eq!(record_of(&message), due, "{message:?}");
             let due = plain_example().replacen(">E1<", &format!(">{meant}<"), 1);
             assert_eq!(plain(&message), Ok(due), "{message:?}");
         }
@@ -730,32 +726,41 @@ fn records_and_plain_forms_hold_the_collapsed_value() {
         for white in WHITE {
             let spelled = format!("{white}A{white}B{white}");
             let message = with_value(EXAMPLE, element, &spelled);
-            assert_eq!(of(&message), RECORD.as_bytes(), "{message:?}");
+            assert_eq!(record_of(&message), RECORD, "{message:?}");
             let due = with_value(&plain_example(), element, "A B");
             assert_eq!(plain(&message), Ok(due), "{message:?}");
         }
     }
 }
 
+/// The record of a message of one item.
+fn record_of(message: &str) -> String {
+    let mut area = vec![0xAA; 320];
+    let verdict = records(message.as_bytes(), &mut area);
+    assert!(matches!(verdict, Verdict::Accepted { count: 1, .. }), "{verdict:?}: {message:?}");
+    String::from_utf8(area).expect("a record is ASCII")
+}
+
+/// 512 bytes were enough for two records before request 9.
 #[test]
 fn record_areas() {
     let two = whole("2", "24.68", &[one_item("12.34", "CORE"), one_item("12.34", "CORE")]);
-    for length in [0, 1, 256, 511] {
+    for length in [0, 1, 320, 512, 639] {
         let mut area = vec![7; length];
         let verdict = records(two.as_bytes(), &mut area);
         assert_eq!(verdict, Verdict::Refused { number: 17, place: 0 });
         assert_eq!(area, vec![7; length]);
     }
-    let mut area = [7; 512];
+    let mut area = [7; 640];
     assert_eq!(records(two.as_bytes(), &mut area), Verdict::Accepted { count: 2, cents: 2468 });
     assert_eq!(area.as_slice(), RECORD.repeat(2).as_bytes());
     // Refused at the end only: no record is written.
-    let mut area = [7; 512];
+    let mut area = [7; 640];
     assert_eq!(
         records(&two.as_bytes()[..two.len() - 1], &mut area),
         Verdict::Refused { number: 3, place: two.len() - 1 }
     );
-    assert_eq!(area, [7; 512]);
+    assert_eq!(area, [7; 640]);
 }
 
 #[test]

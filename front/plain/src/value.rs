@@ -35,7 +35,7 @@ pub mod number {
     pub const TOTAL: u8 = 15;
     /// bytes after `</Document>` and white space
     pub const AFTER: u8 = 16;
-    /// record area under 256 times the count, or a plain form longer than its area
+    /// record area under 320 times the count, or a plain form longer than its area
     pub const AREA_TOO_SMALL: u8 = 17;
     /// asked for an item not there
     pub const NO_SUCH_ITEM: u8 = 18;

@@ -167,17 +167,17 @@ fn the_header_s_is_judged_as_an_item_s() {
 fn records_take_the_header_s_sequence_type() {
     for code in ["FRST", "RCUR", "FNAL", "OOFF"] {
         let message = typed(true, &[false, false]).replacen("RCUR", code, 1);
-        let mut area = [0xAA; 520];
+        let mut area = [0xAA; 648];
         let accepted = Verdict::Accepted { count: 2, cents: 2400 };
         assert_eq!(records(message.as_bytes(), &mut area), accepted, "{code}");
         let record = RECORD.replace("00000001234", "00000001200").replace("RCUR", code);
-        assert_eq!(area[..512], *record.repeat(2).as_bytes());
-        assert_eq!(area[512..], [0xAA; 8]);
+        assert_eq!(area[..640], *record.repeat(2).as_bytes());
+        assert_eq!(area[640..], [0xAA; 8]);
     }
     // A refusal leaves the area.
-    let mut area = [7; 512];
+    let mut area = [7; 640];
     records(typed(true, &[false, true]).as_bytes(), &mut area);
-    assert_eq!(area, [7; 512]);
+    assert_eq!(area, [7; 640]);
 }
 
 /// "and the plain form keeps it there": the two places give two plain forms.
