@@ -12,7 +12,7 @@ ghost use Rattle.text.specs.Truth.{both, either, at};
 ghost use Rattle.text.specs.Quoted.{among};
 ghost use Rattle.answers.specs.Given.{given};
 ghost use Rattle.check97.specs.Check.{leavesOne, inRange};
-ghost use Rattle.accounts.specs.Bic.{bicForm, bicGiven};
+ghost use Rattle.accounts.specs.Bic.{bicForm, bicGiven, bicfiForm, bicfiGiven};
 ghost use Rattle.accounts.specs.Head.{head};
 ghost use Rattle.accounts.specs.Iban.{ibanForm, ibanLength, ibanGiven};
 ghost use Rattle.accounts.specs.Identifier.{identifierForm, identifierGiven};
@@ -103,6 +103,32 @@ pub fn bic(s: &[u8]) -> Answer
     ensures { λ r. ⌜ given r ≡ bicGiven (now (s .entry)) ⌝ }
 {
     if is_bic(s) {
+        return Answer::Yes;
+    }
+    Answer::Form
+}
+
+// The wider form of a BIC.
+fn is_bicfi(s: &[u8]) -> bool
+    ensures { λ r. ⌜ r ≡ bicfiForm (now (s .entry)) ⌝ }
+{
+    if !is_length(s.len()) {
+        return false;
+    }
+    if !text::all_in(Class::CapitalOrDigit, &s[..4]) {
+        return false;
+    }
+    if !text::all_in(Class::Capital, &s[4..6]) {
+        return false;
+    }
+    text::all_in(Class::CapitalOrDigit, &s[6..])
+}
+
+// A BIC in its wider form: yes, or 7.
+pub fn bicfi(s: &[u8]) -> Answer
+    ensures { λ r. ⌜ given r ≡ bicfiGiven (now (s .entry)) ⌝ }
+{
+    if is_bicfi(s) {
         return Answer::Yes;
     }
     Answer::Form

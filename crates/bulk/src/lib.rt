@@ -19,7 +19,7 @@ ghost use Rattle.money.specs.Count.{countGiven};
 ghost use Rattle.money.specs.Amount.{amountGiven};
 ghost use Rattle.accounts.specs.Iban.{ibanGiven};
 ghost use Rattle.accounts.specs.Identifier.{identifierGiven};
-ghost use Rattle.accounts.specs.Bic.{bicGiven};
+ghost use Rattle.accounts.specs.Bic.{bicGiven, bicfiGiven};
 ghost use Rattle.bulk.specs.Told.{told, toldVerdict, toldExtent, toldWritten, PlainTold, toldCall, toldIs, toldFound};
 ghost use Rattle.plain.specs.Answer.{answered};
 ghost use Rattle.naming.specs.Key.{keyed};
@@ -134,6 +134,14 @@ pub extern "C" fn bulk_bic(value: &[u8], answer: &mut [u64; 3])
     ensures { λ _. ⌜ now (answer .exit) ≡ told (bicGiven (now (value .entry))) ⌝ }
 {
     tell(accounts::bic(value), answer);
+}
+
+// A BIC in its wider form, as version 001.08 has it.
+#[no_mangle]
+pub extern "C" fn bulk_bicfi(value: &[u8], answer: &mut [u64; 3])
+    ensures { λ _. ⌜ now (answer .exit) ≡ told (bicfiGiven (now (value .entry))) ⌝ }
+{
+    tell(accounts::bicfi(value), answer);
 }
 
 // A date.

@@ -8,7 +8,7 @@ use lib.Seq.{drop-append-seam}
 use Rattle.text.proofs.Truths.{never}
 use Rattle.tags.specs.Tags.{skipped, plainTag}
 use Rattle.tags.proofs.Looks.{look-text}
-use Rattle.profile.specs.Version.{Version}
+use Rattle.profile.specs.declared.Version.{Version}
 use Rattle.profile.specs.Limits.{mostBytes}
 use Rattle.profile.specs.Tree.{once, many, Shape}
 use Rattle.profile.specs.Profile.{bulkName, headerName, itemName, inHeader, inItem, profile}

@@ -6,7 +6,7 @@ use native.Mathlib.Omega.{arith}
 use lib.ListN.{length, take, drop, length-append}
 use lib.Seq.{take-at, drop-at}
 use Rattle.text.proofs.Truths.{never}
-use Rattle.profile.specs.Version.{Version}
+use Rattle.profile.specs.declared.Version.{Version}
 use Rattle.profile.specs.Tree.{many}
 use Rattle.reading.specs.Verdict.{accepted, lies}
 use Rattle.reading.specs.Judged.{judged}

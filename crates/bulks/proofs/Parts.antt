@@ -8,7 +8,8 @@ use lib.ListN.{length}
 use Rattle.text.proofs.Truths.{never}
 use Rattle.tags.specs.Tags.{plainTag, endTag}
 use Rattle.profile.specs.declared.Kind.the-variants.{Count}
-use Rattle.profile.specs.Version.{Version, v02}
+use Rattle.profile.specs.declared.Version.{Version}
+use Rattle.profile.specs.declared.Version.the-variants.{V02, V08}
 use Rattle.profile.specs.Tree.{Occ, many, Shape}
 use Rattle.profile.specs.Profile.{bulkName, itemName, inHeader, inItem}
 use Rattle.reading.specs.Trace.{What, itemEnds}
@@ -45,15 +46,18 @@ itemless sh = (fixed anyItem sh ≡ true) × (times anyItem sh ≡ 0)
 
 pub header-itemless : (v : Version) → itemless (inHeader v)
 unfolding inHeader itemless
-header-itemless v02 = (refl, refl)
+header-itemless V02 = (refl, refl)
+header-itemless V08 = (refl, refl)
 
 item-itemless : (v : Version) → itemless (inItem v)
 unfolding inItem itemless
-item-itemless v02 = (refl, refl)
+item-itemless V02 = (refl, refl)
+item-itemless V08 = (refl, refl)
 
 item-countless : (v : Version) → (fixed (aKind Count) (inItem v) ≡ true) × (times (aKind Count) (inItem v) ≡ 0)
 unfolding inItem
-item-countless v02 = (refl, refl)
+item-countless V02 = (refl, refl)
+item-countless V08 = (refl, refl)
 
 pub no-items : (sh : Shape) → itemless sh → (d : Doc sh) → Proper sh d → itemsIn (said sh d) ≡ 0
 unfolding itemless

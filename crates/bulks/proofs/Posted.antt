@@ -4,7 +4,7 @@ use mathlib.Core.List.{List, [], _∷_, _++_}
 use Prim.Native.Nat.{ℕ, _+_, _*_, _≤_}
 use borrow.Author.Tests.{le-ltb}
 use lib.ListN.{length}
-use Rattle.profile.specs.Version.{Version}
+use Rattle.profile.specs.declared.Version.{Version}
 use Rattle.profile.specs.Profile.{inHeader}
 use Rattle.reading.specs.Verdict.{accepted}
 use Rattle.reading.specs.Judged.{judged}

@@ -4,7 +4,7 @@ use mathlib.Core.Path.{_≡_, ap, _∙_}
 use mathlib.Core.List.{List, [], _∷_}
 use Prim.Native.Nat.{ℕ, _+_}
 use lib.ListN.{length}
-use Rattle.profile.specs.Version.{Version}
+use Rattle.profile.specs.declared.Version.{Version}
 use Rattle.profile.specs.Profile.{inItem}
 use Rattle.reading.specs.Trace.{Entry, message}
 use Rattle.reading.specs.Noted.{Ended, noted}

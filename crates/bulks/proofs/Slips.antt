@@ -10,7 +10,7 @@ use lib.Seq.{take-at, drop-at}
 use Rattle.text.specs.Truth.{both, every}
 use Rattle.text.proofs.Truths.{lt-or-ge}
 use Rattle.tags.specs.Tags.{white}
-use Rattle.profile.specs.Version.{Version}
+use Rattle.profile.specs.declared.Version.{Version}
 use Rattle.profile.specs.Tree.{many, more}
 use Rattle.profile.specs.Profile.{inItem}
 use Rattle.reading.specs.Verdict.{Refusal, accepted, lies, notThere}

@@ -6,7 +6,8 @@ use Prim.Native.Nat.{ℕ}
 use native.Mathlib.Omega.{arith}
 use lib.ListN.{length}
 use Rattle.text.proofs.Truths.{never}
-use Rattle.profile.specs.Version.{Version, v02}
+use Rattle.profile.specs.declared.Version.{Version}
+use Rattle.profile.specs.declared.Version.the-variants.{V02, V08}
 use Rattle.profile.specs.Tree.{once, many, more, Shape, end, group}
 use Rattle.profile.specs.Profile.{bulkName, headerName, itemName, inHeader, inItem, profile}
 use Rattle.reading.specs.Trace.{from, opened}
@@ -24,7 +25,8 @@ use Rattle.bulks.specs.Accepted.{Bulked}
 
 pub more-sure : (v : Version) → sure (tree more v) ≡ true
 unfolding inHeader inItem
-more-sure v02 = refl
+more-sure V02 = refl
+more-sure V08 = refl
 
 -- ---- an accepted message is a document's
 pub record Of (v : Version) (sh : Shape) (m : List ℕ) (n c : ℕ) : Type 0 where

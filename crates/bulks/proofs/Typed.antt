@@ -9,7 +9,8 @@ use Rattle.text.proofs.Truths.{never}
 use Rattle.profile.specs.declared.Kind.{Kind}
 use Rattle.profile.specs.declared.Field.{Field}
 use Rattle.profile.specs.declared.Field.the-variants.{LclInstrm, SeqTp}
-use Rattle.profile.specs.Version.{Version, v02}
+use Rattle.profile.specs.declared.Version.{Version}
+use Rattle.profile.specs.declared.Version.the-variants.{V02, V08}
 use Rattle.profile.specs.Tree.{Shape}
 use Rattle.profile.specs.Profile.{isType, inHeader, inItem}
 use Rattle.reading.specs.Trace.{What, itemEnds, message as theTrace}
@@ -46,11 +47,13 @@ pub record InEach (f : Field) : Type 0 where
 
 in-headers : (v : Version) → AllIn (λ f. OneIn f (inHeader v)) (LclInstrm ∷ SeqTp ∷ [])
 unfolding inHeader isType
-in-headers v02 = (record { level = refl; once = refl; placed = refl; place = refl }, (record { level = refl; once = refl; placed = refl; place = refl }, tt))
+in-headers V02 = (record { level = refl; once = refl; placed = refl; place = refl }, (record { level = refl; once = refl; placed = refl; place = refl }, tt))
+in-headers V08 = (record { level = refl; once = refl; placed = refl; place = refl }, (record { level = refl; once = refl; placed = refl; place = refl }, tt))
 
 in-items : (v : Version) → AllIn (λ f. OneIn f (inItem v)) (LclInstrm ∷ SeqTp ∷ [])
 unfolding inItem isType
-in-items v02 = (record { level = refl; once = refl; placed = refl; place = refl }, (record { level = refl; once = refl; placed = refl; place = refl }, tt))
+in-items V02 = (record { level = refl; once = refl; placed = refl; place = refl }, (record { level = refl; once = refl; placed = refl; place = refl }, tt))
+in-items V08 = (record { level = refl; once = refl; placed = refl; place = refl }, (record { level = refl; once = refl; placed = refl; place = refl }, tt))
 
 pub instrument : InEach LclInstrm
 instrument = record { header = λ v. in-headers v .0; item = λ v. in-items v .0 }

@@ -4,7 +4,7 @@ use mathlib.Core.Path.{_≡_}
 use mathlib.Core.List.{List, _∷_, _++_}
 use lib.ListN.{length, drop}
 use Rattle.text.specs.Truth.{part}
-use Rattle.profile.specs.Version.{Version}
+use Rattle.profile.specs.declared.Version.{Version}
 use Rattle.profile.specs.Tree.{many}
 use Rattle.reading.specs.Verdict.{Judged, accepted, refused, lies}
 use Rattle.reading.specs.Items.{item}

@@ -5,7 +5,7 @@ use mathlib.Core.Bool.{Bool}
 use mathlib.Core.List.{List, [], _∷_, _++_}
 use lib.ListN.{length}
 use Rattle.tags.specs.Tags.{plainTag}
-use Rattle.profile.specs.Version.{Version}
+use Rattle.profile.specs.declared.Version.{Version}
 use Rattle.profile.specs.Tree.{Occ, once, many, Shape, end, group}
 use Rattle.profile.specs.Profile.{bulkName, headerName, itemName, inHeader, inItem, profile}
 use Rattle.reading.specs.Items.{Item}

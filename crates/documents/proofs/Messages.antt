@@ -17,7 +17,9 @@ use Rattle.tags.specs.declared.Look.{Look}
 use Rattle.tags.specs.declared.Look.the-variants.{Whole as Lies, Cut, Other}
 use Rattle.tags.specs.Tags.{white, skipped, look, onLook, exactly, startsQuestion, declaration}
 use Rattle.tags.proofs.Looks.{whole-text}
-use Rattle.profile.specs.Version.{Version, v02, versions, root}
+use Rattle.profile.specs.declared.Version.{Version}
+use Rattle.profile.specs.declared.Version.the-variants.{V02, V08}
+use Rattle.profile.specs.Version.{versions, root}
 use Rattle.profile.specs.Limits.{mostBytes}
 use Rattle.profile.specs.Tree.{Shape}
 use Rattle.profile.specs.Profile.{profile}
@@ -64,7 +66,8 @@ question t = refl
 module _ (m : List ℕ) where
   -- each version's root tag tells its version
   root-known : (v : Version) (p : ℕ) (s : List ℕ) → drop p m ≡ root v ++ s → rooted versions m p ≡ from v (p + length (root v))
-  root-known v02 p s e = rw e
+  root-known V02 p s e = rw e
+  root-known V08 p s e = rw e
 
   -- the root tag, after white space
   root-there : (v : Version) (p : ℕ) (w s : List ℕ) → White w → drop p m ≡ w ++ (root v ++ s) → rooted versions m (skipped m p) ≡ from v (p + length (w ++ root v))

@@ -15,7 +15,8 @@ use Rattle.tags.specs.declared.Look.the-variants.{Whole, Other}
 use Rattle.tags.specs.Tags.{white, skipped, look, exactly, endTag, plainTag, startTag, startsQuestion, declaration}
 use Rattle.tags.specs.Values.{inValue}
 use Rattle.tags.proofs.Looks.{look-text}
-use Rattle.profile.specs.Version.{Version, root}
+use Rattle.profile.specs.declared.Version.{Version}
+use Rattle.profile.specs.Version.{root}
 use Rattle.profile.specs.Kinds.{isAmount}
 use Rattle.profile.specs.Tree.{Occ, once, optional, many, more, Shape, end, leaf, group}
 use Rattle.profile.specs.Profile.{profile}

@@ -7,7 +7,8 @@ use Rattle.profile.specs.declared.Kind.{Kind}
 use Rattle.profile.specs.declared.Kind.the-variants.{Count, Total, Amount}
 use Rattle.profile.specs.declared.Field.{Field}
 use Rattle.profile.specs.declared.Field.the-variants.{DbtrIban, CdtrIban, CdtrId}
-use Rattle.profile.specs.Version.{Version, v02}
+use Rattle.profile.specs.declared.Version.{Version}
+use Rattle.profile.specs.declared.Version.the-variants.{V02, V08}
 use Rattle.profile.specs.Tree.{Shape}
 use Rattle.profile.specs.Profile.{isType, inItem, profile}
 use Rattle.reading.specs.Rules.{valuesOf, valuesAt}
@@ -35,32 +36,39 @@ module _ {sh : Shape} (d : Doc sh) (pr : Proper sh d) where
 -- ---- the profile's tree shows it
 pub counts : (v : Version) → OnceOf Count (profile v)
 unfolding profile
-counts v02 = record { fixed = refl; once = refl }
+counts V02 = record { fixed = refl; once = refl }
+counts V08 = record { fixed = refl; once = refl }
 
 pub totals : (v : Version) → OnceOf Total (profile v)
 unfolding profile
-totals v02 = record { fixed = refl; once = refl }
+totals V02 = record { fixed = refl; once = refl }
+totals V08 = record { fixed = refl; once = refl }
 
 -- the payment type may stand as often as there are items, and once more
 pub types-even : (v : Version) → (even aType anyItem (profile v) ≡ true) × (times aType (profile v) ≡ 2) × (times anyItem (profile v) ≡ 1)
 unfolding profile isType
-types-even v02 = (refl, refl, refl)
+types-even V02 = (refl, refl, refl)
+types-even V08 = (refl, refl, refl)
 
 pub item-amounts : (v : Version) → OnceOf Amount (inItem v)
 unfolding inItem
-item-amounts v02 = record { fixed = refl; once = refl }
+item-amounts V02 = record { fixed = refl; once = refl }
+item-amounts V08 = record { fixed = refl; once = refl }
 
 pub item-debtors : (v : Version) → OnceAt DbtrIban (inItem v)
 unfolding inItem
-item-debtors v02 = record { fixed = refl; once = refl }
+item-debtors V02 = record { fixed = refl; once = refl }
+item-debtors V08 = record { fixed = refl; once = refl }
 
 pub item-creditors : (v : Version) → OnceAt CdtrIban (inItem v)
 unfolding inItem
-item-creditors v02 = record { fixed = refl; once = refl }
+item-creditors V02 = record { fixed = refl; once = refl }
+item-creditors V08 = record { fixed = refl; once = refl }
 
 pub item-identifiers : (v : Version) → OnceAt CdtrId (inItem v)
 unfolding inItem
-item-identifiers v02 = record { fixed = refl; once = refl }
+item-identifiers V02 = record { fixed = refl; once = refl }
+item-identifiers V08 = record { fixed = refl; once = refl }
 
 -- In each message there stand one count and one total, and the payment type may stand once in its header and once in each item.
 pub one-header : (v : Version) (d : Doc (profile v)) → Proper (profile v) d → OneHeader (said (profile v) d)

@@ -6,7 +6,8 @@ use Prim.Native.Nat.{ℕ}
 use Rattle.text.specs.Truth.{both}
 use Rattle.tags.specs.Tags.{look, exactly, endTag, plainTag, startTag}
 use Rattle.tags.proofs.Looks.{isOther}
-use Rattle.profile.specs.Version.{Version, v02}
+use Rattle.profile.specs.declared.Version.{Version}
+use Rattle.profile.specs.declared.Version.the-variants.{V02, V08}
 use Rattle.profile.specs.Kinds.{isAmount}
 use Rattle.profile.specs.Tree.{Occ, once, optional, many, more, Shape, end, leaf, group}
 use Rattle.profile.specs.Profile.{inHeader, inItem, profile}
@@ -39,12 +40,15 @@ sure (group o n inner rest) = both (unlessOnce o (apart (exactly (plainTag n)) r
 -- ---- it is so in the profile, in its header and in an item
 pub profile-sure : (v : Version) → sure (profile v) ≡ true
 unfolding profile
-profile-sure v02 = refl
+profile-sure V02 = refl
+profile-sure V08 = refl
 
 pub header-sure : (v : Version) → sure (inHeader v) ≡ true
 unfolding inHeader
-header-sure v02 = refl
+header-sure V02 = refl
+header-sure V08 = refl
 
 pub item-sure : (v : Version) → sure (inItem v) ≡ true
 unfolding inItem
-item-sure v02 = refl
+item-sure V02 = refl
+item-sure V08 = refl

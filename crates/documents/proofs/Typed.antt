@@ -9,7 +9,7 @@ use lib.ListN.{replicate}
 use Rattle.text.specs.Truth.{pick}
 use Rattle.profile.specs.declared.Kind.{Kind}
 use Rattle.profile.specs.declared.Field.{Field}
-use Rattle.profile.specs.Version.{Version}
+use Rattle.profile.specs.declared.Version.{Version}
 use Rattle.profile.specs.Tree.{Shape}
 use Rattle.profile.specs.Profile.{isType, profile}
 use Rattle.reading.specs.Trace.{What, itemBegins, itemEnds, there, absent, value}

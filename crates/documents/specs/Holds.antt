@@ -9,7 +9,7 @@ use Rattle.answers.specs.Given.{Given, yes, worth, refused}
 use Rattle.codes.specs.declared.Element as code
 use Rattle.money.specs.Amount.{cents}
 use Rattle.profile.specs.declared.Kind.the-variants.{Count, Total, Code}
-use Rattle.profile.specs.Version.{Version}
+use Rattle.profile.specs.declared.Version.{Version}
 use Rattle.profile.specs.Limits.{mostBytes, mostItems}
 use Rattle.profile.specs.Profile.{profile}
 use Rattle.reading.specs.Trace.{What}

@@ -4,7 +4,8 @@ use mathlib.Core.Bool.{Bool}
 use mathlib.Core.List.{List, [], _++_}
 use Rattle.text.specs.Truth.{pick}
 use Rattle.tags.specs.Tags.{declaration}
-use Rattle.profile.specs.Version.{Version, root}
+use Rattle.profile.specs.declared.Version.{Version}
+use Rattle.profile.specs.Version.{root}
 use Rattle.profile.specs.Tree.{Shape}
 use Rattle.documents.specs.Document.{Doc, text, White, Proper}
 

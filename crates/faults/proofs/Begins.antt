@@ -13,7 +13,8 @@ use Rattle.text.proofs.Truths.{never}
 use Rattle.tags.specs.declared.Look.{Look}
 use Rattle.tags.specs.Tags.{white, skipped, look, onLook, exactly, declaration, startsQuestion}
 use Rattle.tags.proofs.Looks.{exactly-length}
-use Rattle.profile.specs.Version.{Version, versions, root}
+use Rattle.profile.specs.declared.Version.{Version}
+use Rattle.profile.specs.Version.{versions, root}
 use Rattle.profile.specs.Profile.{profile}
 use Rattle.reading.specs.Trace.{fault, from, faulty, rooted, opened}
 use Rattle.faults.specs.Refusals.{inDocument}

@@ -4,7 +4,7 @@ use mathlib.Core.List.{List, [], _++_}
 use Prim.Native.Nat.{ℕ, _+_}
 use lib.ListN.{length}
 use lib.Seq.{drop-append-seam}
-use Rattle.profile.specs.Version.{Version}
+use Rattle.profile.specs.declared.Version.{Version}
 use Rattle.profile.specs.Profile.{profile}
 use Rattle.reading.specs.Trace.{Trace, trace}
 use Rattle.reading.specs.Noted.{stop, noted}

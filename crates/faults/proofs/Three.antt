@@ -14,7 +14,8 @@ use Rattle.tags.specs.declared.Look.{Look}
 use Rattle.tags.specs.declared.Look.the-variants.{Whole as Complete, Cut, Other}
 use Rattle.tags.specs.Tags.{white, skipped, look, onLook, exactly, declaration, startsQuestion}
 use Rattle.tags.proofs.Looks.{exactly-length, look-fits}
-use Rattle.profile.specs.Version.{Version, versions, root}
+use Rattle.profile.specs.declared.Version.{Version}
+use Rattle.profile.specs.Version.{versions, root}
 use Rattle.profile.specs.Limits.{mostBytes}
 use Rattle.profile.specs.Profile.{profile}
 use Rattle.reading.specs.Trace.{Entry, Trace, met, upTo, fault, andThen, Opened, from, faulty, rooted, opened, trace, behindAll, message}

@@ -23,13 +23,13 @@ use Rattle.money.specs.declared.Range.the-variants as range
 use Rattle.money.specs.Count.{countForm, countGiven}
 use Rattle.money.specs.Amount.{most, cents, amountForm, amountGiven}
 use Rattle.check97.specs.Check.{ibanChecked, identifierChecked}
-use Rattle.accounts.specs.Bic.{bicForm, bicGiven}
+use Rattle.accounts.specs.Bic.{bicForm, bicGiven, bicfiForm, bicfiGiven}
 use Rattle.accounts.specs.Iban.{ibanForm, ibanLength, ibanGiven}
 use Rattle.accounts.specs.Identifier.{identifierForm, identifierGiven}
 use Rattle.profile.specs.declared.Kind.{Kind}
 use Rattle.profile.specs.declared.Kind.the-variants.{Plain, Count, Total, Amount, Code}
 use Rattle.profile.specs.declared.Simple.{Simple}
-use Rattle.profile.specs.declared.Simple.the-variants.{Reference, EndToEnd, Text70, Text140, Date, Time, Bic, Iban, Identifier}
+use Rattle.profile.specs.declared.Simple.the-variants.{Reference, EndToEnd, Text70, Text140, Date, Time, Bic, Bicfi, Iban, Identifier}
 use Rattle.profile.specs.Limits.{mostItems}
 use Rattle.profile.specs.Profile.{isType}
 use Rattle.kinds.specs.Given.{simpleGiven, kindGiven}
@@ -68,7 +68,7 @@ in-order = in-order-of ofWhatIsSaid
 
 -- ---- by the kinds
 simple-said : (s : Simple) (v : List ℕ) → Said (simpleGiven s v)
-unfolding simpleGiven referenceGiven endToEndGiven textGiven dateGiven timeGiven bicGiven ibanGiven identifierGiven
+unfolding simpleGiven referenceGiven endToEndGiven textGiven dateGiven timeGiven bicGiven bicfiGiven ibanGiven identifierGiven
 simple-said Reference v = in-order (referenceForm v else 7 ∷ []) yes refl tt
 simple-said EndToEnd v = in-order (endToEndForm (collapsed v) else 7 ∷ []) yes refl tt
 simple-said Text70 v = in-order (textForm Nm (collapsed v) else 7 ∷ []) yes refl tt
@@ -76,6 +76,7 @@ simple-said Text140 v = in-order (textForm Ustrd (collapsed v) else 7 ∷ []) ye
 simple-said Date v = in-order (dateForm v else 7 ∷ []) yes refl tt
 simple-said Time v = in-order (timeForm v else 7 ∷ []) yes refl tt
 simple-said Bic v = in-order (bicForm v else 7 ∷ []) yes refl tt
+simple-said Bicfi v = in-order (bicfiForm v else 7 ∷ []) yes refl tt
 simple-said Iban v = in-order (ibanForm v else 7 ∷ ibanLength v else 19 ∷ ibanChecked v else 8 ∷ []) yes refl tt
 simple-said Identifier v = in-order (identifierForm v else 7 ∷ identifierChecked v else 8 ∷ []) yes refl tt
 

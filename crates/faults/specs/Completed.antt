@@ -4,7 +4,8 @@ use mathlib.Core.Path.{_≡_}
 use mathlib.Core.List.{List, [], _∷_, _++_}
 use lib.ListN.{length}
 use Rattle.tags.specs.Tags.{endTag, plainTag, startTag, declaration}
-use Rattle.profile.specs.Version.{Version, versions, root}
+use Rattle.profile.specs.declared.Version.{Version}
+use Rattle.profile.specs.Version.{versions, root}
 use Rattle.profile.specs.Kinds.{isAmount}
 use Rattle.profile.specs.Tree.{Shape, end, leaf, group}
 use Rattle.profile.specs.Profile.{profile}

@@ -9,7 +9,9 @@ use borrow.Author.Tests.{leb-true}
 use lib.ListN.{length, length-append}
 use Rattle.tags.specs.Tags.{endTag, plainTag, declaration}
 use Rattle.profile.specs.declared.Kind.{Kind}
-use Rattle.profile.specs.Version.{Version, v02, root}
+use Rattle.profile.specs.declared.Version.{Version}
+use Rattle.profile.specs.declared.Version.the-variants.{V02, V08}
+use Rattle.profile.specs.Version.{root}
 use Rattle.profile.specs.Limits.{mostBytes, mostItems}
 use Rattle.profile.specs.Tree.{Occ, once, optional, many, more, Shape, end, leaf, group}
 use Rattle.profile.specs.Profile.{profile}
@@ -114,7 +116,8 @@ text-long (group o n inner rest) d pr h =
 -- the declaration, the root tag and the longest text between them
 longest-form : (v : Version) → length declaration + (length (root v) + longestText (profile v)) ≤ mostBytes
 unfolding profile
-longest-form v02 = leb-true _ mostBytes refl
+longest-form V02 = leb-true _ mostBytes refl
+longest-form V08 = leb-true _ mostBytes refl
 
 -- The plain form of a document of which the profile holds has 16,777,216 bytes at most.
 pub form-long : {v : Version} (d : Message v (profile v)) → Lawful d → Few (said (profile v) (d .inside)) → length (whole (plainMessage d)) ≤ mostBytes

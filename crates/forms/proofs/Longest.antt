@@ -29,7 +29,7 @@ use Rattle.calendar.specs.Date.{dateForm, dateGiven}
 use Rattle.calendar.specs.Time.{offsetForm, zoneForm, endForm, timeForm, timeGiven}
 use Rattle.money.specs.declared.Range as range
 use Rattle.money.proofs.Plain.{count-parts, zeros-long, plain-long}
-use Rattle.accounts.specs.Bic.{bicForm, bicGiven}
+use Rattle.accounts.specs.Bic.{bicForm, bicGiven, bicfiForm, bicfiGiven}
 use Rattle.check97.specs.Check.{ibanChecked, identifierChecked}
 use Rattle.accounts.specs.Iban.{ibanForm, ibanLength, ibanGiven}
 use Rattle.accounts.specs.Identifier.{identifierForm, identifierGiven}
@@ -37,7 +37,7 @@ use Rattle.accounts.proofs.Forms.{iban-long, identifier-long}
 use Rattle.profile.specs.declared.Kind.{Kind}
 use Rattle.profile.specs.declared.Kind.the-variants.{Plain, Count, Total, Amount, Code}
 use Rattle.profile.specs.declared.Simple.{Simple}
-use Rattle.profile.specs.declared.Simple.the-variants.{Reference, EndToEnd, Text70, Text140, Date, Time, Bic, Iban, Identifier}
+use Rattle.profile.specs.declared.Simple.the-variants.{Reference, EndToEnd, Text70, Text140, Date, Time, Bic, Bicfi, Iban, Identifier}
 use Rattle.kinds.specs.Given.{simpleGiven, kindGiven}
 use Rattle.kinds.specs.Meant.{simplyMeant, asMeant}
 use Rattle.kinds.proofs.Meant.{count-formed, amount-formed}
@@ -50,6 +50,7 @@ longestSimple Text140 = 140
 longestSimple Date = 10
 longestSimple Time = 29
 longestSimple Bic = 11
+longestSimple Bicfi = 11
 longestSimple Iban = 34
 longestSimple Identifier = 35
 
@@ -119,13 +120,20 @@ unfolding timeGiven timeForm
 time-long v e = omega (arith, length-drop 19 v, end-long (drop 19 v) (passes _ (first-passes (timeForm v) 6 [] yes e) 3))
 
 -- ---- accounts
+eight-or-eleven : (n : ℕ) → either (eqb n 8) (eqb n 11) ≡ true → n ≤ 11
+eight-or-eleven n e = go (either-true (eqb n 8) (eqb n 11) e)
+  where
+    go : (eqb n 8 ≡ true) ⊎ (eqb n 11 ≡ true) → n ≤ 11
+    go (inl h) = omega (arith, eqb-true n 8 h)
+    go (inr h) = omega (arith, eqb-true n 11 h)
+
 bic-long : (v : List ℕ) → numberOf (bicGiven v) ≡ 0 → length v ≤ 11
 unfolding bicGiven bicForm
-bic-long v e = go (either-true (eqb (length v) 8) (eqb (length v) 11) (passes _ (first-passes (bicForm v) 6 [] yes e) 0))
-  where
-    go : (eqb (length v) 8 ≡ true) ⊎ (eqb (length v) 11 ≡ true) → length v ≤ 11
-    go (inl h) = omega (arith, eqb-true (length v) 8 h)
-    go (inr h) = omega (arith, eqb-true (length v) 11 h)
+bic-long v e = eight-or-eleven (length v) (passes _ (first-passes (bicForm v) 6 [] yes e) 0)
+
+bicfi-long : (v : List ℕ) → numberOf (bicfiGiven v) ≡ 0 → length v ≤ 11
+unfolding bicfiGiven bicfiForm
+bicfi-long v e = eight-or-eleven (length v) (passes _ (first-passes (bicfiForm v) 6 [] yes e) 0)
 
 iban-most : (v : List ℕ) → numberOf (ibanGiven v) ≡ 0 → length v ≤ 34
 unfolding ibanGiven
@@ -144,6 +152,7 @@ simple-long Text140 v e = text-long Ustrd v e
 simple-long Date v e = date-long v e
 simple-long Time v e = time-long v e
 simple-long Bic v e = bic-long v e
+simple-long Bicfi v e = bicfi-long v e
 simple-long Iban v e = iban-most v e
 simple-long Identifier v e = identifier-most v e
 

@@ -10,11 +10,12 @@ use Rattle.money.specs.Amount.{cents}
 use Rattle.profile.specs.declared.Kind.{Kind}
 use Rattle.profile.specs.declared.Kind.the-variants.{Plain, Count, Total, Amount, Code}
 use Rattle.profile.specs.declared.Simple.{Simple}
-use Rattle.profile.specs.declared.Simple.the-variants.{Reference, EndToEnd, Text70, Text140, Date, Time, Bic, Iban, Identifier}
+use Rattle.profile.specs.declared.Simple.the-variants.{Reference, EndToEnd, Text70, Text140, Date, Time, Bic, Bicfi, Iban, Identifier}
 use Rattle.profile.specs.declared.Field.{Field}
 use Rattle.profile.specs.declared.Field.the-variants.{TxId, EndToEndId, MndtId, DbtrIban, CdtrIban, DbtrBic, ReqdColltnDt, SeqTp, CdtrId, CdtrBic, InstrId, LclInstrm, DtOfSgntr}
 use Rattle.profile.specs.Fields.{sameField}
-use Rattle.profile.specs.Version.{Version, v02}
+use Rattle.profile.specs.declared.Version.{Version}
+use Rattle.profile.specs.declared.Version.the-variants.{V02, V08}
 use Rattle.profile.specs.Tree.{Occ, once, optional, many, more, Shape, end, leaf, group}
 use Rattle.profile.specs.Profile.{inHeader, inItem, profile}
 use Rattle.words.specs.Collapsed.{collapsed}
@@ -25,6 +26,7 @@ use Rattle.reading.specs.Rules.{ofField, valuesAt, valuesOf, _so_}
 use Rattle.reading.specs.Judged.{judged, lastOf}
 use Rattle.reading.specs.Verdict.{accepted}
 use Rattle.reading.specs.Items.{theItems}
+use Rattle.reading.proofs.Each.{AllIn}
 use Rattle.postings.specs.Record.{recordWith, valueFor, centsFor, recordFor}
 use Rattle.postings.specs.Area.{recordsFor, recorded}
 use Rattle.documents.specs.Document.{Led, Doc, texts, Each}
@@ -58,6 +60,7 @@ isReadSimple Text140 = false
 isReadSimple Date = true
 isReadSimple Time = true
 isReadSimple Bic = true
+isReadSimple Bicfi = true
 isReadSimple Iban = true
 isReadSimple Identifier = true
 
@@ -76,6 +79,7 @@ read-simply Text140 e v = cc
 read-simply Date e v = refl
 read-simply Time e v = refl
 read-simply Bic e v = refl
+read-simply Bicfi e v = refl
 read-simply Iban e v = refl
 read-simply Identifier e v = refl
 
@@ -101,6 +105,7 @@ words-simply Text140 v = collapsed-twice v
 words-simply Date v = refl
 words-simply Time v = refl
 words-simply Bic v = refl
+words-simply Bicfi v = refl
 words-simply Iban v = refl
 words-simply Identifier v = refl
 
@@ -186,24 +191,40 @@ module _ (v : Version) (c : Doc (inHeader v)) (d : Doc (inItem v)) where
       → collapsed (valueFor (meantAll Both) g) ≡ collapsed (valueFor Both g)
   words-are g e f = value-is collapsed isWords words-meant g (inHeader v) e (inItem v) f c d
 
+-- the recorded fields that are as read, and the one that is collapsed, by the tree
+abbrev asReadIn : Version → Field → Type 0
+asReadIn v g = (held (λ v. v) isRead read-meant g (inHeader v) ≡ true) × (held (λ v. v) isRead read-meant g (inItem v) ≡ true)
+
+all-read : (v : Version) → AllIn (asReadIn v) (TxId ∷ MndtId ∷ DbtrIban ∷ CdtrIban ∷ DbtrBic ∷ ReqdColltnDt ∷ SeqTp ∷ CdtrId ∷ CdtrBic ∷ InstrId ∷ LclInstrm ∷ DtOfSgntr ∷ [])
+unfolding inHeader inItem
+all-read V02 = ((refl, refl), ((refl, refl), ((refl, refl), ((refl, refl), ((refl, refl), ((refl, refl), ((refl, refl), ((refl, refl), ((refl, refl), ((refl, refl), ((refl, refl), ((refl, refl), tt))))))))))))
+all-read V08 = ((refl, refl), ((refl, refl), ((refl, refl), ((refl, refl), ((refl, refl), ((refl, refl), ((refl, refl), ((refl, refl), ((refl, refl), ((refl, refl), ((refl, refl), ((refl, refl), tt))))))))))))
+
+collapsed-one : (v : Version) → (held collapsed isWords words-meant EndToEndId (inHeader v) ≡ true) × (held collapsed isWords words-meant EndToEndId (inItem v) ≡ true)
+unfolding inHeader inItem
+collapsed-one V02 = (refl, refl)
+collapsed-one V08 = (refl, refl)
+
 record-is : (v : Version) (c : Doc (inHeader v)) (d : Doc (inItem v)) → recordFor (meantAll (Both v c d)) ≡ recordFor (Both v c d)
-unfolding recordFor inHeader inItem
-record-is v02 c d =
+unfolding recordFor
+record-is v c d =
+    let h = all-read v in
+    let w = collapsed-one v in
     rw (
-      cents-is (Both v02 c d),
-      read-is v02 c d TxId refl refl,
-      words-are v02 c d EndToEndId refl refl,
-      read-is v02 c d MndtId refl refl,
-      read-is v02 c d DbtrIban refl refl,
-      read-is v02 c d CdtrIban refl refl,
-      read-is v02 c d DbtrBic refl refl,
-      read-is v02 c d ReqdColltnDt refl refl,
-      read-is v02 c d SeqTp refl refl,
-      read-is v02 c d CdtrId refl refl,
-      read-is v02 c d CdtrBic refl refl,
-      read-is v02 c d InstrId refl refl,
-      read-is v02 c d LclInstrm refl refl,
-      read-is v02 c d DtOfSgntr refl refl,
+      cents-is (Both v c d),
+      read-is v c d TxId (h .0 .0) (h .0 .1),
+      words-are v c d EndToEndId (w .0) (w .1),
+      read-is v c d MndtId (h .1 .0 .0) (h .1 .0 .1),
+      read-is v c d DbtrIban (h .1 .1 .0 .0) (h .1 .1 .0 .1),
+      read-is v c d CdtrIban (h .1 .1 .1 .0 .0) (h .1 .1 .1 .0 .1),
+      read-is v c d DbtrBic (h .1 .1 .1 .1 .0 .0) (h .1 .1 .1 .1 .0 .1),
+      read-is v c d ReqdColltnDt (h .1 .1 .1 .1 .1 .0 .0) (h .1 .1 .1 .1 .1 .0 .1),
+      read-is v c d SeqTp (h .1 .1 .1 .1 .1 .1 .0 .0) (h .1 .1 .1 .1 .1 .1 .0 .1),
+      read-is v c d CdtrId (h .1 .1 .1 .1 .1 .1 .1 .0 .0) (h .1 .1 .1 .1 .1 .1 .1 .0 .1),
+      read-is v c d CdtrBic (h .1 .1 .1 .1 .1 .1 .1 .1 .0 .0) (h .1 .1 .1 .1 .1 .1 .1 .1 .0 .1),
+      read-is v c d InstrId (h .1 .1 .1 .1 .1 .1 .1 .1 .1 .0 .0) (h .1 .1 .1 .1 .1 .1 .1 .1 .1 .0 .1),
+      read-is v c d LclInstrm (h .1 .1 .1 .1 .1 .1 .1 .1 .1 .1 .0 .0) (h .1 .1 .1 .1 .1 .1 .1 .1 .1 .1 .0 .1),
+      read-is v c d DtOfSgntr (h .1 .1 .1 .1 .1 .1 .1 .1 .1 .1 .1 .0 .0) (h .1 .1 .1 .1 .1 .1 .1 .1 .1 .1 .1 .0 .1),
     )
 
 meant-append : (a b : List What) → meantAll (a ++ b) ≡ meantAll a ++ meantAll b

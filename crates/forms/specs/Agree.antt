@@ -1,6 +1,6 @@
 -- Request 2: "they have equally many items, the optional elements agree, and all values in order mean the same (count and amounts as numbers, others by bytes)".
 use mathlib.Core.List.{List, [], _∷_}
-use Rattle.profile.specs.Version.{Version}
+use Rattle.profile.specs.declared.Version.{Version}
 use Rattle.profile.specs.Tree.{Shape, end, leaf, group}
 use Rattle.profile.specs.Profile.{profile}
 use Rattle.kinds.specs.Meant.{SameMeaning}

@@ -12,7 +12,7 @@ use Rattle.text.specs.Quoted.{decimal}
 use Rattle.tags.specs.Tags.{skipped}
 use Rattle.money.specs.Amount.{cents}
 use Rattle.profile.specs.declared.Kind.the-variants.{Count, Total}
-use Rattle.profile.specs.Version.{Version}
+use Rattle.profile.specs.declared.Version.{Version}
 use Rattle.profile.specs.Limits.{mostBytes}
 use Rattle.profile.specs.Profile.{profile}
 use Rattle.reading.specs.Trace.{What, itemBegins, itemEnds, there, absent, value, Entry, Trace, upTo, fault, trace, Opened, from, faulty, opened, behindAll, inside, message}

@@ -10,7 +10,7 @@ use Rattle.tags.specs.declared.Look.the-variants.{Whole as Lies, Cut, Other}
 use Rattle.tags.specs.Tags.{skipped, look, onLook, exactly, endTag, plainTag}
 use Rattle.tags.proofs.Looks.{text-fits}
 use Rattle.tags.proofs.White.{skip-twice}
-use Rattle.profile.specs.Version.{Version}
+use Rattle.profile.specs.declared.Version.{Version}
 use Rattle.profile.specs.Tree.{once, many, more, Shape, end, group}
 use Rattle.profile.specs.Profile.{bulkName, headerName, itemName, inHeader, inItem, profile}
 use Rattle.reading.specs.Trace.{What, itemBegins, itemEnds, there, absent, value, Entry, _at_, Trace, upTo, fault, andThen, closed, groupBody, turn, again, trace}

@@ -9,7 +9,8 @@ use lib.ListN.{length, length-append}
 use Rattle.text.specs.Truth.{both}
 use Rattle.text.proofs.Truths.{both-true}
 use Rattle.tags.specs.Tags.{exactly, amountTag, currency, startTag}
-use Rattle.profile.specs.Version.{Version, v02}
+use Rattle.profile.specs.declared.Version.{Version}
+use Rattle.profile.specs.declared.Version.the-variants.{V02, V08}
 use Rattle.profile.specs.Kinds.{isAmount}
 use Rattle.profile.specs.Tree.{Occ, once, optional, many, more, Shape, end, leaf, group}
 use Rattle.profile.specs.Profile.{inHeader, inItem}
@@ -84,11 +85,13 @@ module _ (m : List ℕ) where
 
   item-singles : (v : Version) → singles (inItem v) ≡ true
   unfolding inItem
-  item-singles v02 = refl
+  item-singles V02 = refl
+  item-singles V08 = refl
 
   header-singles : (v : Version) → singles (inHeader v) ≡ true
   unfolding inHeader
-  header-singles v02 = refl
+  header-singles V02 = refl
+  header-singles V08 = refl
 
   pub item-lies : (v : Version) (p : ℕ) → AllLie m (flat (trace (inItem v) m p))
   item-lies v = all-lie (inItem v) (item-singles v)

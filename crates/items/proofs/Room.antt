@@ -19,7 +19,8 @@ use Rattle.money.specs.Amount.{most}
 use Rattle.profile.specs.declared.Kind.{Kind}
 use Rattle.profile.specs.declared.Field.{Field}
 use Rattle.profile.specs.Kinds.{isAmount}
-use Rattle.profile.specs.Version.{Version, v02}
+use Rattle.profile.specs.declared.Version.{Version}
+use Rattle.profile.specs.declared.Version.the-variants.{V02, V08}
 use Rattle.profile.specs.Tree.{Occ, once, optional, many, more, Shape, end, leaf, group}
 use Rattle.profile.specs.Profile.{profile}
 use Rattle.reading.specs.Trace.{What, itemBegins, itemEnds, there, absent, value, Entry, _at_, Trace, met, upTo, fault, andThen}
@@ -44,11 +45,13 @@ fairly (group o n inner rest) = both (fair o (amountsIn inner)) (both (fairly in
 -- in the profile every item has, and no amount stands outside the items
 pub profile-fair : (v : Version) → fairly (profile v) ≡ true
 unfolding profile
-profile-fair v02 = refl
+profile-fair V02 = refl
+profile-fair V08 = refl
 
 pub profile-none : (v : Version) → amountsIn (profile v) ≡ 0
 unfolding profile
-profile-none v02 = refl
+profile-none V02 = refl
+profile-none V08 = refl
 
 -- how many amounts what is met has
 abbrev pub paid : What → ℕ

@@ -7,7 +7,8 @@ use native.Mathlib.Omega.{arith}
 use lib.ListN.{length, drop}
 use Rattle.tags.specs.declared.Look.the-variants.{Whole as Lies}
 use Rattle.tags.specs.Tags.{skipped, look, plainTag}
-use Rattle.profile.specs.Version.{Version, v02}
+use Rattle.profile.specs.declared.Version.{Version}
+use Rattle.profile.specs.declared.Version.the-variants.{V02, V08}
 use Rattle.profile.specs.Tree.{many}
 use Rattle.profile.specs.Profile.{isType, itemName, inItem}
 use Rattle.reading.specs.Trace.{itemBegins, itemEnds, Entry, _at_, Trace, met, upTo, fault, andThen, ends, trace}
@@ -31,7 +32,8 @@ then-none (fault n q) = refl
 
 item-type : (v : Version) → (fixed aType (inItem v) ≡ true) × (times aType (inItem v) ≡ 1)
 unfolding inItem isType
-item-type v02 = (refl, refl)
+item-type V02 = (refl, refl)
+item-type V08 = (refl, refl)
 
 module _ (v : Version) (m : List ℕ) where
   -- what lies behind an item's start tag

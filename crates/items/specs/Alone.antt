@@ -3,7 +3,7 @@ use Prim.Native.Nat.{ℕ}
 use mathlib.Core.Bool.{Bool}
 use mathlib.Core.List.{List, [], _∷_}
 use Rattle.tags.specs.Tags.{exactly, plainTag}
-use Rattle.profile.specs.Version.{Version}
+use Rattle.profile.specs.declared.Version.{Version}
 use Rattle.profile.specs.Tree.{once, many}
 use Rattle.profile.specs.Profile.{itemName, inItem}
 use Rattle.reading.specs.Trace.{What, Entry, Trace, upTo, groupBody, turn, trace}

@@ -2,7 +2,7 @@
 use Prim.Native.Nat.{ℕ, zero, suc}
 use mathlib.Core.List.{List}
 use Rattle.tags.specs.Tags.{skipped}
-use Rattle.profile.specs.Version.{Version}
+use Rattle.profile.specs.declared.Version.{Version}
 use Rattle.reading.specs.Trace.{Entry}
 use Rattle.reading.specs.Noted.{Reading, on, stop, Ended}
 use Rattle.reading.specs.Verdict.{Located, lies, notThere}

@@ -5,7 +5,7 @@ use mathlib.Core.List.{List, []}
 use Prim.Native.Nat.{ℕ, _≤_}
 use borrow.Author.Tests.{le-leb}
 use lib.ListN.{length}
-use Rattle.profile.specs.Version.{Version}
+use Rattle.profile.specs.declared.Version.{Version}
 use Rattle.profile.specs.Limits.{mostBytes}
 use Rattle.reading.specs.Noted.{Reading, on, stop, Ended}
 use Rattle.reading.specs.Items.{Item}

@@ -1,5 +1,5 @@
 -- The beginning of a message, as the code reads it, and what stands behind it.
-use mathlib.Core.Path.{_≡_, sym, ap, _∙_}
+use mathlib.Core.Path.{_≡_, refl, sym, ap, _∙_}
 use mathlib.Core.Bool.{true, false}
 use mathlib.Core.List.{List}
 use Prim.Native.Nat.{ℕ, _+_, _-_, _≤_, _<_}
@@ -12,14 +12,25 @@ use Rattle.tags.specs.declared.Look.{Look}
 use Rattle.tags.specs.declared.Look.the-variants.{Whole, Cut, Other}
 use Rattle.tags.specs.Tags.{white, skipped, look, exactly, startsQuestion, declaration}
 use Rattle.tags.proofs.Looks.{text-fits}
-use Rattle.profile.specs.Version.{v02, versions, root}
+use Rattle.profile.specs.declared.Version.{Version}
+use Rattle.profile.specs.declared.Version.the-variants.{V02, V08}
+use Rattle.profile.specs.Version.{versions, root}
 use Rattle.profile.specs.Limits.{mostBytes}
 use Rattle.reading.specs.Trace.{Opened, from, faulty, rooted, opened}
 use Rattle.reading.specs.Noted.{Reading, stop, Ended}
 use Rattle.notes.specs.declared.Notes.{Notes}
 use Rattle.notes.specs.Steps.{Fine}
 use Rattle.reader.specs.Reader.{messageAt}
-use Rattle.judge.specs.Engine.{Within, throughIn}
+use Rattle.judge.specs.Verdict.{versionIn, versionOf}
+use Rattle.judge.specs.Engine.{Within, rootOr, throughIn}
+
+-- how many bytes the root tag has, in every version
+abbrev pub rootLength : ℕ
+rootLength = 65
+
+root-length : (v : Version) → length (root v) ≡ rootLength
+root-length V02 = refl
+root-length V08 = refl
 
 -- what is shown of an opening
 abbrev pub Opens : List ℕ → Opened → Opened → Type 0
@@ -38,26 +49,31 @@ module _ (m : List ℕ) where
       let g : length m ≤ p = omega arith in
       rw (drop-of-length-le m g) (omega arith)
 
-  -- ---- the root tag, due after white space from a place on
-  module _ (p n : ℕ) (in-it : p ≤ length m) (skips : n ≡ lead white (take (length m - p) (drop p m))) (l : Look)
-      (e : l ≡ look (exactly (root v02)) (take (length m - (p + n)) (drop (p + n) m))) where
-    looked : look (exactly (root v02)) (drop (skipped m p) m) ≡ l
-    looked = rw (← skipped-is p n skips) (ap (look (exactly (root v02))) (sym (rest-of (p + n) m)) ∙ sym e)
+  -- ---- a version's root tag at a place, or else what is given
+  module _ (v : Version) (p : ℕ) (in-it : p ≤ length m) (l : Look) (e : l ≡ look (exactly (root v)) (take (length m - p) (drop p m))) where
+    looked : look (exactly (root v)) (drop p m) ≡ l
+    looked = ap (look (exactly (root v))) (sym (rest-of p m)) ∙ sym e
 
-    pub root-fits : l ≡ Whole → p + n + length (root v02) ≤ length m
-    root-fits h = omega (arith, text-fits (root v02) (drop (skipped m p) m) (looked ∙ h), length-drop (skipped m p) m, skipped-is p n skips)
+    pub root-fits : l ≡ Whole → p + rootLength ≤ length m
+    root-fits h = omega (arith, text-fits (root v) (drop p m) (looked ∙ h), length-drop p m, root-length v)
 
-    abbrev pub Rooted : Opened → Type 0
-    Rooted r = Opens m r (rooted versions m (skipped m p))
+    module _ (other : Opened) where
+      pub root-whole : l ≡ Whole → Opens m (from v (p + rootLength)) (rootOr v m p other)
+      unfolding rootOr
+      root-whole h = (rw (looked, h, root-length v), root-fits h)
 
-    pub root-whole : l ≡ Whole → Rooted (from v02 (p + n + length (root v02)))
-    root-whole h = (rw (looked, h, skipped-is p n skips), root-fits h)
+      pub root-cut : l ≡ Cut → Opens m (faulty 3 (length m)) (rootOr v m p other)
+      unfolding rootOr
+      root-cut h = (rw (looked, h), omega arith)
 
-    pub root-cut : l ≡ Cut → Rooted (faulty 3 (length m))
-    root-cut h = (rw (looked, h), omega arith)
+      pub root-other : l ≡ Other → Within m other → Opens m other (rootOr v m p other)
+      unfolding rootOr
+      root-other h w = (rw (looked, h), w)
 
-    pub root-other : l ≡ Other → Rooted (faulty 2 (p + n))
-    root-other h = (rw (looked, h, skipped-is p n skips), spaces-within p n in-it skips)
+  -- each version's in turn
+  pub rooted-is : (p q : ℕ) → q ≡ skipped m p → (o x r : Opened) → x ≡ rootOr V08 m q o → o ≡ faulty 2 q → r ≡ rootOr V02 m q x → r ≡ rooted versions m (skipped m p)
+  unfolding rootOr
+  rooted-is p q z o x r e d f = f ∙ rw (e, d, z)
 
   -- ---- the declaration, and the root tag
   pub no-declaration : startsQuestion m ≡ false → (r : Opened) → r ≡ rooted versions m (skipped m 0) → r ≡ opened m
@@ -82,9 +98,9 @@ module _ (m : List ℕ) where
 
   -- ---- and what stands behind it
   module _ (small : length m ≤ mostBytes) (o : Opened) (e : o ≡ opened m) (w : Within m o) where
-    pub through-from : (p : ℕ) → from v02 p ≡ o → (x : Reading (Ended Notes)) → x ≡ messageAt v02 m p → x ≡ throughIn m (opened m)
+    pub through-from : (v : Version) (p : ℕ) → from v p ≡ o → (x : Reading (Ended Notes)) → x ≡ messageAt v m p → x ≡ throughIn m (opened m)
     unfolding messageAt
-    through-from p f x g =
+    through-from v p f x g =
         let h : p ≤ length m = rw (sym f) at w in
         g ∙ rw (← e, ← f, le-leb (length m) mostBytes small, le-leb p (length m) h)
 
@@ -92,3 +108,8 @@ module _ (m : List ℕ) where
     through-faulty n q f x g =
         let h : q ≤ length m = rw (sym f) at w in
         (g ∙ rw (← e, ← f), rw g h)
+
+-- ---- and the version that the root names
+pub version-is : (m : List ℕ) (o : Opened) → o ≡ opened m → (v : Version) → v ≡ versionIn o → v ≡ versionOf m
+unfolding versionOf
+version-is m o e v f = f ∙ ap versionIn e

@@ -7,7 +7,7 @@ use native.Mathlib.Omega.{arith}
 use lib.ListN.{length}
 use Rattle.text.proofs.Truths.{never}
 use Rattle.tags.specs.Tags.{skipped}
-use Rattle.profile.specs.Version.{Version, v02}
+use Rattle.profile.specs.declared.Version.{Version}
 use Rattle.profile.specs.Limits.{mostBytes}
 use Rattle.reading.specs.Trace.{Entry, message}
 use Rattle.reading.specs.Noted.{Reading, on, stop, Ended, noted}
@@ -19,6 +19,7 @@ use Rattle.items.specs.Chain.{Chained, none, next, Itemized}
 use Rattle.items.proofs.Accepted.{accepted-chained, item-asked, item-past}
 use Rattle.notes.specs.declared.Notes.{Notes}
 use Rattle.reader.specs.Reader.{itemAt}
+use Rattle.judge.specs.Verdict.{versionOf}
 use Rattle.judge.specs.Found.{Found, foundIn, foundBy, found}
 use Rattle.judge.specs.Engine.{behindIn, walkedIn}
 use Rattle.judge.proofs.Alone.{stands-again}
@@ -70,26 +71,27 @@ module _ (v : Version) (m : List ℕ) (small : length m ≤ mostBytes) where
       let a = stands-again v m p x small h s in
       rw (a .is, a .to) (chain-walked-in c (s .within) i (omega arith))
 
-one-version : (v : Version) → v ≡ v02
-one-version v02 = refl
-
 module _ (m : List ℕ) (n c : ℕ) (e : judged m ≡ accepted n c) where
   abbrev it : Itemized m n
   it = accepted-chained m n c e
+
+  version-read : it .version ≡ versionOf m
+  unfolding versionOf
+  version-read = rw (it .opens)
 
   first-is : found m .first ≡ firstIn (it .ended .notes)
   first-is = found-first m n c e ∙ ap (λ (x : Reading (Ended (List Entry))). firstIn (notesOf x)) (it .goes)
 
   -- an accepted message's items, from the first one on, as found
-  pub found-chained : (found m .first ≤ length m) × Chained v02 m (found m .first) (theItems m)
-  found-chained = rw (first-is, ← one-version (it .version)) (it .within, it .chain)
+  pub found-chained : (found m .first ≤ length m) × Chained (versionOf m) m (found m .first) (theItems m)
+  found-chained = rw (first-is, ← version-read) (it .within, it .chain)
 
   pub short : length m ≤ mostBytes
   short = it .short
 
-  pub item-there : (i : ℕ) → i < n → (f : ℕ) → f ≡ found m .first → walkedIn i v02 m f ≡ item i m
-  item-there i h f z =
-      rw z (chain-walked-in v02 m short (found-chained .1) (found-chained .0) i (omega (arith, it .many)) ∙ sym (item-asked m n c e i))
+  pub item-there : (i : ℕ) → i < n → (v : Version) → v ≡ versionOf m → (f : ℕ) → f ≡ found m .first → walkedIn i v m f ≡ item i m
+  item-there i h v w f z =
+      rw (w, z) (chain-walked-in (versionOf m) m short (found-chained .1) (found-chained .0) i (omega (arith, it .many)) ∙ sym (item-asked m n c e i))
 
   pub item-none : (i : ℕ) → n ≤ i → notThere 18 0 ≡ item i m
   item-none i h = sym (item-past m n c e i h)

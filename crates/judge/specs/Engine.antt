@@ -1,11 +1,12 @@
 -- What each function of the judge finds, by the engine's notes.
-use Prim.Native.Nat.{ℕ, zero, suc, _≤_}
+use Prim.Native.Nat.{ℕ, zero, suc, _+_, _≤_}
 use mathlib.Core.List.{List}
-use lib.ListN.{length}
+use lib.ListN.{length, drop}
 use lib.Dec.{eqb, ltb}
 use Rattle.text.specs.Truth.{pick}
-use Rattle.tags.specs.Tags.{skipped}
-use Rattle.profile.specs.Version.{Version}
+use Rattle.tags.specs.Tags.{skipped, look, onLook, exactly}
+use Rattle.profile.specs.declared.Version.{Version}
+use Rattle.profile.specs.Version.{root}
 use Rattle.profile.specs.Profile.{profile}
 use Rattle.reading.specs.Trace.{Opened, from, faulty, trace}
 use Rattle.reading.specs.Noted.{Reading, on, stop, Ended}
@@ -20,6 +21,10 @@ use Rattle.judge.specs.Found.{Found, denied}
 abbrev pub Within : List ℕ → Opened → Type 0
 Within m (from v p) = p ≤ length m
 Within m (faulty n q) = q ≤ length m
+
+-- the root tag of a version at a place, or else what is given
+unfoldable pub rootOr : Version → List ℕ → ℕ → Opened → Opened
+rootOr v m p other = onLook (look (exactly (root v)) (drop p m)) (from v (p + length (root v))) (faulty 3 (length m)) other
 
 -- what stands behind the root tag, read up to the end of the root
 abbrev pub throughIn : List ℕ → Opened → Reading (Ended Notes)

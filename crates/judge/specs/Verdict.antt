@@ -1,5 +1,8 @@
 -- What the judge's answers mean: this paper's number and values for each case.
-use Rattle.profile.specs.Version.{v02}
+use Prim.Native.Nat.{ℕ}
+use mathlib.Core.List.{List}
+use Rattle.profile.specs.declared.Version.{Version}
+use Rattle.profile.specs.declared.Version.the-variants.{V02}
 use Rattle.reading.specs.Trace as reading
 use Rattle.reading.specs.Verdict.{Judged, accepted, refused, Located, lies, notThere}
 use Rattle.judge.specs.declared.Verdict.{Verdict}
@@ -18,5 +21,13 @@ located (Lies from to) = lies from to
 located (NotThere number place) = notThere number place
 
 abbrev pub openedAs : Opened → reading.Opened
-openedAs (From p) = reading.from v02 p
+openedAs (From v p) = reading.from v p
 openedAs (Faulty number place) = reading.faulty number place
+
+-- the version that a message's root names; the first one where it names none
+abbrev pub versionIn : reading.Opened → Version
+versionIn (reading.from v p) = v
+versionIn (reading.faulty number place) = V02
+
+unfoldable pub versionOf : List ℕ → Version
+versionOf m = versionIn (reading.opened m)

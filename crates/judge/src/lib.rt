@@ -3,6 +3,7 @@ use notes::Met;
 use notes::Notes;
 use notes::State;
 use notes::Step;
+use profile::Version;
 use tags::Look;
 ghost use mathlib.Core.Path.{_≡_};
 ghost use mathlib.Core.Bool.{not};
@@ -10,16 +11,16 @@ ghost use lib.Dec.{eqb};
 ghost use Prim.Native.Nat.{_≤_};
 ghost use lib.ListN.{length};
 ghost use Rattle.tags.specs.Tags.{skipped};
-ghost use Rattle.profile.specs.Version.{v02, versions};
+ghost use Rattle.profile.specs.Version.{versions};
 ghost use Rattle.profile.specs.Limits.{mostBytes};
 ghost use Rattle.reading.specs.Trace.{rooted, opened};
 ghost use Rattle.reading.specs.Judged.{judged};
 ghost use Rattle.reading.specs.Items.{item as itemOf};
 ghost use Rattle.notes.specs.Steps.{stated, stepped, Fine};
-ghost use Rattle.judge.specs.Verdict.{meant, located, openedAs};
+ghost use Rattle.judge.specs.Verdict.{meant, located, openedAs, versionOf};
 ghost use Rattle.judge.specs.Found.{foundAs, denied, found};
 ghost use Rattle.judge.specs.Survey.{surveyedAs, without, surveyed, survey};
-ghost use Rattle.judge.specs.Engine.{Within, throughIn, comparedIn, finishedIn, walkedIn};
+ghost use Rattle.judge.specs.Engine.{Within, rootOr, throughIn, comparedIn, finishedIn, walkedIn};
 
 pub enum Verdict {
     // The count, and the total in cents.
@@ -34,9 +35,9 @@ pub enum Extent {
     NotThere(u8, usize),
 }
 
-// Where reading goes on behind the beginning of a message, or its first fault.
+// The version that a message's root names, and where reading goes on behind its root tag; or its first fault.
 pub enum Opened {
-    From(usize),
+    From(Version, usize),
     Faulty(u8, usize),
 }
 
@@ -54,17 +55,26 @@ pub struct Survey {
     pub starts: [u32; profile::FIELDS],
 }
 
+// Past a version's root tag, which may lie at a place; where it does not, what is given.
+fn root_or(v: Version, m: &[u8], at: usize, other: Opened) -> Opened
+    requires { ⌜ (at ≤ length (now m)) × Within (now m) (openedAs other) ⌝ }
+    ensures { λ r. ⌜ (openedAs r ≡ rootOr v (now (m .entry)) at (openedAs other)) × Within (now (m .entry)) (openedAs r) ⌝ }
+{
+    match profile::root_at(v, &m[at..]) {
+        Look::Whole => Opened::From(v, at + profile::ROOT),
+        Look::Cut => Opened::Faulty(3, m.len()),
+        Look::Other => other,
+    }
+}
+
 // Past white space and the root tag, which is due there.
 fn enter_root(m: &[u8], from: usize) -> Opened
     requires { ⌜ from ≤ length (now m) ⌝ }
     ensures { λ r. ⌜ (openedAs r ≡ rooted versions (now (m .entry)) (skipped (now (m .entry)) from)) × Within (now (m .entry)) (openedAs r) ⌝ }
 {
     let at = from + tags::spaces(&m[from..]);
-    match profile::root_at(&m[at..]) {
-        Look::Whole => Opened::From(at + profile::ROOT),
-        Look::Cut => Opened::Faulty(3, m.len()),
-        Look::Other => Opened::Faulty(2, at),
-    }
+    let newer = root_or(Version::V08, m, at, Opened::Faulty(2, at));
+    root_or(Version::V02, m, at, newer)
 }
 
 // Past the declaration, where there is one, and the root tag.
@@ -87,8 +97,18 @@ fn read_through(m: &[u8]) -> Step
     ensures { λ s. ⌜ (stepped s ≡ throughIn (now (m .entry)) (opened (now (m .entry)))) × Fine (now (m .entry)) 0 (stepped s) ⌝ }
 {
     match open_message(m) {
-        Opened::From(p) => reader::message(m, p),
+        Opened::From(v, p) => reader::message(m, p, v),
         Opened::Faulty(number, place) => State::new(0).refuse(number, place),
+    }
+}
+
+// The version that a message's root names; the first one where it names none.
+pub fn version_of(m: &[u8]) -> Version
+    ensures { λ r. ⌜ r ≡ versionOf (now (m .entry)) ⌝ }
+{
+    match open_message(m) {
+        Opened::From(v, _) => v,
+        Opened::Faulty(_, _) => Version::V02,
     }
 }
 
@@ -215,14 +235,14 @@ fn begin_at(m: &[u8], at: usize) -> usize
     at + tags::spaces(&m[at..])
 }
 
-// Item i of those that stand from a place on.
-fn walk(m: &[u8], i: u64, first: usize) -> Extent
-    ensures { λ r. ⌜ located r ≡ walkedIn i v02 (now (m .entry)) first ⌝ }
+// Item i of those that stand from a place on, read as a version.
+fn walk(v: Version, m: &[u8], i: u64, first: usize) -> Extent
+    ensures { λ r. ⌜ located r ≡ walkedIn i v (now (m .entry)) first ⌝ }
 {
     let mut left = i;
     let mut at = first;
     loop {
-        let r = reader::item(m, at);
+        let r = reader::item(m, at, v);
         let met = r.met;
         let st = r.state;
         match met {
@@ -252,7 +272,7 @@ pub fn item(m: &[u8], i: u64) -> Extent
             if count <= i {
                 return Extent::NotThere(18, 0);
             }
-            walk(m, i, first)
+            walk(version_of(m), m, i, first)
         }
     }
 }

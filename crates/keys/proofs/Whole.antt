@@ -11,7 +11,8 @@ use Rattle.codes.specs.declared.Element.the-variants.{LclInstrm}
 use Rattle.codes.specs.Listed.{orElse, codeGiven}
 use Rattle.profile.specs.declared.Kind.the-variants.{Code}
 use Rattle.profile.specs.declared.Field.the-variants.{MsgId, InstgBic, IntrBkSttlmDt}
-use Rattle.profile.specs.Version.{Version, v02}
+use Rattle.profile.specs.declared.Version.{Version}
+use Rattle.profile.specs.declared.Version.the-variants.{V02, V08}
 use Rattle.profile.specs.Profile.{profile}
 use Rattle.reading.specs.Trace.{Entry, message}
 use Rattle.reading.specs.Noted.{Reading, on, stop, Ended, noted}
@@ -41,15 +42,18 @@ use Rattle.keys.specs.Engine.{keyedAs, serviceText, fieldAt, keyFrom}
 -- ---- the header's values of the key are surely there
 id-sure : (v : Version) → sure MsgId (profile v) ≡ true
 unfolding profile
-id-sure v02 = refl
+id-sure V02 = refl
+id-sure V08 = refl
 
 bic-sure : (v : Version) → sure InstgBic (profile v) ≡ true
 unfolding profile
-bic-sure v02 = refl
+bic-sure V02 = refl
+bic-sure V08 = refl
 
 date-sure : (v : Version) → sure IntrBkSttlmDt (profile v) ≡ true
 unfolding profile
-date-sure v02 = refl
+date-sure V02 = refl
+date-sure V08 = refl
 
 -- ---- the service, by its number
 code-text : (w : List ℕ) (i : ℕ) → codeGiven LclInstrm w ≡ worth i → serviceText (suc i) ≡ w

@@ -21,7 +21,7 @@ use Rattle.money.proofs.Plain.{zeros-number, zeros-every, zeros-twice, plain-co
 use Rattle.profile.specs.declared.Kind.{Kind}
 use Rattle.profile.specs.declared.Kind.the-variants.{Plain, Count, Total, Amount, Code}
 use Rattle.profile.specs.declared.Simple.{Simple}
-use Rattle.profile.specs.declared.Simple.the-variants.{Reference, EndToEnd, Text70, Text140, Date, Time, Bic, Iban, Identifier}
+use Rattle.profile.specs.declared.Simple.the-variants.{Reference, EndToEnd, Text70, Text140, Date, Time, Bic, Bicfi, Iban, Identifier}
 use Rattle.kinds.specs.Given.{simpleGiven, kindGiven}
 use Rattle.kinds.specs.Meant.{simplyMeant, asMeant, SameMeaning}
 
@@ -52,6 +52,7 @@ simply-given Text140 v = text-once Ustrd v
 simply-given Date v = refl
 simply-given Time v = refl
 simply-given Bic v = refl
+simply-given Bicfi v = refl
 simply-given Iban v = refl
 simply-given Identifier v = refl
 
@@ -64,6 +65,7 @@ simply-by P v a b Text140 = b Text140
 simply-by P v a b Date = a Date
 simply-by P v a b Time = a Time
 simply-by P v a b Bic = a Bic
+simply-by P v a b Bicfi = a Bicfi
 simply-by P v a b Iban = a Iban
 simply-by P v a b Identifier = a Identifier
 
@@ -75,6 +77,7 @@ simply-twice Text140 v = collapsed-twice v
 simply-twice Date v = refl
 simply-twice Time v = refl
 simply-twice Bic v = refl
+simply-twice Bicfi v = refl
 simply-twice Iban v = refl
 simply-twice Identifier v = refl
 

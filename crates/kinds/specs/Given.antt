@@ -12,13 +12,13 @@ use Rattle.calendar.specs.Time.{timeGiven}
 use Rattle.money.specs.declared.Range as range
 use Rattle.money.specs.Count.{countGiven}
 use Rattle.money.specs.Amount.{amountGiven}
-use Rattle.accounts.specs.Bic.{bicGiven}
+use Rattle.accounts.specs.Bic.{bicGiven, bicfiGiven}
 use Rattle.accounts.specs.Iban.{ibanGiven}
 use Rattle.accounts.specs.Identifier.{identifierGiven}
 use Rattle.profile.specs.declared.Kind.{Kind}
 use Rattle.profile.specs.declared.Kind.the-variants.{Plain, Count, Total, Amount, Code}
 use Rattle.profile.specs.declared.Simple.{Simple}
-use Rattle.profile.specs.declared.Simple.the-variants.{Reference, EndToEnd, Text70, Text140, Date, Time, Bic, Iban, Identifier}
+use Rattle.profile.specs.declared.Simple.the-variants.{Reference, EndToEnd, Text70, Text140, Date, Time, Bic, Bicfi, Iban, Identifier}
 
 unfoldable pub simpleGiven : Simple → List ℕ → Given
 simpleGiven Reference v = referenceGiven v
@@ -28,6 +28,7 @@ simpleGiven Text140 v = textGiven Ustrd v
 simpleGiven Date v = dateGiven v
 simpleGiven Time v = timeGiven v
 simpleGiven Bic v = bicGiven v
+simpleGiven Bicfi v = bicfiGiven v
 simpleGiven Iban v = ibanGiven v
 simpleGiven Identifier v = identifierGiven v
 

@@ -9,7 +9,7 @@ use Rattle.money.specs.Plain.{withoutZeros, plainAmount}
 use Rattle.profile.specs.declared.Kind.{Kind}
 use Rattle.profile.specs.declared.Kind.the-variants.{Plain, Count, Total, Amount, Code}
 use Rattle.profile.specs.declared.Simple.{Simple}
-use Rattle.profile.specs.declared.Simple.the-variants.{Reference, EndToEnd, Text70, Text140, Date, Time, Bic, Iban, Identifier}
+use Rattle.profile.specs.declared.Simple.the-variants.{Reference, EndToEnd, Text70, Text140, Date, Time, Bic, Bicfi, Iban, Identifier}
 
 -- request 4: "Nm and Ustrd collapse likewise [..]. The record and the plain form hold the collapsed value."
 abbrev pub simplyMeant : Simple → List ℕ → List ℕ
@@ -20,6 +20,7 @@ simplyMeant Text140 v = collapsed v
 simplyMeant Date v = v
 simplyMeant Time v = v
 simplyMeant Bic v = v
+simplyMeant Bicfi v = v
 simplyMeant Iban v = v
 simplyMeant Identifier v = v
 

@@ -20,6 +20,7 @@ fn simple(s: Simple, v: &[u8]) -> Answer
         Simple::Date => calendar::date(v),
         Simple::Time => calendar::time(v),
         Simple::Bic => accounts::bic(v),
+        Simple::Bicfi => accounts::bicfi(v),
         Simple::Iban => accounts::iban(v),
         Simple::Identifier => accounts::creditor_id(v),
     }

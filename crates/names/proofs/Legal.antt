@@ -19,7 +19,7 @@ use Rattle.tags.specs.Values.{inValue}
 use Rattle.profile.specs.declared.Kind.{Kind}
 use Rattle.profile.specs.declared.Kind.the-variants.{Plain, Count, Total, Amount, Code}
 use Rattle.profile.specs.declared.Simple.{Simple}
-use Rattle.profile.specs.declared.Simple.the-variants.{Reference, EndToEnd, Text70, Text140, Date, Time, Bic, Iban, Identifier}
+use Rattle.profile.specs.declared.Simple.the-variants.{Reference, EndToEnd, Text70, Text140, Date, Time, Bic, Bicfi, Iban, Identifier}
 use Rattle.profile.specs.Kinds.{sameKind}
 use Rattle.kinds.specs.Given.{simpleGiven, kindGiven}
 use Rattle.reading.proofs.Flat.{never}
@@ -41,7 +41,7 @@ legal-tagless = text-every inValue in-value
 
 -- ---- the kind of such a text
 abbrev simples : List Simple
-simples = Reference ∷ Text70 ∷ Text140 ∷ Date ∷ Time ∷ Bic ∷ Iban ∷ Identifier ∷ EndToEnd ∷ []
+simples = Reference ∷ Text70 ∷ Text140 ∷ Date ∷ Time ∷ Bic ∷ Iban ∷ Identifier ∷ EndToEnd ∷ Bicfi ∷ []
 
 abbrev number : Simple → ℕ
 number Reference = 0
@@ -53,6 +53,7 @@ number Bic = 5
 number Iban = 6
 number Identifier = 7
 number EndToEnd = 8
+number Bicfi = 9
 
 numbered : (s : Simple) → getD simples (number s) Reference ≡ s
 numbered Reference = refl
@@ -64,6 +65,7 @@ numbered Bic = refl
 numbered Iban = refl
 numbered Identifier = refl
 numbered EndToEnd = refl
+numbered Bicfi = refl
 
 abbrev simpleOf : Field → Simple
 simpleOf Nm = Text70

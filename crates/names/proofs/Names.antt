@@ -19,7 +19,8 @@ use Rattle.tags.proofs.Looks.{look-text, exactly-length}
 use Rattle.profile.specs.declared.Kind.{Kind}
 use Rattle.profile.specs.declared.Kind.the-variants.{Plain, Count, Total, Amount, Code}
 use Rattle.profile.specs.declared.Field.{Field}
-use Rattle.profile.specs.Version.{Version, v02}
+use Rattle.profile.specs.declared.Version.{Version}
+use Rattle.profile.specs.declared.Version.the-variants.{V02, V08}
 use Rattle.profile.specs.Profile.{profile}
 use Rattle.profile.specs.declared.Simple.the-variants.{Text70}
 use Rattle.profile.specs.Kinds.{sameKind}
@@ -50,8 +51,10 @@ opening-clear text.the-variants.Ustrd = refl
 
 profile-apart : (f : text.Field) (u : Version) → apart false (tagName f) (fit f) false (profile u) ≡ true
 unfolding profile clear sameTag capital among
-profile-apart text.the-variants.Nm v02 = refl
-profile-apart text.the-variants.Ustrd v02 = refl
+profile-apart text.the-variants.Nm V02 = refl
+profile-apart text.the-variants.Nm V08 = refl
+profile-apart text.the-variants.Ustrd V02 = refl
+profile-apart text.the-variants.Ustrd V08 = refl
 
 -- a field (Nm or Ustrd) with any bytes x before its element and any bytes y behind it, and two legal values v and w of equal length
 module _ (f : text.Field) (x v w y : List ℕ) (legal : textGiven f v ≡ yes) (legal′ : textGiven f w ≡ yes) (long : length v ≡ length w) where

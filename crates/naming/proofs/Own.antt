@@ -1,6 +1,6 @@
 -- The key of an accepted bulk is made of its document's own four values, and two bulks of one key have the same four.
 use mathlib.Core.Path.{_≡_, refl, sym, ap, _∙_}
-use mathlib.Core.Bool.{true}
+use mathlib.Core.Bool.{Bool, true}
 use mathlib.Core.List.{List, [], _∷_}
 use Prim.Native.Nat.{ℕ, _≤_}
 use native.Mathlib.Omega.{arith}
@@ -11,12 +11,14 @@ use Rattle.codes.specs.declared.Element.the-variants.{LclInstrm}
 use Rattle.profile.specs.declared.Kind.{Kind}
 use Rattle.profile.specs.declared.Kind.the-variants.{Code}
 use Rattle.profile.specs.declared.Simple.{Simple}
-use Rattle.profile.specs.declared.Simple.the-variants.{Reference, Date, Bic}
+use Rattle.profile.specs.declared.Simple.the-variants.{Reference, Date, Bic, Bicfi}
 use Rattle.profile.specs.declared.Field.{Field}
 use Rattle.profile.specs.declared.Field.the-variants.{MsgId, InstgBic, IntrBkSttlmDt, TxId}
 use Rattle.profile.specs.Kinds.{sameKind}
-use Rattle.profile.specs.Version.{Version, v02}
+use Rattle.profile.specs.declared.Version.{Version}
+use Rattle.profile.specs.declared.Version.the-variants.{V02, V08}
 use Rattle.profile.specs.Profile.{isType, profile}
+use Rattle.kinds.specs.Given.{kindGiven}
 use Rattle.reading.specs.Trace.{What, Entry, trace, message}
 use Rattle.reading.specs.Noted.{Ended, on, noted}
 use Rattle.reading.specs.Verdict.{accepted}
@@ -27,7 +29,7 @@ use Rattle.reading.proofs.Flat.{flat, goes-flat, goes-whole}
 use Rattle.documents.specs.Document.{Doc, Proper, Each}
 use Rattle.documents.specs.Said.{said}
 use Rattle.documents.specs.Message.{Message, whole, Lawful}
-use Rattle.documents.specs.Holds.{Alike, TypeStands, inHeader, inItems, Holds}
+use Rattle.documents.specs.Holds.{Passes, Alike, TypeStands, inHeader, inItems, Holds}
 use Rattle.documents.proofs.Often.{fixed, times, even, balance, as-often, anyItem, aField, weight-items, weight-kind, weight-field}
 use Rattle.documents.proofs.Typed.{InType, once-above, once-each}
 use Rattle.documents.proofs.Lists.{lone}
@@ -39,38 +41,44 @@ use Rattle.items.specs.Chain.{Itemized}
 use Rattle.items.proofs.Parts.{surely}
 use Rattle.items.proofs.Accepted.{accepted-chained}
 use Rattle.padding.proofs.Padded.{padded-one, first-field}
-use Rattle.padding.proofs.Legal.{Written, aStranger, each-legal, each-of, service-fits, aPlain, Fits, plain-fits}
+use Rattle.padding.proofs.Legal.{Written, aStranger, each-legal, each-of, service-fits, aPlain, Fits, plain-fits, aBic, bic-fits}
 use Rattle.naming.specs.Key.{keyWith, keyOf, readIn, keyed}
 use Rattle.naming.specs.Own.{Four, keyFor, Names, Named}
 
 -- ---- each stands once in the header, and is of its kind
 pub id-once : (v : Version) → OnceAt MsgId (profile v)
 unfolding profile
-id-once v02 = record { fixed = refl; once = refl }
+id-once V02 = record { fixed = refl; once = refl }
+id-once V08 = record { fixed = refl; once = refl }
 
 pub bic-once : (v : Version) → OnceAt InstgBic (profile v)
 unfolding profile
-bic-once v02 = record { fixed = refl; once = refl }
+bic-once V02 = record { fixed = refl; once = refl }
+bic-once V08 = record { fixed = refl; once = refl }
 
 pub date-once : (v : Version) → OnceAt IntrBkSttlmDt (profile v)
 unfolding profile
-date-once v02 = record { fixed = refl; once = refl }
+date-once V02 = record { fixed = refl; once = refl }
+date-once V08 = record { fixed = refl; once = refl }
 
-pub record KindAt (h : Field) (s : Simple) (v : Version) : Type 0 where
-  pub fixed : fixed (aStranger h (aPlain s)) (profile v) ≡ true
-  pub none : times (aStranger h (aPlain s)) (profile v) ≡ 0
+pub record KindAt (h : Field) (t : Kind → Bool) (v : Version) : Type 0 where
+  pub fixed : fixed (aStranger h t) (profile v) ≡ true
+  pub none : times (aStranger h t) (profile v) ≡ 0
 
-pub id-kind : (v : Version) → KindAt MsgId Reference v
+pub id-kind : (v : Version) → KindAt MsgId (aPlain Reference) v
 unfolding profile
-id-kind v02 = record { fixed = refl; none = refl }
+id-kind V02 = record { fixed = refl; none = refl }
+id-kind V08 = record { fixed = refl; none = refl }
 
-pub bic-kind : (v : Version) → KindAt InstgBic Bic v
+pub bic-kind : (v : Version) → KindAt InstgBic aBic v
 unfolding profile
-bic-kind v02 = record { fixed = refl; none = refl }
+bic-kind V02 = record { fixed = refl; none = refl }
+bic-kind V08 = record { fixed = refl; none = refl }
 
-pub date-kind : (v : Version) → KindAt IntrBkSttlmDt Date v
+pub date-kind : (v : Version) → KindAt IntrBkSttlmDt (aPlain Date) v
 unfolding profile
-date-kind v02 = record { fixed = refl; none = refl }
+date-kind V02 = record { fixed = refl; none = refl }
+date-kind V08 = record { fixed = refl; none = refl }
 
 -- ---- there is a LclInstrm: one in each payment type
 abbrev aService : Kind → Field → ℕ
@@ -79,11 +87,13 @@ aService k f = pick (sameKind k (Code LclInstrm)) 1 0
 -- a TxId in every item, and some item
 item-there : (v : Version) → (sure TxId (profile v) ≡ true) × (even (aField TxId) anyItem (profile v) ≡ true) × (times (aField TxId) (profile v) ≡ times anyItem (profile v))
 unfolding profile isType
-item-there v02 = (refl, refl, refl)
+item-there V02 = (refl, refl, refl)
+item-there V08 = (refl, refl, refl)
 
 service-typed : (v : Version) → InType aService v
 unfolding profile isType
-service-typed v02 = record { level = refl; twice = refl; item = refl }
+service-typed V02 = record { level = refl; twice = refl; item = refl }
+service-typed V08 = record { level = refl; twice = refl; item = refl }
 
 -- ---- the four of an accepted message
 one-of : (l : List (List ℕ)) → length l ≡ 1 → l ≡ lastOf [] l ∷ []
@@ -173,9 +183,10 @@ module _ (m : List ℕ) (n c : ℕ) (e : judged m ≡ accepted n c) where
       }
 
   -- what each of them is
-  held-at : (h : Field) (s : Simple) → KindAt h s (doc .version) → OnceAt h (profile (doc .version)) → Fits s (lastOf [] (valuesAt h ws))
-  held-at h s k o =
-      let l = each-legal h (aPlain s) (Fits s) (plain-fits s) ws (as-often (aStranger h (aPlain s)) (profile (doc .version)) (k .fixed) (doc .document .inside) proper ∙ k .none) (holds .kinds) in
+  held-at : (h : Field) (t : Kind → Bool) (P : List ℕ → Type 0) → ((k : Kind) (v : List ℕ) → t k ≡ true → Passes (kindGiven k v) → P v)
+      → KindAt h t (doc .version) → OnceAt h (profile (doc .version)) → P (lastOf [] (valuesAt h ws))
+  held-at h t P g k o =
+      let l = each-legal h t P g ws (as-often (aStranger h t) (profile (doc .version)) (k .fixed) (doc .document .inside) proper ∙ k .none) (holds .kinds) in
       (rw (one-of (valuesAt h ws) (one-at (doc .document .inside) proper h o)) at l) .0
 
   pub record FourHeld (f : Four) : Type 0 where
@@ -190,9 +201,9 @@ module _ (m : List ℕ) (n c : ℕ) (e : judged m ≡ accepted n c) where
       let s = headed (valuesOf (Code LclInstrm) ws) service-there (holds .alike) in
       record {
         service = (rw (s .is) at (each-of (Code LclInstrm) (Written 4) service-fits ws (holds .kinds))) .0;
-        id = held-at MsgId Reference (id-kind (doc .version)) (id-once (doc .version));
-        bic = held-at InstgBic Bic (bic-kind (doc .version)) (bic-once (doc .version));
-        date = held-at IntrBkSttlmDt Date (date-kind (doc .version)) (date-once (doc .version));
+        id = held-at MsgId (aPlain Reference) (Fits Reference) (plain-fits Reference) (id-kind (doc .version)) (id-once (doc .version));
+        bic = held-at InstgBic aBic (Written 11) bic-fits (bic-kind (doc .version)) (bic-once (doc .version));
+        date = held-at IntrBkSttlmDt (aPlain Date) (Fits Date) (plain-fits Date) (date-kind (doc .version)) (date-once (doc .version));
       }
 
 -- ---- four values that their fields hold are told from the key

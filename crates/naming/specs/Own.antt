@@ -5,7 +5,7 @@ use mathlib.Core.List.{List, [], _∷_}
 use Rattle.codes.specs.declared.Element as code
 use Rattle.profile.specs.declared.Kind.the-variants.{Code}
 use Rattle.profile.specs.declared.Field.the-variants.{MsgId, InstgBic, IntrBkSttlmDt}
-use Rattle.profile.specs.Version.{Version}
+use Rattle.profile.specs.declared.Version.{Version}
 use Rattle.profile.specs.Profile.{profile}
 use Rattle.reading.specs.Trace.{What}
 use Rattle.reading.specs.Rules.{valuesOf, valuesAt}

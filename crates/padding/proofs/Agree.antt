@@ -13,10 +13,11 @@ use Rattle.words.specs.Collapsed.{collapsed}
 use Rattle.profile.specs.declared.Kind.{Kind}
 use Rattle.profile.specs.declared.Kind.the-variants.{Amount}
 use Rattle.profile.specs.declared.Simple.{Simple}
-use Rattle.profile.specs.declared.Simple.the-variants.{Reference, EndToEnd, Date, Bic, Iban, Identifier}
+use Rattle.profile.specs.declared.Simple.the-variants.{Reference, EndToEnd, Date, Bic, Bicfi, Iban, Identifier}
 use Rattle.profile.specs.declared.Field.{Field}
 use Rattle.profile.specs.declared.Field.the-variants.{TxId, EndToEndId, MndtId, DbtrIban, CdtrIban, DbtrBic, ReqdColltnDt, SeqTp, CdtrId, CdtrBic, InstrId, LclInstrm, DtOfSgntr}
-use Rattle.profile.specs.Version.{Version, v02}
+use Rattle.profile.specs.declared.Version.{Version}
+use Rattle.profile.specs.declared.Version.the-variants.{V02, V08}
 use Rattle.profile.specs.Profile.{inHeader, inItem}
 use Rattle.kinds.specs.Given.{kindGiven}
 use Rattle.reading.specs.Trace.{What}
@@ -28,7 +29,7 @@ use Rattle.documents.specs.Holds.{Passes}
 use Rattle.bulks.proofs.Typed.{InEach, instrument, sequence}
 use Rattle.padding.specs.Agree.{AcceptedItem, says, Same, asRead, SameIfAny, absent, present, Agree}
 use Rattle.padding.proofs.Padded.{padded-one, same-ends, last-field, digits-one}
-use Rattle.padding.proofs.Legal.{Written, aPlain, Fits, plain-fits, aCode, code-fits}
+use Rattle.padding.proofs.Legal.{Written, aPlain, Fits, plain-fits, aBic, bic-fits, aCode, code-fits}
 use Rattle.padding.proofs.Values.{Sorted, Own, version, One, OneOrNone, none, some, own-one, wherever-one, instruction-or-none, amount-one}
 
 -- ---- the tree gives each recorded field its kind, and its place: the item, or the payment type
@@ -38,55 +39,68 @@ pub record Placed (t : Kind → Bool) (f : Field) (v : Version) : Type 0 where
 
 tx-id : (v : Version) → Placed (aPlain Reference) TxId v
 unfolding inHeader inItem
-tx-id v02 = record { own = record { above = (refl, refl); once = record { fixed = refl; once = refl } }; sorted = record { header = (refl, refl); item = (refl, refl) } }
+tx-id V02 = record { own = record { above = (refl, refl); once = record { fixed = refl; once = refl } }; sorted = record { header = (refl, refl); item = (refl, refl) } }
+tx-id V08 = record { own = record { above = (refl, refl); once = record { fixed = refl; once = refl } }; sorted = record { header = (refl, refl); item = (refl, refl) } }
 
 end-to-end : (v : Version) → Placed (aPlain EndToEnd) EndToEndId v
 unfolding inHeader inItem
-end-to-end v02 = record { own = record { above = (refl, refl); once = record { fixed = refl; once = refl } }; sorted = record { header = (refl, refl); item = (refl, refl) } }
+end-to-end V02 = record { own = record { above = (refl, refl); once = record { fixed = refl; once = refl } }; sorted = record { header = (refl, refl); item = (refl, refl) } }
+end-to-end V08 = record { own = record { above = (refl, refl); once = record { fixed = refl; once = refl } }; sorted = record { header = (refl, refl); item = (refl, refl) } }
 
 mandate : (v : Version) → Placed (aPlain Reference) MndtId v
 unfolding inHeader inItem
-mandate v02 = record { own = record { above = (refl, refl); once = record { fixed = refl; once = refl } }; sorted = record { header = (refl, refl); item = (refl, refl) } }
+mandate V02 = record { own = record { above = (refl, refl); once = record { fixed = refl; once = refl } }; sorted = record { header = (refl, refl); item = (refl, refl) } }
+mandate V08 = record { own = record { above = (refl, refl); once = record { fixed = refl; once = refl } }; sorted = record { header = (refl, refl); item = (refl, refl) } }
 
 debtor-iban : (v : Version) → Placed (aPlain Iban) DbtrIban v
 unfolding inHeader inItem
-debtor-iban v02 = record { own = record { above = (refl, refl); once = record { fixed = refl; once = refl } }; sorted = record { header = (refl, refl); item = (refl, refl) } }
+debtor-iban V02 = record { own = record { above = (refl, refl); once = record { fixed = refl; once = refl } }; sorted = record { header = (refl, refl); item = (refl, refl) } }
+debtor-iban V08 = record { own = record { above = (refl, refl); once = record { fixed = refl; once = refl } }; sorted = record { header = (refl, refl); item = (refl, refl) } }
 
 creditor-iban : (v : Version) → Placed (aPlain Iban) CdtrIban v
 unfolding inHeader inItem
-creditor-iban v02 = record { own = record { above = (refl, refl); once = record { fixed = refl; once = refl } }; sorted = record { header = (refl, refl); item = (refl, refl) } }
+creditor-iban V02 = record { own = record { above = (refl, refl); once = record { fixed = refl; once = refl } }; sorted = record { header = (refl, refl); item = (refl, refl) } }
+creditor-iban V08 = record { own = record { above = (refl, refl); once = record { fixed = refl; once = refl } }; sorted = record { header = (refl, refl); item = (refl, refl) } }
 
-debtor-bic : (v : Version) → Placed (aPlain Bic) DbtrBic v
+debtor-bic : (v : Version) → Placed aBic DbtrBic v
 unfolding inHeader inItem
-debtor-bic v02 = record { own = record { above = (refl, refl); once = record { fixed = refl; once = refl } }; sorted = record { header = (refl, refl); item = (refl, refl) } }
+debtor-bic V02 = record { own = record { above = (refl, refl); once = record { fixed = refl; once = refl } }; sorted = record { header = (refl, refl); item = (refl, refl) } }
+debtor-bic V08 = record { own = record { above = (refl, refl); once = record { fixed = refl; once = refl } }; sorted = record { header = (refl, refl); item = (refl, refl) } }
 
 collection : (v : Version) → Placed (aPlain Date) ReqdColltnDt v
 unfolding inHeader inItem
-collection v02 = record { own = record { above = (refl, refl); once = record { fixed = refl; once = refl } }; sorted = record { header = (refl, refl); item = (refl, refl) } }
+collection V02 = record { own = record { above = (refl, refl); once = record { fixed = refl; once = refl } }; sorted = record { header = (refl, refl); item = (refl, refl) } }
+collection V08 = record { own = record { above = (refl, refl); once = record { fixed = refl; once = refl } }; sorted = record { header = (refl, refl); item = (refl, refl) } }
 
 creditor : (v : Version) → Placed (aPlain Identifier) CdtrId v
 unfolding inHeader inItem
-creditor v02 = record { own = record { above = (refl, refl); once = record { fixed = refl; once = refl } }; sorted = record { header = (refl, refl); item = (refl, refl) } }
+creditor V02 = record { own = record { above = (refl, refl); once = record { fixed = refl; once = refl } }; sorted = record { header = (refl, refl); item = (refl, refl) } }
+creditor V08 = record { own = record { above = (refl, refl); once = record { fixed = refl; once = refl } }; sorted = record { header = (refl, refl); item = (refl, refl) } }
 
-creditor-bic : (v : Version) → Placed (aPlain Bic) CdtrBic v
+creditor-bic : (v : Version) → Placed aBic CdtrBic v
 unfolding inHeader inItem
-creditor-bic v02 = record { own = record { above = (refl, refl); once = record { fixed = refl; once = refl } }; sorted = record { header = (refl, refl); item = (refl, refl) } }
+creditor-bic V02 = record { own = record { above = (refl, refl); once = record { fixed = refl; once = refl } }; sorted = record { header = (refl, refl); item = (refl, refl) } }
+creditor-bic V08 = record { own = record { above = (refl, refl); once = record { fixed = refl; once = refl } }; sorted = record { header = (refl, refl); item = (refl, refl) } }
 
 signature : (v : Version) → Placed (aPlain Date) DtOfSgntr v
 unfolding inHeader inItem
-signature v02 = record { own = record { above = (refl, refl); once = record { fixed = refl; once = refl } }; sorted = record { header = (refl, refl); item = (refl, refl) } }
+signature V02 = record { own = record { above = (refl, refl); once = record { fixed = refl; once = refl } }; sorted = record { header = (refl, refl); item = (refl, refl) } }
+signature V08 = record { own = record { above = (refl, refl); once = record { fixed = refl; once = refl } }; sorted = record { header = (refl, refl); item = (refl, refl) } }
 
 sequence-kind : (v : Version) → Sorted aCode SeqTp v
 unfolding inHeader inItem
-sequence-kind v02 = record { header = (refl, refl); item = (refl, refl) }
+sequence-kind V02 = record { header = (refl, refl); item = (refl, refl) }
+sequence-kind V08 = record { header = (refl, refl); item = (refl, refl) }
 
 instrument-kind : (v : Version) → Sorted aCode LclInstrm v
 unfolding inHeader inItem
-instrument-kind v02 = record { header = (refl, refl); item = (refl, refl) }
+instrument-kind V02 = record { header = (refl, refl); item = (refl, refl) }
+instrument-kind V08 = record { header = (refl, refl); item = (refl, refl) }
 
 instruction-kind : (v : Version) → Sorted (aPlain Reference) InstrId v
 unfolding inHeader inItem
-instruction-kind v02 = record { header = (refl, refl); item = (refl, refl) }
+instruction-kind V02 = record { header = (refl, refl); item = (refl, refl) }
+instruction-kind V08 = record { header = (refl, refl); item = (refl, refl) }
 
 -- ---- two values told by their fields
 module _ (n : ℕ) (a b : List (List ℕ)) where
@@ -128,13 +142,16 @@ module _ {m k : List ℕ} (x : AcceptedItem m) (y : AcceptedItem k) where
   abbrev b : List What
   b = says y
 
-  own : (s : Simple) (n : ℕ) (h : List ℕ → List ℕ) → ((v : List ℕ) → Fits s v → Written n (h v)) → (f : Field) → ((v : Version) → Placed (aPlain s) f v)
-      → padded n (h (valueFor a f)) ≡ padded n (h (valueFor b f)) → Same h (valuesAt f a) (valuesAt f b)
-  own s n h g f p =
+  own-by : (t : Kind → Bool) (n : ℕ) (h : List ℕ → List ℕ) → ((j : Kind) (v : List ℕ) → t j ≡ true → Passes (kindGiven j v) → Written n (h v)) → (f : Field)
+      → ((v : Version) → Placed t f v) → padded n (h (valueFor a f)) ≡ padded n (h (valueFor b f)) → Same h (valuesAt f a) (valuesAt f b)
+  own-by t n h fits f p =
       let u = p (version x) in
       let w = p (version y) in
-      let fits : (j : Kind) (v : List ℕ) → aPlain s j ≡ true → Passes (kindGiven j v) → Written n (h v) = λ j v e q. g v (plain-fits s j v e q) in
-      same-padded n (valuesAt f a) (valuesAt f b) h (own-one x (aPlain s) (λ v. Written n (h v)) fits f (u .own) (u .sorted)) (own-one y (aPlain s) (λ v. Written n (h v)) fits f (w .own) (w .sorted))
+      same-padded n (valuesAt f a) (valuesAt f b) h (own-one x t (λ v. Written n (h v)) fits f (u .own) (u .sorted)) (own-one y t (λ v. Written n (h v)) fits f (w .own) (w .sorted))
+
+  own : (s : Simple) (n : ℕ) (h : List ℕ → List ℕ) → ((v : List ℕ) → Fits s v → Written n (h v)) → (f : Field) → ((v : Version) → Placed (aPlain s) f v)
+      → padded n (h (valueFor a f)) ≡ padded n (h (valueFor b f)) → Same h (valuesAt f a) (valuesAt f b)
+  own s n h g = own-by (aPlain s) n h (λ j v e q. g v (plain-fits s j v e q))
 
   typed : (f : Field) → InEach f → ((v : Version) → Sorted aCode f v) → padded 4 (valueFor a f) ≡ padded 4 (valueFor b f) → Same asRead (valuesAt f a) (valuesAt f b)
   typed f i s =
@@ -164,12 +181,12 @@ module _ {m k : List ℕ} (x : AcceptedItem m) (y : AcceptedItem k) where
         mndtId = own Reference 35 asRead (λ v h. h) MndtId mandate (mandated .1);
         dbtrIban = own Iban 34 asRead (λ v h. h) DbtrIban debtor-iban (debtorIban .1);
         cdtrIban = own Iban 34 asRead (λ v h. h) CdtrIban creditor-iban (creditorIban .1);
-        dbtrBic = own Bic 11 asRead (λ v h. h) DbtrBic debtor-bic (debtorBic .1);
+        dbtrBic = own-by aBic 11 asRead bic-fits DbtrBic debtor-bic (debtorBic .1);
         amount = same-cents (valuesOf Amount a) (valuesOf Amount b) (amount-one x) (amount-one y) (counted .1);
         reqdColltnDt = own Date 10 asRead (λ v h. h) ReqdColltnDt collection (collected .1);
         seqTp = typed SeqTp sequence sequence-kind (sequenced .1);
         cdtrId = own Identifier 35 asRead (λ v h. h) CdtrId creditor (creditorId .1);
-        cdtrBic = own Bic 11 asRead (λ v h. h) CdtrBic creditor-bic (creditorBic .1);
+        cdtrBic = own-by aBic 11 asRead bic-fits CdtrBic creditor-bic (creditorBic .1);
         instrId =
             same-if-any 35 (valuesAt InstrId a) (valuesAt InstrId b) (instruction-or-none x (aPlain Reference) (Written 35) (plain-fits Reference) (instruction-kind (version x)))
             (instruction-or-none y (aPlain Reference) (Written 35) (plain-fits Reference) (instruction-kind (version y))) (instructed .1);

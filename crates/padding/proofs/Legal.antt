@@ -10,7 +10,7 @@ use borrow.Author.Tests.{ne-eqb, eqb-true}
 use lib.Dec.{eqb}
 use lib.ListN.{length, drop, getD, length-drop}
 use lib.Seq.{getD-drop}
-use Rattle.text.specs.Truth.{pick, between, every, paired, last}
+use Rattle.text.specs.Truth.{either, pick, between, every, paired, last}
 use Rattle.text.specs.Quoted.{bytes, byte, is, among}
 use Rattle.text.specs.Classes.{digit, capitalOrDigit, referenceSet}
 use Rattle.text.proofs.Truths.{never, either-true, between-true, passes}
@@ -29,13 +29,13 @@ use Rattle.calendar.specs.Date.{dateForm, dateGiven}
 use Rattle.money.specs.declared.Range.the-variants.{Item}
 use Rattle.money.specs.Amount.{amountForm, cents, most, amountGiven}
 use Rattle.check97.specs.Check.{ibanChecked, identifierChecked}
-use Rattle.accounts.specs.Bic.{bicForm, bicGiven}
+use Rattle.accounts.specs.Bic.{bicForm, bicGiven, bicfiForm, bicfiGiven}
 use Rattle.accounts.specs.Iban.{ibanForm, ibanLength, ibanGiven}
 use Rattle.accounts.specs.Identifier.{identifierForm, identifierGiven}
 use Rattle.profile.specs.declared.Kind.{Kind}
 use Rattle.profile.specs.declared.Kind.the-variants.{Plain, Count, Total, Amount, Code}
 use Rattle.profile.specs.declared.Simple.{Simple}
-use Rattle.profile.specs.declared.Simple.the-variants.{Reference, EndToEnd, Text70, Text140, Date, Time, Bic, Iban, Identifier}
+use Rattle.profile.specs.declared.Simple.the-variants.{Reference, EndToEnd, Text70, Text140, Date, Time, Bic, Bicfi, Iban, Identifier}
 use Rattle.profile.specs.declared.Field.{Field}
 use Rattle.profile.specs.Fields.{sameField}
 use Rattle.profile.specs.Kinds.{sameKind}
@@ -106,6 +106,19 @@ bic-written v h =
     go (inr e) a b =
         let n = eqb-true (length v) 11 e in
         (omega (arith, n), (omega (arith, n), behind-solid capitalOrDigit refl 8 v (omega (arith, n)) b))
+
+bicfi-written : (v : List ℕ) → Passes (bicfiGiven v) → Written 11 v
+unfolding bicfiGiven bicfiForm capitalOrDigit among
+bicfi-written v h =
+    let p = passes _ (passed (bicfiForm v else 7) [] yes h .0) in
+    go (either-true (eqb (length v) 8) (eqb (length v) 11) (p 0)) (p 3)
+  where
+    long : 8 ≤ length v → length v ≤ 11 → every capitalOrDigit (drop 6 v) ≡ true → Written 11 v
+    long n m b = (omega (arith, n), (m, behind-solid capitalOrDigit refl 6 v (omega (arith, n)) b))
+
+    go : (eqb (length v) 8 ≡ true) ⊎ (eqb (length v) 11 ≡ true) → every capitalOrDigit (drop 6 v) ≡ true → Written 11 v
+    go (inl e) b = long (omega (arith, eqb-true (length v) 8 e)) (omega (arith, eqb-true (length v) 8 e)) b
+    go (inr e) b = long (omega (arith, eqb-true (length v) 11 e)) (omega (arith, eqb-true (length v) 11 e)) b
 
 iban-written : (v : List ℕ) → Passes (ibanGiven v) → Written 34 v
 unfolding ibanGiven ibanForm capitalOrDigit among
@@ -237,6 +250,7 @@ number Bic = 5
 number Iban = 6
 number Identifier = 7
 number EndToEnd = 8
+number Bicfi = 9
 
 abbrev simple : ℕ → Simple
 simple zero = Reference
@@ -247,7 +261,8 @@ simple (suc (suc (suc (suc zero)))) = Time
 simple (suc (suc (suc (suc (suc zero))))) = Bic
 simple (suc (suc (suc (suc (suc (suc zero)))))) = Iban
 simple (suc (suc (suc (suc (suc (suc (suc zero))))))) = Identifier
-simple (suc (suc (suc (suc (suc (suc (suc (suc n)))))))) = EndToEnd
+simple (suc (suc (suc (suc (suc (suc (suc (suc zero)))))))) = EndToEnd
+simple (suc (suc (suc (suc (suc (suc (suc (suc (suc n))))))))) = Bicfi
 
 back : (s : Simple) → simple (number s) ≡ s
 back Reference = refl
@@ -259,6 +274,7 @@ back Bic = refl
 back Iban = refl
 back Identifier = refl
 back EndToEnd = refl
+back Bicfi = refl
 
 abbrev pub aPlain : Simple → Kind → Bool
 aPlain s (Plain j) = eqb (number j) (number s)
@@ -276,6 +292,7 @@ Fits Text140 v = Unit {0}
 Fits Date v = Written 10 v
 Fits Time v = Unit {0}
 Fits Bic v = Written 11 v
+Fits Bicfi v = Written 11 v
 Fits Iban v = Written 34 v
 Fits Identifier v = Written 35 v
 
@@ -288,6 +305,7 @@ fits Text140 v h = tt
 fits Date v h = date-written v h
 fits Time v h = tt
 fits Bic v h = bic-written v h
+fits Bicfi v h = bicfi-written v h
 fits Iban v h = iban-written v h
 fits Identifier v h = identifier-written v h
 
@@ -299,3 +317,14 @@ plain-fits s Count v e h = never (cc)
 plain-fits s Total v e h = never (cc)
 plain-fits s Amount v e h = never (cc)
 plain-fits s (Code c) v e h = never (cc)
+
+-- a BIC of either form
+abbrev pub aBic : Kind → Bool
+aBic k = either (aPlain Bic k) (aPlain Bicfi k)
+
+pub bic-fits : (k : Kind) (v : List ℕ) → aBic k ≡ true → Passes (kindGiven k v) → Written 11 v
+bic-fits k v e h = go (either-true (aPlain Bic k) (aPlain Bicfi k) e)
+  where
+    go : (aPlain Bic k ≡ true) ⊎ (aPlain Bicfi k ≡ true) → Written 11 v
+    go (inl i) = plain-fits Bic k v i h
+    go (inr i) = plain-fits Bicfi k v i h

@@ -14,7 +14,8 @@ use Rattle.profile.specs.declared.Kind.{Kind}
 use Rattle.profile.specs.declared.Kind.the-variants.{Amount}
 use Rattle.profile.specs.declared.Field.{Field}
 use Rattle.profile.specs.declared.Field.the-variants.{InstrId}
-use Rattle.profile.specs.Version.{Version, v02}
+use Rattle.profile.specs.declared.Version.{Version}
+use Rattle.profile.specs.declared.Version.the-variants.{V02, V08}
 use Rattle.profile.specs.Tree.{Shape}
 use Rattle.profile.specs.Profile.{inHeader, inItem}
 use Rattle.kinds.specs.Given.{kindGiven}
@@ -53,7 +54,8 @@ pub record Own (f : Field) (v : Version) : Type 0 where
 
 amount-below : (v : Version) → None (aKind Amount) (inHeader v)
 unfolding inHeader
-amount-below v02 = (refl, refl)
+amount-below V02 = (refl, refl)
+amount-below V08 = (refl, refl)
 
 -- ---- InstrId: it stands, or is said to be absent, once
 abbrev orLeftOut : Weighing
@@ -61,11 +63,13 @@ orLeftOut = record { byField = λ k f. aField InstrId .byField k f; anItem = 0; 
 
 instruction-once : (v : Version) → (fixed orLeftOut (inItem v) ≡ true) × (times orLeftOut (inItem v) ≡ 1)
 unfolding inItem
-instruction-once v02 = (refl, refl)
+instruction-once V02 = (refl, refl)
+instruction-once V08 = (refl, refl)
 
 instruction-above : (v : Version) → None (aField InstrId) (inHeader v)
 unfolding inHeader
-instruction-above v02 = (refl, refl)
+instruction-above V02 = (refl, refl)
+instruction-above V08 = (refl, refl)
 
 weighs-more : (ws : List What) → weight (aField InstrId) ws ≤ weight orLeftOut ws
 weighs-more [] = omega arith

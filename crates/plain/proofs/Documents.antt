@@ -18,10 +18,12 @@ use Rattle.tags.specs.Values.{inValue}
 use Rattle.profile.specs.declared.Kind.{Kind}
 use Rattle.profile.specs.declared.Kind.the-variants.{Plain, Count, Total, Amount, Code}
 use Rattle.profile.specs.Kinds.{isAmount}
-use Rattle.profile.specs.Version.{Version, v02, root}
+use Rattle.profile.specs.declared.Version.{Version}
+use Rattle.profile.specs.declared.Version.the-variants.{V02, V08}
+use Rattle.profile.specs.Version.{root}
 use Rattle.profile.specs.Tree.{Occ, once, optional, many, more, Shape, end, leaf, group}
 use Rattle.profile.specs.declared.Simple.{Simple}
-use Rattle.profile.specs.declared.Simple.the-variants.{Reference, EndToEnd, Text70, Text140, Date, Time, Bic, Iban, Identifier}
+use Rattle.profile.specs.declared.Simple.the-variants.{Reference, EndToEnd, Text70, Text140, Date, Time, Bic, Bicfi, Iban, Identifier}
 use Rattle.profile.specs.Profile.{wordsTag, profile}
 use Rattle.kinds.specs.Meant.{simplyMeant, asMeant}
 use Rattle.documents.specs.Document.{Led, Doc, opening, ledText, texts, text, Often, Each, White, Tagless, LedBy, Proper}
@@ -158,6 +160,7 @@ spellingSimply Text140 = Collapsed
 spellingSimply Date = AsRead
 spellingSimply Time = AsRead
 spellingSimply Bic = AsRead
+spellingSimply Bicfi = AsRead
 spellingSimply Iban = AsRead
 spellingSimply Identifier = AsRead
 
@@ -176,6 +179,7 @@ spelled-simply Text140 v = refl
 spelled-simply Date v = refl
 spelled-simply Time v = refl
 spelled-simply Bic v = refl
+spelled-simply Bicfi v = refl
 spelled-simply Iban v = refl
 spelled-simply Identifier v = refl
 
@@ -244,7 +248,8 @@ written (group o n inner rest) = both (named n) (both (begins inner) (both (writ
 
 profile-written : (v : Version) → both (begins (profile v)) (written (profile v)) ≡ true
 unfolding profile spellingBy closes quoted wordsTag
-profile-written v02 = refl
+profile-written V02 = refl
+profile-written V08 = refl
 
 -- ---- a row of elements
 module _ {A : Type 0} (tag : List ℕ) (starts : (s : List ℕ) → Starts (tag ++ s)) (x : A → List ℕ) (g : A → A) (P : A → Type 0) where
@@ -348,11 +353,13 @@ text-pieces (group o n inner rest) w d h s =
 
 -- ---- a whole message
 root-tag : (v : Version) → Tag (root v)
-root-tag v02 = record { body = take 64 (root v02); is = refl; clear = refl }
+root-tag V02 = record { body = take 64 (root V02); is = refl; clear = refl }
+root-tag V08 = record { body = take 64 (root V08); is = refl; clear = refl }
 
 root-open : (v : Version) → closes (root v) ≡ false
 unfolding closes
-root-open v02 = refl
+root-open V02 = refl
+root-open V08 = refl
 
 body-from : (v : Version) (b : Bool) (w x : List ℕ) → White w → bodyOf ((pick b declaration [] ++ (w ++ root v)) ++ x) ≡ root v ++ x
 unfolding bodyOf

@@ -9,7 +9,7 @@ use Rattle.codes.specs.declared.Element.the-variants as code
 use Rattle.tags.specs.Tags.{plainTag}
 use Rattle.profile.specs.declared.Kind.{Kind}
 use Rattle.profile.specs.declared.Kind.the-variants.{Plain, Count, Total, Amount, Code}
-use Rattle.profile.specs.declared.Simple.the-variants.{Reference, EndToEnd, Text70, Text140, Date, Time, Bic, Iban, Identifier}
+use Rattle.profile.specs.declared.Simple.the-variants.{Reference, EndToEnd, Text70, Text140, Date, Time, Bic, Bicfi, Iban, Identifier}
 use Rattle.profile.specs.declared.Field.the-variants.{
   MsgId,
   CreDtTm,
@@ -39,15 +39,18 @@ use Rattle.profile.specs.declared.Field.the-variants.{
   DbtrBic,
   Ustrd,
 }
-use Rattle.profile.specs.Version.{Version, v02}
+use Rattle.profile.specs.declared.Version.{Version}
+use Rattle.profile.specs.declared.Version.the-variants.{V02, V08}
 use Rattle.profile.specs.Tree.{Shape, end, Child, children, _of_, _is_, _mayBe_, _holds_, _mayHold_, _repeats_, _▹_}
 
 -- ---- what the version decides: the name of the BIC's element, and its kind
 abbrev pub bicName : Version → String
-bicName v02 = "BIC"
+bicName V02 = "BIC"
+bicName V08 = "BICFI"
 
 abbrev pub bicKind : Version → Kind
-bicKind v02 = Plain Bic
+bicKind V02 = Plain Bic
+bicKind V08 = Plain Bicfi
 
 -- ---- the payment type, in the header or in an item
 abbrev pub typeName : String

@@ -3,15 +3,16 @@ use Prim.Native.Nat.{ℕ}
 use Prim.Native.String.{String}
 use mathlib.Core.List.{List, [], _∷_}
 use Rattle.tags.specs.Tags.{rootTag}
-
-pub data Version : Type 0 where
-  v02 : Version
+use Rattle.profile.specs.declared.Version.{Version}
+use Rattle.profile.specs.declared.Version.the-variants.{V02, V08}
 
 abbrev pub versions : List Version
-versions = v02 ∷ []
+versions = V02 ∷ V08 ∷ []
 
+-- "the namespace ends in `.001.08`"
 abbrev pub nameOf : Version → String
-nameOf v02 = "urn:iso:std:iso:20022:tech:xsd:pacs.003.001.02"
+nameOf V02 = "urn:iso:std:iso:20022:tech:xsd:pacs.003.001.02"
+nameOf V08 = "urn:iso:std:iso:20022:tech:xsd:pacs.003.001.08"
 
 -- "Then comes `<Document xmlns="urn:iso:std:iso:20022:tech:xsd:pacs.003.001.02">`."
 abbrev pub root : Version → List ℕ

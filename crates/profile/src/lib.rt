@@ -4,10 +4,16 @@ use tags::Look;
 ghost use mathlib.Core.Path.{_≡_};
 ghost use Rattle.text.specs.Quoted.{alike};
 ghost use Rattle.tags.specs.Tags.{look, exactly};
-ghost use Rattle.profile.specs.Version.{v02, root};
+ghost use Rattle.profile.specs.Version.{root};
 ghost use Rattle.profile.specs.Fields.{fieldNumber};
 ghost use Rattle.profile.specs.Kinds.{isAmount};
 ghost use Rattle.profile.specs.Profile.{countTag, wordsTag};
+
+// The versions of the message that are judged.
+pub enum Version {
+    V02,
+    V08,
+}
 
 // Limits 1 and 12.
 pub const MOST_BYTES: usize = 16_777_216;
@@ -23,6 +29,7 @@ pub enum Simple {
     Date,
     Time,
     Bic,
+    Bicfi,
     Iban,
     Identifier,
 }
@@ -120,14 +127,20 @@ pub fn is_amount(k: Kind) -> bool
 // How many bytes the root tag has.
 pub const ROOT: usize = 65;
 
-// How the root tag lies at the beginning of s.
-pub fn root_at(s: &[u8]) -> Look
-    ensures { λ r. ⌜ r ≡ look (exactly (root v02)) (now (s .entry)) ⌝ }
+// How a version's root tag lies at the beginning of s.
+pub fn root_at(v: Version, s: &[u8]) -> Look
+    ensures { λ r. ⌜ r ≡ look (exactly (root v)) (now (s .entry)) ⌝ }
 {
-    tags::text_at(
-        b"<Document xmlns=\"urn:iso:std:iso:20022:tech:xsd:pacs.003.001.02\">",
-        s,
-    )
+    match v {
+        Version::V02 => tags::text_at(
+            b"<Document xmlns=\"urn:iso:std:iso:20022:tech:xsd:pacs.003.001.02\">",
+            s,
+        ),
+        Version::V08 => tags::text_at(
+            b"<Document xmlns=\"urn:iso:std:iso:20022:tech:xsd:pacs.003.001.08\">",
+            s,
+        ),
+    }
 }
 
 // Whether a tag is the count's start tag.

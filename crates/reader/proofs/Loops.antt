@@ -9,7 +9,7 @@ use Rattle.text.specs.Truth.{pick}
 use Rattle.tags.specs.declared.Look.{Look}
 use Rattle.tags.specs.declared.Look.the-variants.{Whole, Cut, Other}
 use Rattle.tags.specs.Tags.{skipped, look}
-use Rattle.profile.specs.Version.{Version}
+use Rattle.profile.specs.declared.Version.{Version}
 use Rattle.profile.specs.Tree.{more}
 use Rattle.reading.specs.Trace.{Trace, upTo, missing, trace}
 use Rattle.reading.specs.Noted.{Reading, on, stop, Ended}

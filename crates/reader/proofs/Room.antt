@@ -8,7 +8,7 @@ use native.Mathlib.Omega.{arith}
 use lib.ListN.{getD}
 use Rattle.text.specs.Truth.{both}
 use Rattle.text.proofs.Truths.{both-true}
-use Rattle.profile.specs.Version.{Version}
+use Rattle.profile.specs.declared.Version.{Version}
 use Rattle.profile.specs.Tree.{Occ, Shape, end, leaf, group}
 use Rattle.profile.specs.Profile.{profile}
 use Rattle.reading.specs.Trace.{Trace, upTo, missing, priced}

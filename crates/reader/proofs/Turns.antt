@@ -13,7 +13,7 @@ use Rattle.tags.specs.declared.Look.{Look}
 use Rattle.tags.specs.declared.Look.the-variants.{Whole, Cut, Other}
 use Rattle.tags.specs.Tags.{skipped, look, onLook, exactly, endTag}
 use Rattle.tags.proofs.Looks.{exactly-length}
-use Rattle.profile.specs.Version.{Version}
+use Rattle.profile.specs.declared.Version.{Version}
 use Rattle.profile.specs.Tree.{Occ, more, Shape, end, leaf, group}
 use Rattle.profile.specs.Profile.{isType}
 use Rattle.reading.specs.Trace.{Trace, upTo, fault, andThen, closed, missing, turn, again, follow, trace}

@@ -10,7 +10,7 @@ use Rattle.tags.specs.declared.Look.{Look}
 use Rattle.tags.specs.declared.Look.the-variants.{Whole, Cut, Other}
 use Rattle.tags.specs.Tags.{skipped, look, onLook, plainTag}
 use Rattle.tags.proofs.Looks.{exactly-length}
-use Rattle.profile.specs.Version.{Version}
+use Rattle.profile.specs.declared.Version.{Version}
 use Rattle.profile.specs.Limits.{mostBytes}
 use Rattle.profile.specs.Tree.{many, Shape, end, group}
 use Rattle.profile.specs.Profile.{inItem, itemName, bulkName}

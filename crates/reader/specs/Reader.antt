@@ -10,7 +10,7 @@ use Rattle.tags.specs.Tags.{look, onLook, exactly, plainTag, startTag}
 use Rattle.tags.specs.Values.{valueAt, behindValue}
 use Rattle.profile.specs.declared.Kind.{Kind}
 use Rattle.profile.specs.declared.Field.{Field}
-use Rattle.profile.specs.Version.{Version}
+use Rattle.profile.specs.declared.Version.{Version}
 use Rattle.profile.specs.Limits.{mostBytes}
 use Rattle.profile.specs.Kinds.{isAmount}
 use Rattle.profile.specs.Tree.{Occ, once, Shape, end, leaf, group}

@@ -3,6 +3,7 @@ use notes::Met;
 use notes::State;
 use notes::Step;
 use profile::Kind;
+use profile::Version;
 use table::Row;
 use tags::Look;
 ghost use mathlib.Core.Path.{_≡_};
@@ -11,7 +12,6 @@ ghost use Prim.Native.Nat.{_+_, _≤_, _<_};
 ghost use lib.ListN.{length, drop};
 ghost use Rattle.text.specs.Truth.{pick};
 ghost use Rattle.tags.specs.Tags.{skipped, look};
-ghost use Rattle.profile.specs.Version.{v02};
 ghost use Rattle.profile.specs.Tree.{Occ};
 ghost use Rattle.reading.specs.Trace.{upTo, begins, missing, priced, trace};
 ghost use Rattle.table.specs.Table.{tags, table, manyRows, rowIn, kindOf, fieldOf, occOf, markName, amountKind, width, opensBy, closesBy, due, Element};
@@ -171,9 +171,16 @@ fn is_stopped(s: Step) -> bool
 }
 
 // What is due from row `first` up to the end of its group.
-fn group(m: &[u8], names: &[u8], rows: &[[u16; table::COLUMNS]], first: usize, start: State) -> Step
-    requires { ⌜ Good (now m) (stated start) × (first < manyRows v02) × (now names ≡ tags v02) × (now rows ≡ table v02) × Room (amountsIn (due v02 first)) (start .notes) ⌝ }
-    ensures { λ s. ⌜ (stepped s ≡ reads (trace (due v02 first) (now (m .entry)) (start .at)) (start .notes)) × Fine (now (m .entry)) (start .at) (stepped s) ⌝ }
+fn group(
+    m: &[u8],
+    names: &[u8],
+    rows: &[[u16; table::COLUMNS]],
+    first: usize,
+    start: State,
+    v: Version,
+) -> Step
+    requires { ⌜ Good (now m) (stated start) × (first < manyRows v) × (now names ≡ tags v) × (now rows ≡ table v) × Room (amountsIn (due v first)) (start .notes) ⌝ }
+    ensures { λ s. ⌜ (stepped s ≡ reads (trace (due v first) (now (m .entry)) (start .at)) (start .notes)) × Fine (now (m .entry)) (start .at) (stepped s) ⌝ }
 {
     let mut k = first;
     let mut seen = false;
@@ -197,7 +204,7 @@ fn group(m: &[u8], names: &[u8], rows: &[[u16; table::COLUMNS]], first: usize, s
                 k = r.next as usize;
             }
             Look::Whole => {
-                let t = element(m, names, rows, k, st);
+                let t = element(m, names, rows, k, st, v);
                 if is_stopped(t) {
                     return t;
                 }
@@ -213,9 +220,16 @@ fn group(m: &[u8], names: &[u8], rows: &[[u16; table::COLUMNS]], first: usize, s
 }
 
 // Row k's element, from the `<` of its start tag, which lies whole at the state's place.
-fn element(m: &[u8], names: &[u8], rows: &[[u16; table::COLUMNS]], k: usize, st: State) -> Step
-    requires { ⌜ Good (now m) (stated st) × (k < manyRows v02) × Element (due v02 k) × (st .at + width (rowIn (table v02) k) ≤ length (now m)) × (now names ≡ tags v02) × (now rows ≡ table v02) × Room (amountsOf (due v02 k)) (st .notes) ⌝ }
-    ensures { λ s. ⌜ (stepped s ≡ reads (elementIn (due v02 k) (now (m .entry)) (st .at)) (st .notes)) × Fine (now (m .entry)) (st .at + 1) (stepped s) ⌝ }
+fn element(
+    m: &[u8],
+    names: &[u8],
+    rows: &[[u16; table::COLUMNS]],
+    k: usize,
+    st: State,
+    v: Version,
+) -> Step
+    requires { ⌜ Good (now m) (stated st) × (k < manyRows v) × Element (due v k) × (st .at + width (rowIn (table v) k) ≤ length (now m)) × (now names ≡ tags v) × (now rows ≡ table v) × Room (amountsOf (due v k)) (st .notes) ⌝ }
+    ensures { λ s. ⌜ (stepped s ≡ reads (elementIn (due v k) (now (m .entry)) (st .at)) (st .notes)) × Fine (now (m .entry)) (st .at + 1) (stepped s) ⌝ }
 {
     let r = table::row_at(rows, k);
     let e = enter(m, r, st);
@@ -225,16 +239,16 @@ fn element(m: &[u8], names: &[u8], rows: &[[u16; table::COLUMNS]], k: usize, st:
         Met::Stopped(number, place) => s.refuse(number, place),
         Met::On => {
             if r.kind == 1 {
-                return group(m, names, rows, k + 1, s);
+                return group(m, names, rows, k + 1, s, v);
             }
             value(m, names, r, s)
         }
     }
 }
 
-// What stands from a place on is read by the whole profile, with nothing noted yet. Rule 1 comes first.
-pub fn message(m: &[u8], at: usize) -> Step
-    ensures { λ s. ⌜ (stepped s ≡ messageAt v02 (now (m .entry)) at) × Fine (now (m .entry)) 0 (stepped s) ⌝ }
+// What stands from a place on is read by the whole profile of a version, with nothing noted yet. Rule 1 comes first.
+pub fn message(m: &[u8], at: usize, v: Version) -> Step
+    ensures { λ s. ⌜ (stepped s ≡ messageAt v (now (m .entry)) at) × Fine (now (m .entry)) 0 (stepped s) ⌝ }
 {
     if profile::MOST_BYTES < m.len() {
         return State::new(0).refuse(1, 0);
@@ -243,14 +257,14 @@ pub fn message(m: &[u8], at: usize) -> Step
         return State::new(0).refuse(1, 0);
     }
     let st = State::new(at as u32);
-    let names = table::all_tags();
-    let rows = table::all_rows();
-    group(m, &names, &rows, 0, st)
+    let names = table::tags_of(v);
+    let rows = table::rows_of(v);
+    group(m, &names, &rows, 0, st, v)
 }
 
 // The item that stands at a place, after white space, with nothing noted before it.
-pub fn item(m: &[u8], at: usize) -> Step
-    ensures { λ s. ⌜ (stepped s ≡ itemAt v02 (now (m .entry)) at) × Fine (now (m .entry)) 0 (stepped s) ⌝ }
+pub fn item(m: &[u8], at: usize, v: Version) -> Step
+    ensures { λ s. ⌜ (stepped s ≡ itemAt v (now (m .entry)) at) × Fine (now (m .entry)) 0 (stepped s) ⌝ }
 {
     if profile::MOST_BYTES < m.len() {
         return State::new(0).refuse(1, 0);
@@ -259,12 +273,12 @@ pub fn item(m: &[u8], at: usize) -> Step
         return State::new(0).refuse(1, 0);
     }
     let st = State::new(at as u32);
-    let names = table::all_tags();
-    let rows = table::all_rows();
+    let names = table::tags_of(v);
+    let rows = table::rows_of(v);
     let q = skip(m, st);
     let k = table::item_row();
     match start_at(m, &names, table::row_at(&rows, k), q.at as usize) {
-        Look::Whole => element(m, &names, &rows, k, q),
+        Look::Whole => element(m, &names, &rows, k, q, v),
         Look::Cut => q.refuse(3, m.len()),
         Look::Other => q.refuse_here(4),
     }

@@ -11,7 +11,8 @@ use Rattle.tags.specs.Tags.{skipped, look, onLook, exactly, endTag, plainTag, s
 use Rattle.tags.specs.Values.{valueAt, behindValue}
 use Rattle.profile.specs.declared.Kind.{Kind}
 use Rattle.profile.specs.declared.Field.{Field}
-use Rattle.profile.specs.Version.{Version, versions, root}
+use Rattle.profile.specs.declared.Version.{Version}
+use Rattle.profile.specs.Version.{versions, root}
 use Rattle.profile.specs.Limits.{mostBytes}
 use Rattle.profile.specs.Kinds.{isAmount}
 use Rattle.profile.specs.Tree.{Occ, once, optional, many, more, Shape, end, leaf, group}

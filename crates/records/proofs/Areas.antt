@@ -9,7 +9,6 @@ use lib.ListN.{length, take, drop, length-append, length-take, length-drop}
 use lib.Seq.{take-at, drop-at, drop-drop}
 use Rattle.profile.specs.declared.Field.{Field}
 use Rattle.profile.specs.declared.Field.the-variants.{LclInstrm, SeqTp}
-use Rattle.profile.specs.Version.{v02}
 use Rattle.profile.specs.Limits.{mostBytes}
 use Rattle.reading.specs.Trace.{What, Entry, message}
 use Rattle.reading.specs.Noted.{Reading, on, stop, Ended, noted}
@@ -27,7 +26,7 @@ use Rattle.notes.specs.declared.Notes.{Notes}
 use Rattle.reader.specs.Reader.{itemAt}
 use Rattle.judge.specs.declared.Verdict.the-variants.{Accepted, Refused}
 use Rattle.judge.specs.declared.Survey.{Survey}
-use Rattle.judge.specs.Verdict.{meant}
+use Rattle.judge.specs.Verdict.{meant, versionOf}
 use Rattle.judge.specs.Found.{Found, foundBy, found}
 use Rattle.judge.specs.Survey.{Surveyed, surveyedAs, serviceNumber, places, surveyed, survey}
 use Rattle.judge.proofs.Alone.{stands-again}
@@ -60,7 +59,7 @@ pub record Filling (m : List ℕ) (count : ℕ) (area₀ : List ℕ) (i at : ℕ
   pub due : List Item
   pub all : theItems m ≡ done ++ due
   pub many : length done ≡ i
-  pub chain : Chained v02 m at due
+  pub chain : Chained (versionOf m) m at due
   pub is : area ≡ recordsFor (theHeader m) done ++ drop (recordLength * i) area₀
 
 module _ (m : List ℕ) (count first : ℕ) (above area₀ : List ℕ) (r : Room m count first above area₀) where
@@ -73,7 +72,7 @@ module _ (m : List ℕ) (count first : ℕ) (above area₀ : List ℕ) (r : Room
   first-is : first ≡ found m .first
   first-is = r .begins ∙ ap (λ (x : Found). x .first) (survey-found m)
 
-  chain : (first ≤ length m) × Chained v02 m first (theItems m)
+  chain : (first ≤ length m) × Chained (versionOf m) m first (theItems m)
   chain = rw first-is (found-chained m count (r .cents) (r .accepted))
 
   -- what was noted of the whole message, of the fields that may stand in its header
@@ -129,29 +128,29 @@ module _ (m : List ℕ) (count first : ℕ) (above area₀ : List ℕ) (r : Room
         rw (part-wide, f .is, take-at written (drop (recordLength * i) area₀) (recordLength * i) n, drop-at written (drop (recordLength * i) area₀) (recordLength * i) n)
         (ap (λ (l : List ℕ). written ++ (x ++ l)) (drop-drop recordLength (recordLength * i) area₀ ∙ ap (λ (k : ℕ). drop k area₀) z))
 
-    module _ (h : i < count) (y : Reading (Ended Notes)) (e : y ≡ itemAt v02 m at) where
+    module _ (h : i < count) (y : Reading (Ended Notes)) (e : y ≡ itemAt (versionOf m) m at) where
       pub never-stops : (n q : ℕ) → y ≡ stop n q → {A : Type 0} → A
       never-stops n q g {A = A} = go (f .due) (f .chain) as-many
         where
-          go : (l : List Item) → Chained v02 m at l → i + length l ≡ count → A
+          go : (l : List Item) → Chained (versionOf m) m at l → i + length l ≡ count → A
           go [] c k = never (omega arith)
           go (x ∷ l) (next s c) k =
-              let a = stands-again v02 m at x small (f .within) s in
+              let a = stands-again (versionOf m) m at x small (f .within) s in
               never (cc (a .is))
 
       pub fill-on : (s : Ended Notes) → y ≡ on s → (x : List ℕ) → x ≡ recordOf m (s .notes) above → Filling m count area₀ (i + 1) (s .at) (after x)
       fill-on s g x w = go (f .due) (f .all) (f .chain) as-many
         where
-          go : (l : List Item) → theItems m ≡ f .done ++ l → Chained v02 m at l → i + length l ≡ count → Filling m count area₀ (i + 1) (s .at) (after x)
+          go : (l : List Item) → theItems m ≡ f .done ++ l → Chained (versionOf m) m at l → i + length l ≡ count → Filling m count area₀ (i + 1) (s .at) (after x)
           go [] b c k = never (omega arith)
           go (it ∷ l) b (next t c) k =
-              let a = stands-again v02 m at it small (f .within) t in
+              let a = stands-again (versionOf m) m at it small (f .within) t in
               let z : a .state ≡ s = same-end (a .state) s (sym (a .is) ∙ (sym e ∙ g)) in
               let d : s .at ≡ it .to = sym (ap (λ (u : Ended Notes). u .at) z) ∙ a .to in
               let q : x ≡ recordFor (theHeader m ++ it .holds) =
               w
               ∙ (ap (λ (u : Ended Notes). recordOf m (u .notes) above) (sym z)
-              ∙ record-is m count (r .cents) (r .accepted) at it t (f .done) l b (a .state .notes) above (a .summed) sequence-noted instrument-noted) in
+              ∙ record-is m count (r .cents) (r .accepted) (versionOf m) at it t (f .done) l b (a .state .notes) above (a .summed) sequence-noted instrument-noted) in
               let n : length (after x) ≡ length area₀ =
               ap length (after-is x)
               ∙ simp (length-append, length-drop) (omega (arith, length-records (theHeader m) (f .done), f .many, ap length q, length-record (theHeader m ++ it .holds), r .room)) in

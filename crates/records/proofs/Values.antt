@@ -1,13 +1,18 @@
 -- What lies at the places that were noted of an item, and of the whole message above it, is what the item's record holds.
 use mathlib.Core.Path.{_≡_, refl, sym, ap, _∙_}
-use mathlib.Core.Bool.{true}
+use mathlib.Core.Bool.{Bool, true}
 use mathlib.Core.List.{List, [], _∷_, _++_}
 use Prim.Native.Nat.{ℕ}
+use borrow.Author.Tests.{eqb-true}
+use lib.Dec.{eqb}
+use Rattle.text.specs.Truth.{both}
+use Rattle.text.proofs.Truths.{both-true}
 use Rattle.money.specs.Amount.{cents}
 use Rattle.profile.specs.declared.Kind.the-variants.{Amount}
 use Rattle.profile.specs.declared.Field.{Field}
 use Rattle.profile.specs.declared.Field.the-variants.{TxId, EndToEndId, MndtId, DbtrIban, CdtrIban, DbtrBic, ReqdColltnDt, SeqTp, CdtrId, CdtrBic, InstrId, LclInstrm, DtOfSgntr}
-use Rattle.profile.specs.Version.{Version, v02}
+use Rattle.profile.specs.declared.Version.{Version}
+use Rattle.profile.specs.declared.Version.the-variants.{V02, V08}
 use Rattle.profile.specs.Profile.{inHeader}
 use Rattle.reading.specs.Trace.{Entry, message}
 use Rattle.reading.specs.Noted.{noted}
@@ -36,16 +41,29 @@ Below v f = (fixed (aField f) (inHeader v) ≡ true) × (times (aField f) (inHea
 abbrev own : List Field
 own = TxId ∷ EndToEndId ∷ MndtId ∷ DbtrIban ∷ CdtrIban ∷ DbtrBic ∷ ReqdColltnDt ∷ CdtrId ∷ CdtrBic ∷ InstrId ∷ DtOfSgntr ∷ []
 
-all-below : (v : Version) → AllIn (Below v) own
+abbrev below : Version → List Field → Bool
+below v [] = true
+below v (f ∷ l) = both (fixed (aField f) (inHeader v)) (both (eqb (times (aField f) (inHeader v)) 0) (below v l))
+
+own-below : (v : Version) → below v own ≡ true
 unfolding inHeader
-all-below v02 = (
-  (refl, refl),
-  ((refl, refl), ((refl, refl), ((refl, refl), ((refl, refl), ((refl, refl), ((refl, refl), ((refl, refl), ((refl, refl), ((refl, refl), ((refl, refl), tt)))))))))),
-)
+own-below V02 = refl
+own-below V08 = refl
+
+each-below : (v : Version) (l : List Field) → below v l ≡ true → AllIn (Below v) l
+each-below v [] e = tt
+each-below v (f ∷ l) e =
+    let a = both-true (fixed (aField f) (inHeader v)) (both (eqb (times (aField f) (inHeader v)) 0) (below v l)) e in
+    let b = both-true (eqb (times (aField f) (inHeader v)) 0) (below v l) (a .1) in
+    ((a .0, eqb-true (times (aField f) (inHeader v)) 0 (b .0)), each-below v l (b .1))
+
+all-below : (v : Version) → AllIn (Below v) own
+all-below v = each-below v own (own-below v)
 
 amount-below : (v : Version) → (fixed (aKind Amount) (inHeader v) ≡ true) × (times (aKind Amount) (inHeader v) ≡ 0)
 unfolding inHeader
-amount-below v02 = (refl, refl)
+amount-below V02 = (refl, refl)
+amount-below V08 = (refl, refl)
 
 -- ---- two records of the same values
 same-record : (u w : Field → List ℕ) (c d : ℕ) → c ≡ d → AllIn (λ f. u f ≡ w f) own → u SeqTp ≡ w SeqTp → u LclInstrm ≡ w LclInstrm → recordWith u c ≡ recordWith w d
@@ -77,7 +95,7 @@ last-same a b [] e = ap (λ (x : List (List ℕ)). lastOf [] x) (e refl)
 last-same a b (v ∷ l) e = refl
 
 -- ---- an item of an accepted message
-module _ (m : List ℕ) (count cents′ : ℕ) (e : judged m ≡ accepted count cents′) (p : ℕ) (x : Item) (s : Stands v02 m p x) (before after : List Item) (is : theItems m ≡ before ++ (x ∷ after)) where
+module _ (m : List ℕ) (count cents′ : ℕ) (e : judged m ≡ accepted count cents′) (v : Version) (p : ℕ) (x : Item) (s : Stands v m p x) (before after : List Item) (is : theItems m ≡ before ++ (x ∷ after)) where
   abbrev k : Bulked m
   k = accepted-bulk m count cents′ e
 

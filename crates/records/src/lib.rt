@@ -164,10 +164,11 @@ fn fill(m: &[u8], count: usize, first: usize, above: [u32; profile::FIELDS], are
     requires { ⌜ Room (now m) count first above (now area) ⌝ }
     ensures { λ _. ⌜ now (area .exit) ≡ recordsFor (theHeader (now (m .entry))) (theItems (now (m .entry))) ++ drop (recordLength * count) (now (area .entry)) ⌝ }
 {
+    let version = judge::version_of(m);
     let mut i = 0;
     let mut at = first;
     while i < count {
-        let r = reader::item(m, at);
+        let r = reader::item(m, at, version);
         let met = r.met;
         let st = r.state;
         match met {

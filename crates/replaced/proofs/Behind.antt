@@ -18,7 +18,7 @@ use Rattle.tags.specs.Values.{inValue, valueAt, behindValue}
 use Rattle.tags.proofs.Looks.{exactly-length, look-fits, look-text, whole-text, andThen as andThenLook, look-append}
 use Rattle.profile.specs.declared.Kind.{Kind}
 use Rattle.profile.specs.Kinds.{isAmount}
-use Rattle.profile.specs.Version.{Version}
+use Rattle.profile.specs.declared.Version.{Version}
 use Rattle.profile.specs.Limits.{mostBytes}
 use Rattle.profile.specs.Tree.{Occ, once, optional, many, more, Shape, end, leaf, group}
 use Rattle.profile.specs.Profile.{profile}

@@ -16,7 +16,8 @@ use Rattle.tags.specs.Values.{inValue, valueAt}
 use Rattle.profile.specs.declared.Kind.{Kind}
 use Rattle.profile.specs.declared.Field.{Field}
 use Rattle.profile.specs.Kinds.{isAmount}
-use Rattle.profile.specs.Version.{Version, v02}
+use Rattle.profile.specs.declared.Version.{Version}
+use Rattle.profile.specs.declared.Version.the-variants.{V02, V08}
 use Rattle.profile.specs.Tree.{Shape, end, leaf, group}
 use Rattle.profile.specs.Profile.{profile}
 use Rattle.reading.specs.Trace.{from, opened, message}
@@ -38,7 +39,8 @@ leaves t (group o n inner rest) = both (leaves t inner) (leaves t rest)
 
 all-fine : (u : Version) → leaves (fine u) (profile u) ≡ true
 unfolding fine profile clear sameTag capital among
-all-fine v02 = refl
+all-fine V02 = refl
+all-fine V08 = refl
 
 abbrev pub Fine : Version → Kind → String → Type 0
 Fine u k n = fine u k n ≡ true

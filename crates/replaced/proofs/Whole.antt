@@ -13,7 +13,8 @@ use Rattle.tags.specs.Tags.{skipped, look, onLook, exactly, declaration, starts
 use Rattle.tags.proofs.Looks.{exactly-length}
 use Rattle.profile.specs.declared.Kind.{Kind}
 use Rattle.profile.specs.declared.Field.{Field}
-use Rattle.profile.specs.Version.{Version, versions, root}
+use Rattle.profile.specs.declared.Version.{Version}
+use Rattle.profile.specs.Version.{versions, root}
 use Rattle.profile.specs.Limits.{mostBytes}
 use Rattle.profile.specs.Profile.{profile}
 use Rattle.reading.specs.Trace.{upTo, fault, Opened, from, faulty, rooted, opened, behindAll, inside, message}

@@ -29,7 +29,7 @@ use Rattle.tags.specs.Values.{inValue}
 use Rattle.profile.specs.declared.Kind.{Kind}
 use Rattle.profile.specs.declared.Kind.the-variants.{Plain, Count, Total, Amount, Code}
 use Rattle.profile.specs.declared.Simple.{Simple}
-use Rattle.profile.specs.declared.Simple.the-variants.{Reference, EndToEnd, Text70, Text140, Date, Time, Bic, Iban, Identifier}
+use Rattle.profile.specs.declared.Simple.the-variants.{Reference, EndToEnd, Text70, Text140, Date, Time, Bic, Bicfi, Iban, Identifier}
 use Rattle.kinds.specs.Given.{simpleGiven, kindGiven}
 use Rattle.documents.specs.Holds.{Passes}
 use Rattle.replaced.proofs.Beside.{Solid}
@@ -141,6 +141,7 @@ plain-slip Text140 v w s g = absurd (unwatched (λ x h. h) s)
 plain-slip Date v w s g = absurd (unwatched (λ x h. h) s)
 plain-slip Time v w s g = absurd (unwatched (λ x h. h) s)
 plain-slip Bic v w s g = absurd (unwatched (λ x h. h) s)
+plain-slip Bicfi v w s g = absurd (unwatched (λ x h. h) s)
 plain-slip Iban v w s g = iban-slip v w s (iban-yes v g .1)
 plain-slip Identifier v w s g = identifier-slip v w s (identifier-yes v g .1)
 
@@ -275,5 +276,6 @@ value-solid (Plain Text140) s g = absurd (unwatched (λ x h. h) s)
 value-solid (Plain Date) s g = absurd (unwatched (λ x h. h) s)
 value-solid (Plain Time) s g = absurd (unwatched (λ x h. h) s)
 value-solid (Plain Bic) s g = absurd (unwatched (λ x h. h) s)
+value-solid (Plain Bicfi) s g = absurd (unwatched (λ x h. h) s)
 value-solid (Plain Iban) {v} s g = iban-solid v g
 value-solid (Plain Identifier) {v} s g = identifier-solid v g

@@ -10,7 +10,7 @@ use Rattle.text.specs.Classes.{digit}
 use Rattle.profile.specs.declared.Kind.{Kind}
 use Rattle.profile.specs.declared.Kind.the-variants.{Plain, Count, Total, Amount, Code}
 use Rattle.profile.specs.declared.Simple.{Simple}
-use Rattle.profile.specs.declared.Simple.the-variants.{Reference, EndToEnd, Text70, Text140, Date, Time, Bic, Iban, Identifier}
+use Rattle.profile.specs.declared.Simple.the-variants.{Reference, EndToEnd, Text70, Text140, Date, Time, Bic, Bicfi, Iban, Identifier}
 use Rattle.profile.specs.declared.Field.{Field}
 use Rattle.reading.specs.Trace.{value, Entry, _at_, message}
 use Rattle.reading.specs.Noted.{noted}
@@ -27,6 +27,7 @@ WatchedIn Text140 i = ⊥
 WatchedIn Date i = ⊥
 WatchedIn Time i = ⊥
 WatchedIn Bic i = ⊥
+WatchedIn Bicfi i = ⊥
 WatchedIn Iban i = Unit {0}
 WatchedIn Identifier i = (i < 4) ⊎ (7 ≤ i)
 

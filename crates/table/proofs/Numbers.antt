@@ -10,7 +10,7 @@ use Rattle.text.specs.Truth.{pick}
 use Rattle.codes.specs.declared.Element.the-variants as code
 use Rattle.profile.specs.declared.Kind.{Kind}
 use Rattle.profile.specs.declared.Kind.the-variants.{Plain, Count, Total, Amount, Code}
-use Rattle.profile.specs.declared.Simple.the-variants.{Reference, EndToEnd, Text70, Text140, Date, Time, Bic, Iban, Identifier}
+use Rattle.profile.specs.declared.Simple.the-variants.{Reference, EndToEnd, Text70, Text140, Date, Time, Bic, Bicfi, Iban, Identifier}
 use Rattle.profile.specs.declared.Field.{Field}
 use Rattle.profile.specs.declared.Field.the-variants as field
 use Rattle.profile.specs.Fields.{fieldNumber}
@@ -33,9 +33,9 @@ outside : {A : Type 0} (l : List A) (d : A) → getD l 0 d ≡ d → (n : ℕ) �
 outside l d e zero h = sym e
 outside l d e (suc n) h = sym (List·getD-eq-default l d (h (omega arith)))
 
-pub other-kind : (n : ℕ) → None 2 n 17 → Plain Reference ≡ kindOf n
+pub other-kind : (n : ℕ) → None 2 n 18 → Plain Reference ≡ kindOf n
 unfolding kindOf
-other-kind n h = outside kinds (Plain Reference) refl (n - 2) (λ g. omega (arith, beyond 2 n 17 h (omega arith)))
+other-kind n h = outside kinds (Plain Reference) refl (n - 2) (λ g. omega (arith, beyond 2 n 18 h (omega arith)))
 
 pub other-field : (n : ℕ) → None 0 n 26 → field.MsgId ≡ fieldOf n
 unfolding fieldOf
@@ -73,6 +73,7 @@ kind-numbers (Plain Text140) = record { kind = omega arith; judged = refl; amoun
 kind-numbers (Plain Date) = record { kind = omega arith; judged = refl; amount = refl }
 kind-numbers (Plain Time) = record { kind = omega arith; judged = refl; amount = refl }
 kind-numbers (Plain Bic) = record { kind = omega arith; judged = refl; amount = refl }
+kind-numbers (Plain Bicfi) = record { kind = omega arith; judged = refl; amount = refl }
 kind-numbers (Plain Iban) = record { kind = omega arith; judged = refl; amount = refl }
 kind-numbers (Plain Identifier) = record { kind = omega arith; judged = refl; amount = refl }
 kind-numbers (Code code.SttlmMtd) = record { kind = omega arith; judged = refl; amount = refl }

@@ -2,23 +2,25 @@
 use mathlib.Core.Path.{_≡_, refl, sym, ap, _∙_}
 use mathlib.Core.Bool.{Bool, true, false}
 use mathlib.Core.List.{List, [], _∷_, _++_, append-nil, append-assoc}
-use Prim.Native.Nat.{ℕ, zero, suc, _+_, _<_}
+use Prim.Native.Nat.{ℕ, zero, suc, _+_, _-_, _<_}
 use Prim.Native.String.{String}
 use native.Mathlib.Numerals.{add-one}
 use native.Mathlib.Nat.{le-of-suc-le-suc}
 use native.Mathlib.Omega.{arith}
-use lib.ListN.{length, take, drop, getD, length-append}
+use lib.ListN.{length, take, drop, getD, replicate, length-append}
 use lib.Seq.{drop-drop, take-append-seam, drop-append-seam}
 use Rattle.text.specs.Truth.{part}
+use Rattle.text.specs.Quoted.{byte}
 use Rattle.text.proofs.Truths.{never}
 use Rattle.tags.specs.Tags.{exactly, endTag, plainTag}
 use Rattle.tags.proofs.Looks.{exactly-length}
-use Rattle.profile.specs.Version.{Version, v02}
+use Rattle.profile.specs.declared.Version.{Version}
+use Rattle.profile.specs.declared.Version.the-variants.{V02, V08}
 use Rattle.profile.specs.Kinds.{isAmount}
 use Rattle.profile.specs.Tree.{Shape, end, leaf, group, many}
 use Rattle.profile.specs.Profile.{bulkName, itemName, inHeader, inItem, profile}
 use Rattle.table.specs.declared.Row.{Row}
-use Rattle.table.specs.Table.{rowsOf, startText, tagsOf, numbersAt, numbersOf, rowOf, rowIn, opensBy, closesBy, tags, table, due, manyRows, itemRow, Element}
+use Rattle.table.specs.Table.{rowsOf, startText, tagsOf, numbersAt, numbersOf, rowOf, rowIn, opensBy, closesBy, room, tags, table, due, manyRows, itemRow, Element}
 use Rattle.table.proofs.Numbers.{occ-of, name-of, kind-numbers, field-of}
 use Rattle.table.proofs.Opens.{opens-by, width-by}
 use Rattle.table.proofs.Tied.{TiedBy, KeptBy, Tied, RowKept}
@@ -99,30 +101,33 @@ some-tag false n = omega arith
 some-rows : (sh : Shape) → 0 < length (rowsOf sh)
 some-rows sh = rw (first sh) (omega arith)
 
--- ---- a tree's own table
-module _ (S : Shape) where
+-- ---- a tree's own table, and its tags with more behind them
+module _ (S : Shape) (more : List ℕ) where
+  abbrev text : List ℕ
+  text = tagsOf S ++ more
+
   abbrev dueIn : ℕ → Shape
   dueIn k = getD (rowsOf S) k (end "")
 
   abbrev Right : ℕ → List ℕ → Type 0
   Right k r =
-      TiedBy (tagsOf S) dueIn (length (rowsOf S)) k (dueIn k) (rowOf r) × KeptBy (tagsOf S) dueIn (length (rowsOf S)) (rowOf r)
+      TiedBy (text) dueIn (length (rowsOf S)) k (dueIn k) (rowOf r) × KeptBy (text) dueIn (length (rowsOf S)) (rowOf r)
 
   -- sh is due from row k on, and its tags stand from p on
   record Due (k p : ℕ) (sh : Shape) : Type 0 where
     after : List Shape
     rows : drop k (rowsOf S) ≡ rowsOf sh ++ after
     behind : List ℕ
-    text : drop p (tagsOf S) ≡ tagsOf sh ++ behind
+    wording : drop p (text) ≡ tagsOf sh ++ behind
 
   whole : Due 0 0 S
-  whole = record { after = []; rows = sym (append-nil (rowsOf S)); behind = []; text = sym (append-nil (tagsOf S)) }
+  whole = record { after = []; rows = sym (append-nil (rowsOf S)); behind = more; wording = refl }
 
   standing : (k p : ℕ) (sh : Shape) (h : Due k p sh) → Stands (rowsOf S) k sh (later sh ++ h .after) (end "")
   standing k p sh h = stands (rowsOf S) k sh (later sh ++ h .after) (end "") (h .rows ∙ ap (λ (l : List Shape). l ++ h .after) (first sh))
 
-  parted : (p : ℕ) (a b c e : List ℕ) → drop p (tagsOf S) ≡ (a ++ (b ++ c)) ++ e → Parts (tagsOf S) p a b (c ++ e)
-  parted p a b c e h = parts (tagsOf S) p a b (c ++ e) (h ∙ append-assoc a (b ++ c) e ∙ ap (λ (l : List ℕ). a ++ l) (append-assoc b c e))
+  parted : (p : ℕ) (a b c e : List ℕ) → drop p (text) ≡ (a ++ (b ++ c)) ++ e → Parts (text) p a b (c ++ e)
+  parted p a b c e h = parts (text) p a b (c ++ e) (h ∙ append-assoc a (b ++ c) e ∙ ap (λ (l : List ℕ). a ++ l) (append-assoc b c e))
 
   law : (sh : Shape) (k p : ℕ) → Due k p sh → All Right k (numbersOf k p sh)
   unfolding closesBy
@@ -131,7 +136,7 @@ module _ (S : Shape) where
       rw (standing k p (end n) h .here)
           (record {
             kind = refl;
-            close = ap exactly (parts (tagsOf S) p [] (endTag n) (h .behind) (h .text) .two);
+            close = ap exactly (parts (text) p [] (endTag n) (h .behind) (h .wording) .two);
             finish = refl;
           }),
       record { next = some-rows S },
@@ -140,9 +145,9 @@ module _ (S : Shape) where
   )
   law (leaf o n kd f rest) k p h =
       let s = standing k p (leaf o n kd f rest) h in
-      let t = parted p (startText (isAmount kd) n) (endTag n) (tagsOf rest) (h .behind) (h .text) in
+      let t = parted p (startText (isAmount kd) n) (endTag n) (tagsOf rest) (h .behind) (h .wording) in
       let q = p + length (startText (isAmount kd) n) + length (endTag n) in
-      let d : Due (suc k) q rest = record { after = h .after; rows = s .next; behind = h .behind; text = t .on } in
+      let d : Due (suc k) q rest = record { after = h .after; rows = s .next; behind = h .behind; wording = t .on } in
       let y = standing (suc k) q rest d in
       let x = kind-numbers kd in
       let r = rowOf (numbersAt k p (leaf o n kd f rest)) in (
@@ -157,7 +162,7 @@ module _ (S : Shape) where
                 occ = occ-of o;
                 name = name-of n;
                 some = some-tag (isAmount kd) n;
-                start = opens-by (isAmount kd) n r (x .amount) (tagsOf S) (t .one);
+                start = opens-by (isAmount kd) n r (x .amount) (text) (t .one);
                 width = width-by (isAmount kd) n r (x .amount) refl;
                 close = ap exactly (t .two);
                 finish = refl;
@@ -170,20 +175,20 @@ module _ (S : Shape) where
       )
   law (group o n inner rest) k p h =
       let s = standing k p (group o n inner rest) h in
-      let t = parted p (plainTag n) (tagsOf inner) (tagsOf rest) (h .behind) (h .text) in
+      let t = parted p (plainTag n) (tagsOf inner) (tagsOf rest) (h .behind) (h .wording) in
       let q = p + length (plainTag n) in
       let i : Due (suc k) q inner = record {
         after = rowsOf rest ++ h .after;
         rows = s .next ∙ append-assoc (rowsOf inner) (rowsOf rest) (h .after);
         behind = tagsOf rest ++ h .behind;
-        text = t .from;
+        wording = t .from;
       } in
       let m = suc k + length (rowsOf inner) in
       let d : Due m (q + length (tagsOf inner)) rest = record {
         after = h .after;
         rows = sym (drop-drop (length (rowsOf inner)) (suc k) (rowsOf S)) ∙ ap (drop (length (rowsOf inner))) (i .rows) ∙ drop-append-seam (rowsOf inner) (rowsOf rest ++ h .after);
         behind = h .behind;
-        text = t .on;
+        wording = t .on;
       } in
       let x = standing (suc k) q inner i in
       let y = standing m (q + length (tagsOf inner)) rest d in
@@ -196,7 +201,7 @@ module _ (S : Shape) where
                 occ = occ-of o;
                 name = name-of n;
                 some = some-tag false n;
-                start = opens-by false n r refl (tagsOf S) (t .one);
+                start = opens-by false n r refl (text) (t .one);
                 width = width-by false n r refl refl ∙ exactly-length (plainTag n);
                 below = omega (arith, x .within);
                 first = rw add-one (x .here);
@@ -213,8 +218,9 @@ module _ (S : Shape) where
 pub rows : (v : Version) (k : ℕ) → k < manyRows v → Tied v k (due v k) (rowIn (table v) k) × RowKept v (rowIn (table v) k)
 unfolding manyRows due table tags
 rows v k h =
-    all-at (Right (profile v)) (numbersOf 0 0 (profile v)) 0 k k (omega arith)
-    (law (profile v) (profile v) 0 0 (whole (profile v))) (rw (many-numbers (profile v) 0 0) h)
+    let more = replicate (room - length (tagsOf (profile v))) (byte " ") in
+    all-at (Right (profile v) more) (numbersOf 0 0 (profile v)) 0 k k (omega arith)
+    (law (profile v) more (profile v) 0 0 (whole (profile v) more)) (rw (many-numbers (profile v) 0 0) h)
 
 -- as the code reads it from rows that are lent
 pub row-tied : (v : Version) (rs : List (List ℕ)) (k : ℕ) (r : Row) → r ≡ rowIn rs k → rs ≡ table v → k < manyRows v → Tied v k (due v k) r × RowKept v r
@@ -232,14 +238,16 @@ first-row v = some-rows (profile v)
 -- the item is due from the item's row on
 pub due-item : (v : Version) → due v (itemRow v) ≡ group many itemName (inItem v) (end bulkName)
 unfolding due itemRow profile inHeader inItem
-due-item v02 = refl
+due-item V02 = refl
+due-item V08 = refl
 
 pub item-element : (v : Version) → Element (due v (itemRow v))
 item-element v = rw (due-item v) tt
 
 pub item-row : (v : Version) → itemRow v < manyRows v
 unfolding itemRow manyRows profile inHeader
-item-row v02 = omega arith
+item-row V02 = omega arith
+item-row V08 = omega arith
 
 pub item-tag : (v : Version) (names : List ℕ) (rs : List (List ℕ)) (r : Row) → names ≡ tags v → rs ≡ table v → r ≡ rowIn rs (itemRow v)
     → opensBy names r ≡ exactly (plainTag itemName)
@@ -250,4 +258,5 @@ item-tag v names rs r e f h =
 -- there are so few rows that 256 turns pass them all
 pub few-rows : (v : Version) → manyRows v < 256
 unfolding manyRows profile
-few-rows v02 = omega arith
+few-rows V02 = omega arith
+few-rows V08 = omega arith

@@ -10,7 +10,7 @@ use Rattle.tags.specs.Tags.{exactly, endTag, plainTag, startTag}
 use Rattle.tags.proofs.Looks.{exactly-length}
 use Rattle.profile.specs.declared.Kind.{Kind}
 use Rattle.profile.specs.declared.Field.{Field}
-use Rattle.profile.specs.Version.{Version}
+use Rattle.profile.specs.declared.Version.{Version}
 use Rattle.profile.specs.Fields.{fieldNumber}
 use Rattle.profile.specs.Kinds.{isAmount}
 use Rattle.profile.specs.Tree.{Occ, Shape, end, leaf, group}

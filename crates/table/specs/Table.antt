@@ -1,20 +1,22 @@
 -- The table that the code goes by, computed from the tree: a row for each element in the order of the profile, and one for each group's end.
 use Prim.Native.Nat.{ℕ, zero, suc, _+_, _-_}
 use Prim.Native.String.{String}
+use mathlib.Core.Path.{_≡_}
 use mathlib.Core.Bool.{Bool}
 use mathlib.Core.List.{List, [], _∷_, _++_}
-use lib.ListN.{length, getD}
+use lib.ListN.{length, getD, replicate}
 use lib.Dec.{eqb}
 use Rattle.text.specs.Truth.{either, pick, part}
+use Rattle.text.specs.Quoted.{byte}
 use Rattle.codes.specs.declared.Element as code
 use Rattle.tags.specs.Tags.{exactly, endTag, plainTag, amountTag, currency}
 use Rattle.profile.specs.declared.Kind.{Kind}
 use Rattle.profile.specs.declared.Kind.the-variants.{Plain, Count, Total, Amount, Code}
 use Rattle.profile.specs.declared.Simple.{Simple}
-use Rattle.profile.specs.declared.Simple.the-variants.{Reference, EndToEnd, Text70, Text140, Date, Time, Bic, Iban, Identifier}
+use Rattle.profile.specs.declared.Simple.the-variants.{Reference, EndToEnd, Text70, Text140, Date, Time, Bic, Bicfi, Iban, Identifier}
 use Rattle.profile.specs.declared.Field.{Field}
 use Rattle.profile.specs.declared.Field.the-variants.{MsgId}
-use Rattle.profile.specs.Version.{Version}
+use Rattle.profile.specs.declared.Version.{Version}
 use Rattle.profile.specs.Fields.{fieldNumber}
 use Rattle.profile.specs.Listed.{fields}
 use Rattle.profile.specs.Kinds.{isAmount}
@@ -44,6 +46,7 @@ kinds =
     ∷ Code code.the-variants.ChrgBr
     ∷ Code code.the-variants.Prtry
     ∷ Plain EndToEnd
+    ∷ Plain Bicfi
     ∷ []
 
 unfoldable pub kindOf : ℕ → Kind
@@ -57,6 +60,7 @@ simpleInTable Text140 = 7
 simpleInTable Date = 8
 simpleInTable Time = 9
 simpleInTable Bic = 10
+simpleInTable Bicfi = 20
 simpleInTable Iban = 11
 simpleInTable Identifier = 12
 
@@ -139,8 +143,12 @@ numbersOf k p (group o n inner rest) =
     ++ numbersOf (suc k + length (rowsOf inner)) (p + length (plainTag n) + length (tagsOf inner)) rest)
 
 -- ---- of a version
+-- its tags, with spaces behind them: as much room in every version
+abbrev pub room : ℕ
+room = 1152
+
 unfoldable pub tags : Version → List ℕ
-tags v = tagsOf (profile v)
+tags v = tagsOf (profile v) ++ replicate (room - length (tagsOf (profile v))) (byte " ")
 
 unfoldable pub table : Version → List (List ℕ)
 table v = numbersOf 0 0 (profile v)
@@ -155,6 +163,10 @@ due v k = getD (rowsOf (profile v)) k (end "")
 -- the item's row: behind that of the bulk, that of the header and those of what the header holds
 unfoldable pub itemRow : Version → ℕ
 itemRow v = 2 + length (rowsOf (inHeader v))
+
+-- the same row in every version
+abbrev pub ItemsRow : ℕ → Type 0
+ItemsRow k = (v : Version) → k ≡ itemRow v
 
 -- ---- row k of a table
 abbrev pub rowOf : List ℕ → Row

@@ -3,12 +3,12 @@ use codes::Element;
 use profile::Field;
 use profile::Kind;
 use profile::Simple;
+use profile::Version;
 use tags::Look;
 ghost use mathlib.Core.Path.{_≡_};
 ghost use Rattle.text.specs.Truth.{part};
 ghost use Rattle.tags.specs.Tags.{look};
-ghost use Rattle.profile.specs.Version.{v02};
-ghost use Rattle.table.specs.Table.{tags as allTags, table, itemRow, rowIn, kindOf, fieldOf, amountKind, opensBy, closesBy, width};
+ghost use Rattle.table.specs.Table.{tags as allTags, table, ItemsRow, rowIn, kindOf, fieldOf, amountKind, opensBy, closesBy, width};
 
 // A row of the table.
 pub struct Row {
@@ -22,8 +22,8 @@ pub struct Row {
     pub mark: u16,
 }
 
-// How many bytes all tags have.
-pub const BYTES: usize = 1140;
+// How many bytes the tags of a version take.
+pub const BYTES: usize = 1152;
 
 // How many rows there are, and how many numbers each has.
 pub const ROWS: usize = 93;
@@ -34,7 +34,7 @@ pub const COLUMNS: usize = 8;
 const ITEM: usize = 25;
 
 // The tags as a message with nothing in it has them, each as often as it comes; an amount's start tag as far as its quotation mark.
-const TAGS: [u8; BYTES] = *b"\
+const TAGS_02: [u8; BYTES] = *b"\
     <FIToFICstmrDrctDbt>\
         <GrpHdr>\
             <MsgId></MsgId>\
@@ -83,10 +83,61 @@ const TAGS: [u8; BYTES] = *b"\
             <RmtInf><Ustrd></Ustrd></RmtInf>\
         </DrctDbtTxInf>\
     </FIToFICstmrDrctDbt>\
+    </Document>            ";
+
+const TAGS_08: [u8; BYTES] = *b"\
+    <FIToFICstmrDrctDbt>\
+        <GrpHdr>\
+            <MsgId></MsgId>\
+            <CreDtTm></CreDtTm>\
+            <NbOfTxs></NbOfTxs>\
+            <TtlIntrBkSttlmAmt Ccy=\"</TtlIntrBkSttlmAmt>\
+            <IntrBkSttlmDt></IntrBkSttlmDt>\
+            <SttlmInf><SttlmMtd></SttlmMtd></SttlmInf>\
+            <PmtTpInf>\
+                <SvcLvl><Cd></Cd></SvcLvl>\
+                <LclInstrm><Cd></Cd></LclInstrm>\
+                <SeqTp></SeqTp>\
+            </PmtTpInf>\
+            <InstgAgt><FinInstnId><BICFI></BICFI></FinInstnId></InstgAgt>\
+        </GrpHdr>\
+        <DrctDbtTxInf>\
+            <PmtId>\
+                <InstrId></InstrId>\
+                <EndToEndId></EndToEndId>\
+                <TxId></TxId>\
+            </PmtId>\
+            <PmtTpInf>\
+                <SvcLvl><Cd></Cd></SvcLvl>\
+                <LclInstrm><Cd></Cd></LclInstrm>\
+                <SeqTp></SeqTp>\
+            </PmtTpInf>\
+            <IntrBkSttlmAmt Ccy=\"</IntrBkSttlmAmt>\
+            <ChrgBr></ChrgBr>\
+            <ReqdColltnDt></ReqdColltnDt>\
+            <DrctDbtTx>\
+                <MndtRltdInf>\
+                    <MndtId></MndtId>\
+                    <DtOfSgntr></DtOfSgntr>\
+                </MndtRltdInf>\
+                <CdtrSchmeId><Id><PrvtId><Othr>\
+                    <Id></Id>\
+                    <SchmeNm><Prtry></Prtry></SchmeNm>\
+                </Othr></PrvtId></Id></CdtrSchmeId>\
+            </DrctDbtTx>\
+            <Cdtr><Nm></Nm></Cdtr>\
+            <CdtrAcct><Id><IBAN></IBAN></Id></CdtrAcct>\
+            <CdtrAgt><FinInstnId><BICFI></BICFI></FinInstnId></CdtrAgt>\
+            <Dbtr><Nm></Nm></Dbtr>\
+            <DbtrAcct><Id><IBAN></IBAN></Id></DbtrAcct>\
+            <DbtrAgt><FinInstnId><BICFI></BICFI></FinInstnId></DbtrAgt>\
+            <RmtInf><Ustrd></Ustrd></RmtInf>\
+        </DrctDbtTxInf>\
+    </FIToFICstmrDrctDbt>\
     </Document>";
 
 // The rows, with the names of their elements behind them.
-const TABLE: [[u16; COLUMNS]; ROWS] = [
+const TABLE_02: [[u16; COLUMNS]; ROWS] = [
     [0, 20, 0, 1, 0, 92, 0, 0], // 0 FIToFICstmrDrctDbt
     [20, 8, 0, 1, 0, 25, 0, 0], // 1 GrpHdr
     [28, 7, 8, 2, 0, 3, 0, 0], // 2 MsgId
@@ -182,23 +233,125 @@ const TABLE: [[u16; COLUMNS]; ROWS] = [
     [1129, 0, 11, 0, 0, 0, 0, 0], // 92 /Document
 ];
 
-// All tags, for whoever lends them down.
-pub fn all_tags() -> [u8; BYTES]
-    ensures { λ r. ⌜ r ≡ allTags v02 ⌝ }
+const TABLE_08: [[u16; COLUMNS]; ROWS] = [
+    [0, 20, 0, 1, 0, 92, 0, 0], // 0 FIToFICstmrDrctDbt
+    [20, 8, 0, 1, 0, 25, 0, 0], // 1 GrpHdr
+    [28, 7, 8, 2, 0, 3, 0, 0], // 2 MsgId
+    [43, 9, 10, 9, 0, 4, 1, 0], // 3 CreDtTm
+    [62, 9, 10, 5, 0, 5, 2, 0], // 4 NbOfTxs
+    [81, 24, 20, 3, 0, 6, 3, 0], // 5 TtlIntrBkSttlmAmt
+    [125, 15, 16, 8, 0, 7, 4, 0], // 6 IntrBkSttlmDt
+    [156, 10, 0, 1, 0, 10, 0, 0], // 7 SttlmInf
+    [166, 10, 11, 13, 0, 9, 5, 0], // 8 SttlmMtd
+    [187, 0, 11, 0, 0, 0, 0, 0], // 9 /SttlmInf
+    [198, 10, 0, 1, 1, 19, 0, 1], // 10 PmtTpInf
+    [208, 8, 0, 1, 0, 14, 0, 0], // 11 SvcLvl
+    [216, 4, 5, 14, 0, 13, 10, 0], // 12 Cd
+    [225, 0, 9, 0, 0, 0, 0, 0], // 13 /SvcLvl
+    [234, 11, 0, 1, 0, 17, 0, 0], // 14 LclInstrm
+    [245, 4, 5, 15, 0, 16, 11, 0], // 15 Cd
+    [254, 0, 12, 0, 0, 0, 0, 0], // 16 /LclInstrm
+    [266, 7, 8, 16, 0, 18, 12, 0], // 17 SeqTp
+    [281, 0, 11, 0, 0, 0, 0, 0], // 18 /PmtTpInf
+    [292, 10, 0, 1, 0, 24, 0, 0], // 19 InstgAgt
+    [302, 12, 0, 1, 0, 23, 0, 0], // 20 FinInstnId
+    [314, 7, 8, 20, 0, 22, 6, 0], // 21 BICFI
+    [329, 0, 13, 0, 0, 0, 0, 0], // 22 /FinInstnId
+    [342, 0, 11, 0, 0, 0, 0, 0], // 23 /InstgAgt
+    [353, 0, 9, 0, 0, 0, 0, 0], // 24 /GrpHdr
+    [362, 14, 0, 1, 2, 91, 0, 0], // 25 DrctDbtTxInf
+    [376, 7, 0, 1, 0, 31, 0, 0], // 26 PmtId
+    [383, 9, 10, 2, 1, 28, 7, 0], // 27 InstrId
+    [402, 12, 13, 19, 0, 29, 8, 0], // 28 EndToEndId
+    [427, 6, 7, 2, 0, 30, 9, 0], // 29 TxId
+    [440, 0, 8, 0, 0, 0, 0, 0], // 30 /PmtId
+    [448, 10, 0, 1, 1, 40, 0, 1], // 31 PmtTpInf
+    [458, 8, 0, 1, 0, 35, 0, 0], // 32 SvcLvl
+    [466, 4, 5, 14, 0, 34, 10, 0], // 33 Cd
+    [475, 0, 9, 0, 0, 0, 0, 0], // 34 /SvcLvl
+    [484, 11, 0, 1, 0, 38, 0, 0], // 35 LclInstrm
+    [495, 4, 5, 15, 0, 37, 11, 0], // 36 Cd
+    [504, 0, 12, 0, 0, 0, 0, 0], // 37 /LclInstrm
+    [516, 7, 8, 16, 0, 39, 12, 0], // 38 SeqTp
+    [531, 0, 11, 0, 0, 0, 0, 0], // 39 /PmtTpInf
+    [542, 21, 17, 4, 0, 41, 13, 0], // 40 IntrBkSttlmAmt
+    [580, 8, 9, 17, 0, 42, 14, 0], // 41 ChrgBr
+    [597, 14, 15, 8, 0, 43, 15, 0], // 42 ReqdColltnDt
+    [626, 11, 0, 1, 0, 61, 0, 0], // 43 DrctDbtTx
+    [637, 13, 0, 1, 0, 48, 0, 0], // 44 MndtRltdInf
+    [650, 8, 9, 2, 0, 46, 16, 0], // 45 MndtId
+    [667, 11, 12, 8, 0, 47, 17, 0], // 46 DtOfSgntr
+    [690, 0, 14, 0, 0, 0, 0, 0], // 47 /MndtRltdInf
+    [704, 13, 0, 1, 0, 60, 0, 0], // 48 CdtrSchmeId
+    [717, 4, 0, 1, 0, 59, 0, 0], // 49 Id
+    [721, 8, 0, 1, 0, 58, 0, 0], // 50 PrvtId
+    [729, 6, 0, 1, 0, 57, 0, 0], // 51 Othr
+    [735, 4, 5, 12, 0, 53, 18, 0], // 52 Id
+    [744, 9, 0, 1, 0, 56, 0, 0], // 53 SchmeNm
+    [753, 7, 8, 18, 0, 55, 19, 0], // 54 Prtry
+    [768, 0, 10, 0, 0, 0, 0, 0], // 55 /SchmeNm
+    [778, 0, 7, 0, 0, 0, 0, 0], // 56 /Othr
+    [785, 0, 9, 0, 0, 0, 0, 0], // 57 /PrvtId
+    [794, 0, 5, 0, 0, 0, 0, 0], // 58 /Id
+    [799, 0, 14, 0, 0, 0, 0, 0], // 59 /CdtrSchmeId
+    [813, 0, 12, 0, 0, 0, 0, 0], // 60 /DrctDbtTx
+    [825, 6, 0, 1, 0, 64, 0, 0], // 61 Cdtr
+    [831, 4, 5, 6, 0, 63, 20, 0], // 62 Nm
+    [840, 0, 7, 0, 0, 0, 0, 0], // 63 /Cdtr
+    [847, 10, 0, 1, 0, 69, 0, 0], // 64 CdtrAcct
+    [857, 4, 0, 1, 0, 68, 0, 0], // 65 Id
+    [861, 6, 7, 11, 0, 67, 21, 0], // 66 IBAN
+    [874, 0, 5, 0, 0, 0, 0, 0], // 67 /Id
+    [879, 0, 11, 0, 0, 0, 0, 0], // 68 /CdtrAcct
+    [890, 9, 0, 1, 0, 74, 0, 0], // 69 CdtrAgt
+    [899, 12, 0, 1, 0, 73, 0, 0], // 70 FinInstnId
+    [911, 7, 8, 20, 0, 72, 22, 0], // 71 BICFI
+    [926, 0, 13, 0, 0, 0, 0, 0], // 72 /FinInstnId
+    [939, 0, 10, 0, 0, 0, 0, 0], // 73 /CdtrAgt
+    [949, 6, 0, 1, 0, 77, 0, 0], // 74 Dbtr
+    [955, 4, 5, 6, 0, 76, 23, 0], // 75 Nm
+    [964, 0, 7, 0, 0, 0, 0, 0], // 76 /Dbtr
+    [971, 10, 0, 1, 0, 82, 0, 0], // 77 DbtrAcct
+    [981, 4, 0, 1, 0, 81, 0, 0], // 78 Id
+    [985, 6, 7, 11, 0, 80, 24, 0], // 79 IBAN
+    [998, 0, 5, 0, 0, 0, 0, 0], // 80 /Id
+    [1003, 0, 11, 0, 0, 0, 0, 0], // 81 /DbtrAcct
+    [1014, 9, 0, 1, 0, 87, 0, 0], // 82 DbtrAgt
+    [1023, 12, 0, 1, 0, 86, 0, 0], // 83 FinInstnId
+    [1035, 7, 8, 20, 0, 85, 25, 0], // 84 BICFI
+    [1050, 0, 13, 0, 0, 0, 0, 0], // 85 /FinInstnId
+    [1063, 0, 10, 0, 0, 0, 0, 0], // 86 /DbtrAgt
+    [1073, 8, 0, 1, 1, 90, 0, 0], // 87 RmtInf
+    [1081, 7, 8, 7, 0, 89, 26, 0], // 88 Ustrd
+    [1096, 0, 9, 0, 0, 0, 0, 0], // 89 /RmtInf
+    [1105, 0, 15, 0, 0, 0, 0, 0], // 90 /DrctDbtTxInf
+    [1120, 0, 21, 0, 0, 0, 0, 0], // 91 /FIToFICstmrDrctDbt
+    [1141, 0, 11, 0, 0, 0, 0, 0], // 92 /Document
+];
+
+// All tags of a version, for whoever lends them down.
+pub fn tags_of(v: Version) -> [u8; BYTES]
+    ensures { λ r. ⌜ r ≡ allTags v ⌝ }
 {
-    TAGS
+    match v {
+        Version::V02 => TAGS_02,
+        Version::V08 => TAGS_08,
+    }
 }
 
-// All rows, for whoever lends them down.
-pub fn all_rows() -> [[u16; COLUMNS]; ROWS]
-    ensures { λ r. ⌜ r ≡ table v02 ⌝ }
+// All rows of a version, for whoever lends them down.
+pub fn rows_of(v: Version) -> [[u16; COLUMNS]; ROWS]
+    ensures { λ r. ⌜ r ≡ table v ⌝ }
 {
-    TABLE
+    match v {
+        Version::V02 => TABLE_02,
+        Version::V08 => TABLE_08,
+    }
 }
 
-// The row of the item.
+// The row of the item, in any version.
 pub fn item_row() -> usize
-    ensures { λ r. ⌜ r ≡ itemRow v02 ⌝ }
+    ensures { λ r. ⌜ ItemsRow r ⌝ }
 {
     ITEM
 }
@@ -254,6 +407,7 @@ pub fn kind_of(n: u16) -> Kind
         17 => Kind::Code(Element::ChrgBr),
         18 => Kind::Code(Element::Prtry),
         19 => Kind::Plain(Simple::EndToEnd),
+        20 => Kind::Plain(Simple::Bicfi),
         _ => Kind::Plain(Simple::Reference),
     }
 }

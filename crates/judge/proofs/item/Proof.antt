@@ -3,10 +3,6 @@ use mathlib.Core.Path.{_∙_, ap, sym}
 use Rattle.judge.specs.Verdict.{meant}
 use Rattle.judge.specs.Found.{Found}
 use Rattle.judge.proofs.Walks.{found-verdict, item-there, item-none, item-refused}
-use mathlib.Core.Path.{_∙_, ap, sym}
-use Rattle.judge.specs.Verdict.{meant}
-use Rattle.judge.specs.Found.{Found}
-use Rattle.judge.proofs.Walks.{found-verdict, item-there, item-none, item-refused}
 use borrow.Author.Needs.{needs}
 use Rattle.judge.proofs.item.Statement.{statement}
 use Rattle.judge.proofs.item.Tie as tie
@@ -27,6 +23,9 @@ returns c =
     item-none (a .m .now) _ _ (sym (found-verdict (a .m .now)) ∙ ap (λ (f : Found). f .verdict) (sym (the-find .ensures)) ∙ ap meant (c .before .before .v2 .given .1))
     (a .i) (c .if1 .taken)
 
+version-of-requires : tie.Need-version-of-requires
+version-of-requires c κs = search needs
+
 walk-requires : tie.Need-walk-requires
 walk-requires c κs = search needs
 
@@ -38,12 +37,13 @@ returns-2 c =
 
 returns-3 : tie.Need-returns-3
 returns-3 c =
-    let a = c .before .before .before .before .before .before .before .args in
-    let the-find = c .before .before .before .before .before .find in
+    let a = c .before .before .before .before .before .before .before .before .args in
+    let the-find = c .before .before .before .before .before .before .find in
     c .walk .ensures ∙ item-there (a .m .now) _ _ (sym (found-verdict (a .m .now)) ∙ ap (λ (f : Found). f .verdict) (sym (the-find .ensures)) ∙ ap meant
-    (c .before .before .before .v2 .given .1)) (a .i) (c .before .if1 .left) _ (ap (λ (f : Found). f .first) (the-find .ensures))
+    (c .before .before .before .before .v2 .given .1)) (a .i) (c .before .before .if1 .left) _ (c .before .version-of .ensures) _
+    (ap (λ (f : Found). f .first) (the-find .ensures))
 
 pub item-spec : {M : Type 1} → statement M
 item-spec =
     tie.close
-    (tie.spec find-requires enum-known-v enum-known-v-2 returns walk-requires returns-2 returns-3)
+    (tie.spec find-requires enum-known-v enum-known-v-2 returns version-of-requires walk-requires returns-2 returns-3)

@@ -10,8 +10,8 @@ use Rattle.judge.proofs.read_through.Tie as tie
 open-message-requires : tie.Need-open-message-requires
 open-message-requires c κs = search needs
 
-enum-known-p : tie.Need-enum-known-p
-enum-known-p c = search needs
+enum-known-v : tie.Need-enum-known-v
+enum-known-v c = search needs
 
 message-requires : tie.Need-message-requires
 message-requires c κs = search needs
@@ -30,8 +30,8 @@ returns c =
     let a = c .before .before .before .before .before .before .args in
     let the-pre = c .before .before .before .before .before .before .pre in
     let the-open-message = c .before .before .before .before .open-message in (
-      through-from (a .m .now) (the-pre) (openedAs (the-open-message .result)) (the-open-message .ensures .0) (the-open-message .ensures .1) _
-          (ap openedAs (sym (c .before .before .p .given .1))) (stepped (c .message .result)) (c .message .ensures .0),
+      through-from (a .m .now) (the-pre) (openedAs (the-open-message .result)) (the-open-message .ensures .0) (the-open-message .ensures .1) _ _
+          (ap openedAs (sym (c .before .before .v .given .1))) (stepped (c .message .result)) (c .message .ensures .0),
       c .message .ensures .1,
     )
 
@@ -48,7 +48,7 @@ read-through-spec =
     tie.close
     (tie.spec
     open-message-requires
-    enum-known-p
+    enum-known-v
     message-requires
     enum-known-number
     new-requires

@@ -2,7 +2,6 @@
 use mathlib.Core.Path.{_≡_, _∙_, ap, sym, refl}
 use borrow.Author.Needs.{needs}
 use native.Mathlib.Omega.{arith}
-use Rattle.profile.specs.Version.{v02}
 use Rattle.notes.specs.Steps.{stated, metIn}
 use Rattle.judge.specs.Engine.{walkedIn}
 use Rattle.judge.proofs.Walks.{walk-stops, walk-here, walk-on}
@@ -10,10 +9,10 @@ use Rattle.judge.proofs.walk.Statement.{statement}
 use Rattle.judge.proofs.walk.Tie as tie
 
 abbrev Inv-loop : tie.InvT-loop
-Inv-loop m i first left₀ at₀ left at = walkedIn left v02 m at ≡ walkedIn i v02 m first
+Inv-loop v m i first left₀ at₀ left at = walkedIn left v m at ≡ walkedIn i v m first
 
 abbrev μ-loop : tie.MeasureT-loop
-μ-loop m i first left₀ at₀ left at = left
+μ-loop v m i first left₀ at₀ left at = left
 
 loop-holds : tie.Need-loop-holds Inv-loop μ-loop
 loop-holds c = refl
@@ -29,7 +28,7 @@ returns c =
     let a = c .before .before .before .before .before .before .before .args in
     let the-loop = c .before .before .before .before .before .loop in
     let the-item = c .before .before .before .before .item in
-    walk-stops v02 (a .m .now) (a .i) (a .first) (the-loop .left) (the-loop .at) (the-loop .inv) _ _
+    walk-stops (a .v) (a .m .now) (a .i) (a .first) (the-loop .left) (the-loop .at) (the-loop .inv) _ _
     (ap (λ x. metIn x (the-item .result .state)) (sym (c .before .met .given .1)) ∙ the-item .ensures .0)
 
 enum-told : tie.Need-enum-told Inv-loop μ-loop
@@ -46,7 +45,7 @@ returns-2 c =
     let a = c .before .before .before .before .before .before .before .before .before .args in
     let the-loop = c .before .before .before .before .before .before .before .loop in
     let the-item = c .before .before .before .before .before .before .item in
-    walk-here v02 (a .m .now) (a .i) (a .first) (the-loop .left) (the-loop .at) (the-loop .inv) (stated (the-item .result .state))
+    walk-here (a .v) (a .m .now) (a .i) (a .first) (the-loop .left) (the-loop .at) (the-loop .inv) (stated (the-item .result .state))
     (ap (λ x. metIn x (the-item .result .state)) (sym (c .before .before .before .enum-told .given .1)) ∙ the-item .ensures .0) (c .before .if1 .taken)
     (c .begin-at .result) (c .begin-at .ensures)
 
@@ -61,7 +60,7 @@ loop-again c =
     let a = c .before .before .before .before .before .before .before .before .args in
     let the-loop = c .before .before .before .before .before .before .loop in
     let the-item = c .before .before .before .before .before .item in
-    walk-on v02 (a .m .now) (a .i) (a .first) (the-loop .left) (the-loop .at) (the-loop .inv) (stated (the-item .result .state))
+    walk-on (a .v) (a .m .now) (a .i) (a .first) (the-loop .left) (the-loop .at) (the-loop .inv) (stated (the-item .result .state))
     (ap (λ x. metIn x (the-item .result .state)) (sym (c .before .before .enum-told .given .1)) ∙ the-item .ensures .0) (c .if1 .left)
 
 pub walk-spec : {M : Type 1} → statement M

@@ -49,11 +49,17 @@ bic-requires c κs = search needs
 enum-told-8 : tie.Need-enum-told-8
 enum-told-8 c = search needs
 
-iban-requires : tie.Need-iban-requires
-iban-requires c κs = search needs
+bicfi-requires : tie.Need-bicfi-requires
+bicfi-requires c κs = search needs
 
 enum-told-9 : tie.Need-enum-told-9
 enum-told-9 c = search needs
+
+iban-requires : tie.Need-iban-requires
+iban-requires c κs = search needs
+
+enum-told-10 : tie.Need-enum-told-10
+enum-told-10 c = search needs
 
 creditor-id-requires : tie.Need-creditor-id-requires
 creditor-id-requires c κs = search needs
@@ -88,11 +94,15 @@ returns-7 c = rw (c .before .enum-told7 .given .1) (c .bic .ensures)
 
 returns-8 : tie.Need-returns-8
 unfolding simpleGiven
-returns-8 c = rw (c .before .enum-told8 .given .1) (c .iban .ensures)
+returns-8 c = rw (c .before .enum-told8 .given .1) (c .bicfi .ensures)
 
 returns-9 : tie.Need-returns-9
 unfolding simpleGiven
-returns-9 c = rw (c .before .enum-told9 .given .1) (c .creditor-id .ensures)
+returns-9 c = rw (c .before .enum-told9 .given .1) (c .iban .ensures)
+
+returns-10 : tie.Need-returns-10
+unfolding simpleGiven
+returns-10 c = rw (c .before .enum-told10 .given .1) (c .creditor-id .ensures)
 
 pub simple-spec : {M : Type 1} → statement M
 simple-spec =
@@ -113,8 +123,10 @@ simple-spec =
     enum-told-7
     bic-requires
     enum-told-8
-    iban-requires
+    bicfi-requires
     enum-told-9
+    iban-requires
+    enum-told-10
     creditor-id-requires
     returns
     returns-2
@@ -124,4 +136,5 @@ simple-spec =
     returns-6
     returns-7
     returns-8
-    returns-9)
+    returns-9
+    returns-10)

@@ -5,7 +5,6 @@ use native.Mathlib.Omega.{arith}
 use borrow.Author.Needs.{needs}
 use Prim.Native.Nat.{ℕ, _+_, _-_, _*_, _<_}
 use lib.ListN.{length}
-use Rattle.profile.specs.Version.{v02}
 use Rattle.table.specs.Table.{due, occOf, markName, closesBy}
 use Rattle.table.proofs.Tied.{element-row, some-start, end-finish, leaf-finish, group-below as group-below-row}
 use Rattle.table.proofs.Rows.{row-tied, few-rows}
@@ -39,10 +38,10 @@ use Rattle.reader.proofs.+element+group.{statement}
 use Rattle.reader.proofs.+element+group.Tie.{close}
 
 abbrev μ-element : Measures 3 element-kinds.ps ℕ
-μ-element κs a = (length (a .0 .now) - a .1 .1 .1 .1 .0 .at) + deepIn (due v02 (a .1 .1 .1 .0))
+μ-element κs a = (length (a .0 .now) - a .1 .1 .1 .1 .0 .at) + deepIn (due (a .1 .1 .1 .1 .1 .0) (a .1 .1 .1 .0))
 
 abbrev μ-group : Measures 3 group-kinds.ps ℕ
-μ-group κs a = (length (a .0 .now) - a .1 .1 .1 .1 .0 .at) + deep (due v02 (a .1 .1 .1 .0))
+μ-group κs a = (length (a .0 .now) - a .1 .1 .1 .1 .0 .at) + deep (due (a .1 .1 .1 .1 .1 .0) (a .1 .1 .1 .0))
 
 abbrev element-at : ℕ → In 3 element-kinds.ps
 element-at t = and 3 element-kinds.ps (is 3 element-kinds.ps μ-element t) element.Pre
@@ -100,8 +99,8 @@ element-enter-requires : (t : ℕ) → element-lts.Need-enter-requires (element-
 element-enter-requires n c κs =
     let a = c .before .before .before in
     let r = c .row-at in
-    let w = row-tied v02 (a .args .rows .now) (a .args .k) (r .result) (r .ensures) (a .pre .1 .5) (a .pre .1 .1) in
-    (a .pre .1 .0, rw (r .ensures, a .pre .1 .5) (a .pre .1 .3), some-start v02 (a .args .k) (r .result) (due v02 (a .args .k)) (w .0) (a .pre .1 .2))
+    let w = row-tied (a .args .v) (a .args .rows .now) (a .args .k) (r .result) (r .ensures) (a .pre .1 .5) (a .pre .1 .1) in
+    (a .pre .1 .0, rw (r .ensures, a .pre .1 .5) (a .pre .1 .3), some-start (a .args .v) (a .args .k) (r .result) (due (a .args .v) (a .args .k)) (w .0) (a .pre .1 .2))
 
 element-enum-known-met : (t : ℕ) → element-lts.Need-enum-known-met (element-calls t) (element-at t) element.Post
 element-enum-known-met n c = search needs
@@ -116,25 +115,25 @@ element-add-group : (t : ℕ) → element-lts.Need-add-group (element-calls t) (
 element-add-group n c =
     let a = c .before .before .before .before .before .before .before .before .before in
     let r = c .before .before .before .before .before .before .row-at in
-    let w = row-tied v02 (a .args .rows .now) (a .args .k) (r .result) (r .ensures) (a .pre .1 .5) (a .pre .1 .1) in
-    omega (arith, a .pre .1 .1, few-rows v02)
+    let w = row-tied (a .args .v) (a .args .rows .now) (a .args .k) (r .result) (r .ensures) (a .pre .1 .5) (a .pre .1 .1) in
+    omega (arith, a .pre .1 .1, few-rows (a .args .v))
 
 element-group-requires : (t : ℕ) → element-lts.Need-group-requires (element-calls t) (element-at t) element.Post
 element-group-requires n c κs =
     let r = c .before .before .before .before .before .before .row-at in
     let e = c .before .before .before .before .before .enter in
     let a = c .before .before .before .before .before .before .before .before .before in
-    let w = row-tied v02 (a .args .rows .now) (a .args .k) (r .result) (r .ensures) (a .pre .1 .5) (a .pre .1 .1) in
+    let w = row-tied (a .args .v) (a .args .rows .now) (a .args .k) (r .result) (r .ensures) (a .pre .1 .5) (a .pre .1 .1) in
     let q = ap (λ x. metIn x (e .result .state)) (sym (c .before .before .enum-told .given .1)) in
     let g = fine-on (a .args .m .now) (a .args .st .at + 1) (stepped (e .result)) (stated (e .result .state)) q (e .ensures .1) in (
-      omega (arith, a .pre .0, g .0 .within, g .1, inner-deep v02 (a .args .k) (r .result) (due v02 (a .args .k)) (w .0) (a .pre .1 .2) (c .if1 .taken)),
+      omega (arith, a .pre .0, g .0 .within, g .1, inner-deep (a .args .v) (a .args .k) (r .result) (due (a .args .v) (a .args .k)) (w .0) (a .pre .1 .2) (c .if1 .taken)),
       (
         g .0,
-        group-below-row v02 (a .args .k) (r .result) (due v02 (a .args .k)) (w .0) (a .pre .1 .2) (c .if1 .taken),
+        group-below-row (a .args .v) (a .args .k) (r .result) (due (a .args .v) (a .args .k)) (w .0) (a .pre .1 .2) (c .if1 .taken),
         a .pre .1 .4,
         a .pre .1 .5,
-        group-room (a .args .m .now) v02 (a .args .k) (r .result) (a .args .st .at) (a .args .st .notes) (stated (e .result .state)) (q ∙ e .ensures .0)
-            (due v02 (a .args .k)) (w .0) (a .pre .1 .2) (c .if1 .taken) (due-fair v02 (a .args .k)) (a .pre .1 .6),
+        group-room (a .args .m .now) (a .args .v) (a .args .k) (r .result) (a .args .st .at) (a .args .st .notes) (stated (e .result .state)) (q ∙ e .ensures .0)
+            (due (a .args .v) (a .args .k)) (w .0) (a .pre .1 .2) (c .if1 .taken) (due-fair (a .args .v) (a .args .k)) (a .pre .1 .6),
       ),
     )
 
@@ -143,11 +142,11 @@ element-returns n c =
     let r = c .before .before .before .before .before .before .before .row-at in
     let e = c .before .before .before .before .before .before .enter in
     let a = c .before .before .before .before .before .before .before .before .before .before in
-    let w = row-tied v02 (a .args .rows .now) (a .args .k) (r .result) (r .ensures) (a .pre .1 .5) (a .pre .1 .1) in
+    let w = row-tied (a .args .v) (a .args .rows .now) (a .args .k) (r .result) (r .ensures) (a .pre .1 .5) (a .pre .1 .1) in
     let q = ap (λ x. metIn x (e .result .state)) (sym (c .before .before .before .enum-told .given .1)) in
     let g = fine-on (a .args .m .now) (a .args .st .at + 1) (stepped (e .result)) (stated (e .result .state)) q (e .ensures .1) in (
-      c .group .ensures .0 ∙ element-group v02 (a .args .k) (r .result) (a .args .m .now) (a .args .st .at) (a .args .st .notes) (stated (e .result .state))
-          (q ∙ e .ensures .0) (due v02 (a .args .k)) (w .0) (a .pre .1 .2) (c .before .if1 .taken),
+      c .group .ensures .0 ∙ element-group (a .args .v) (a .args .k) (r .result) (a .args .m .now) (a .args .st .at) (a .args .st .notes) (stated (e .result .state))
+          (q ∙ e .ensures .0) (due (a .args .v) (a .args .k)) (w .0) (a .pre .1 .2) (c .before .if1 .taken),
       later (a .args .m .now) (a .args .st .at + 1) (e .result .state .at) (g .1) (stepped (c .group .result)) (c .group .ensures .1),
     )
 
@@ -155,25 +154,25 @@ element-value-requires : (t : ℕ) → element-lts.Need-value-requires (element-
 element-value-requires n c κs =
     let a = c .before .before .before .before .before .before .before .before .before in
     let r = c .before .before .before .before .before .before .row-at in
-    let w = row-tied v02 (a .args .rows .now) (a .args .k) (r .result) (r .ensures) (a .pre .1 .5) (a .pre .1 .1) in
+    let w = row-tied (a .args .v) (a .args .rows .now) (a .args .k) (r .result) (r .ensures) (a .pre .1 .5) (a .pre .1 .1) in
     let e = c .before .before .before .before .before .enter in
     let q = ap (λ x. metIn x (e .result .state)) (sym (c .before .before .enum-told .given .1)) in
     let g = fine-on (a .args .m .now) (a .args .st .at + 1) (stepped (e .result)) (stated (e .result .state)) q (e .ensures .1) in (
       g .0,
-      leaf-finish v02 (a .args .k) (r .result) (a .args .names .now) (a .pre .1 .4) (due v02 (a .args .k)) (w .0) (a .pre .1 .2) (c .if1 .left),
-      value-room (a .args .m .now) v02 (a .args .k) (r .result) (a .args .st .at) (a .args .st .notes) (stated (e .result .state)) (q ∙ e .ensures .0)
-          (due v02 (a .args .k)) (w .0) (a .pre .1 .2) (c .if1 .left) (due-fair v02 (a .args .k)) (a .pre .1 .6),
+      leaf-finish (a .args .v) (a .args .k) (r .result) (a .args .names .now) (a .pre .1 .4) (due (a .args .v) (a .args .k)) (w .0) (a .pre .1 .2) (c .if1 .left),
+      value-room (a .args .m .now) (a .args .v) (a .args .k) (r .result) (a .args .st .at) (a .args .st .notes) (stated (e .result .state)) (q ∙ e .ensures .0)
+          (due (a .args .v) (a .args .k)) (w .0) (a .pre .1 .2) (c .if1 .left) (due-fair (a .args .v) (a .args .k)) (a .pre .1 .6),
     )
 
 element-returns-2 : (t : ℕ) → element-lts.Need-returns-2 (element-calls t) (element-at t) element.Post
 element-returns-2 n c =
     let a = c .before .before .before .before .before .before .before .before .before in
     let r = c .before .before .before .before .before .before .row-at in
-    let w = row-tied v02 (a .args .rows .now) (a .args .k) (r .result) (r .ensures) (a .pre .1 .5) (a .pre .1 .1) in
+    let w = row-tied (a .args .v) (a .args .rows .now) (a .args .k) (r .result) (r .ensures) (a .pre .1 .5) (a .pre .1 .1) in
     let e = c .before .before .before .before .before .enter in
     let q = ap (λ x. metIn x (e .result .state)) (sym (c .before .before .met .given .1)) in
-    passed-on (a .args .m .now) (a .args .st .at + 1) (stepped (c .refuse .result)) _ (reads (elementIn (due v02 (a .args .k)) (a .args .m .now) (a .args .st .at)) (a .args .st .notes)) (c .refuse .ensures)
-    (element-stops v02 (a .args .k) (r .result) (a .args .m .now) (a .args .st .at) (a .args .st .notes) (due v02 (a .args .k)) (w .0) (a .pre .1 .2) _ _ (q ∙ e .ensures .0))
+    passed-on (a .args .m .now) (a .args .st .at + 1) (stepped (c .refuse .result)) _ (reads (elementIn (due (a .args .v) (a .args .k)) (a .args .m .now) (a .args .st .at)) (a .args .st .notes)) (c .refuse .ensures)
+    (element-stops (a .args .v) (a .args .k) (r .result) (a .args .m .now) (a .args .st .at) (a .args .st .notes) (due (a .args .v) (a .args .k)) (w .0) (a .pre .1 .2) _ _ (q ∙ e .ensures .0))
     (fine-stop (a .args .m .now) (a .args .st .at + 1) (stepped (e .result)) _ _ q (e .ensures .1))
 
 element-returns-3 : (t : ℕ) → element-lts.Need-returns-3 (element-calls t) (element-at t) element.Post
@@ -181,24 +180,24 @@ element-returns-3 n c =
     let r = c .before .before .before .before .before .before .before .row-at in
     let e = c .before .before .before .before .before .before .enter in
     let a = c .before .before .before .before .before .before .before .before .before .before in
-    let w = row-tied v02 (a .args .rows .now) (a .args .k) (r .result) (r .ensures) (a .pre .1 .5) (a .pre .1 .1) in
+    let w = row-tied (a .args .v) (a .args .rows .now) (a .args .k) (r .result) (r .ensures) (a .pre .1 .5) (a .pre .1 .1) in
     let q = ap (λ x. metIn x (e .result .state)) (sym (c .before .before .before .enum-told .given .1)) in
     let g = fine-on (a .args .m .now) (a .args .st .at + 1) (stepped (e .result)) (stated (e .result .state)) q (e .ensures .1) in (
-      c .value .ensures .0 ∙ element-value v02 (a .args .k) (r .result) (a .args .m .now) (a .args .st .at) (a .args .st .notes) (stated (e .result .state))
-          (q ∙ e .ensures .0) (a .args .names .now) (a .pre .1 .4) (due v02 (a .args .k)) (w .0) (a .pre .1 .2) (c .before .if1 .left),
+      c .value .ensures .0 ∙ element-value (a .args .v) (a .args .k) (r .result) (a .args .m .now) (a .args .st .at) (a .args .st .notes) (stated (e .result .state))
+          (q ∙ e .ensures .0) (a .args .names .now) (a .pre .1 .4) (due (a .args .v) (a .args .k)) (w .0) (a .pre .1 .2) (c .before .if1 .left),
       later (a .args .m .now) (a .args .st .at + 1) (e .result .state .at) (g .1) (stepped (c .value .result)) (c .value .ensures .1),
     )
 
 abbrev group-Inv-loop : group-lts.InvT-loop
-group-Inv-loop m names rows first k₀ seen₀ st₀ k seen st = Loop v02 m first (stated st₀) k seen (stated st)
+group-Inv-loop m names rows first v k₀ seen₀ st₀ k seen st = Loop v m first (stated st₀) k seen (stated st)
 
 abbrev group-μ-loop : group-lts.MeasureT-loop
-group-μ-loop m names rows first k₀ seen₀ st₀ k seen st = 256 * (length m - st .at) + (255 - k)
+group-μ-loop m names rows first v k₀ seen₀ st₀ k seen st = 256 * (length m - st .at) + (255 - k)
 
 group-loop-holds : (t : ℕ) → group-lts.Need-loop-holds (group-calls t) (group-at t) group.Post group-Inv-loop group-μ-loop
 group-loop-holds n c =
     let a = c .before .before in
-    begin v02 (a .args .m .now) (a .args .first) (stated (a .args .start)) (a .pre .1 .0) (a .pre .1 .1) (a .pre .1 .4)
+    begin (a .args .v) (a .args .m .now) (a .args .first) (stated (a .args .start)) (a .pre .1 .0) (a .pre .1 .1) (a .pre .1 .4)
 
 group-row-at-requires : (t : ℕ) → group-lts.Need-row-at-requires (group-calls t) (group-at t) group.Post group-Inv-loop group-μ-loop
 group-row-at-requires n c κs = search needs
@@ -212,8 +211,8 @@ group-close-requires n c κs =
     let l = c .before .before .before .before .loop in
     let r = c .before .before .before .row-at in
     let s = c .before .before .skip in
-    let w = row-tied v02 (a .args .rows .now) (l .k) (r .result) (r .ensures) (a .pre .1 .3) (l .inv .row) in
-    (s .ensures .1, end-finish v02 (l .k) (r .result) (a .args .names .now) (a .pre .1 .2) (due v02 (l .k)) (w .0) (c .if1 .taken))
+    let w = row-tied (a .args .v) (a .args .rows .now) (l .k) (r .result) (r .ensures) (a .pre .1 .3) (l .inv .row) in
+    (s .ensures .1, end-finish (a .args .v) (l .k) (r .result) (a .args .names .now) (a .pre .1 .2) (due (a .args .v) (l .k)) (w .0) (c .if1 .taken))
 
 group-returns : (t : ℕ) → group-lts.Need-returns (group-calls t) (group-at t) group.Post group-Inv-loop group-μ-loop
 group-returns n c =
@@ -221,10 +220,10 @@ group-returns n c =
     let l = c .before .before .before .before .before .loop in
     let r = c .before .before .before .before .row-at in
     let s = c .before .before .before .skip in
-    let w = row-tied v02 (a .args .rows .now) (l .k) (r .result) (r .ensures) (a .pre .1 .3) (l .inv .row) in
-    loop-end v02 (a .args .m .now) (a .args .first) (stated (a .args .start)) (l .k) (l .seen) (stated (l .st)) (l .inv) (stated (s .result)) (s .ensures .0) (s .ensures .1) (s .ensures .2) (stepped (c .close .result))
+    let w = row-tied (a .args .v) (a .args .rows .now) (l .k) (r .result) (r .ensures) (a .pre .1 .3) (l .inv .row) in
+    loop-end (a .args .v) (a .args .m .now) (a .args .first) (stated (a .args .start)) (l .k) (l .seen) (stated (l .st)) (l .inv) (stated (s .result)) (s .ensures .0) (s .ensures .1) (s .ensures .2) (stepped (c .close .result))
     (c .close .ensures .0 ∙ ap (λ x. reads (closedBy (closesBy (a .args .names .now) (r .result)) (a .args .m .now) (x .at)) (x .notes)) (s .ensures .0)
-    ∙ ap (λ x. reads x (l .st .notes)) (ended v02 (l .k) (r .result) (a .args .names .now) (a .pre .1 .2) (a .args .m .now) (l .inv .left) (l .seen) (l .st .at) (due v02 (l .k)) (w .0) (c .before .if1 .taken)))
+    ∙ ap (λ x. reads x (l .st .notes)) (ended (a .args .v) (l .k) (r .result) (a .args .names .now) (a .pre .1 .2) (a .args .m .now) (l .inv .left) (l .seen) (l .st .at) (due (a .args .v) (l .k)) (w .0) (c .before .if1 .taken)))
     (c .close .ensures .1)
 
 group-due-now-requires : (t : ℕ) → group-lts.Need-due-now-requires (group-calls t) (group-at t) group.Post group-Inv-loop group-μ-loop
@@ -251,9 +250,9 @@ group-returns-2 n c =
     let the-due-now = c .before .before .before .before .before .due-now in
     let the-start-at = c .before .before .before .start-at in
     let a = c .before .before .before .before .before .before .before .before .before .before .before .before .before in
-    let w = row-tied v02 (a .args .rows .now) (l .k) (r .result) (r .ensures) (a .pre .1 .3) (l .inv .row) in
-    let t = tells v02 (l .k) (r .result) (due v02 (l .k)) (w .0) (the-if1 .left) in
-    loop-cut v02 (a .args .m .now) (a .args .first) (stated (a .args .start)) (l .k) (l .seen) (stated (l .st)) (l .inv) (stated (s .result)) (s .ensures .0)
+    let w = row-tied (a .args .v) (a .args .rows .now) (l .k) (r .result) (r .ensures) (a .pre .1 .3) (l .inv .row) in
+    let t = tells (a .args .v) (l .k) (r .result) (due (a .args .v) (l .k)) (w .0) (the-if1 .left) in
+    loop-cut (a .args .v) (a .args .m .now) (a .args .first) (stated (a .args .start)) (l .k) (l .seen) (stated (l .st)) (l .inv) (stated (s .result)) (s .ensures .0)
     (s .ensures .1) (s .ensures .2) (r .result) (w .1 .next) (a .args .names .now) (a .pre .1 .2) t (the-due-now .result) (the-due-now .ensures) (the-start-at .result)
     (the-start-at .ensures) (c .before .enum-told .given .1) (stepped (c .refuse .result)) (c .refuse .ensures)
 
@@ -276,9 +275,9 @@ group-returns-3 n c =
     let the-start-at = c .before .before .before .before .before .start-at in
     let the-pass = c .before .before .pass in
     let a = c .before .before .before .before .before .before .before .before .before .before .before .before .before .before .before in
-    let w = row-tied v02 (a .args .rows .now) (l .k) (r .result) (r .ensures) (a .pre .1 .3) (l .inv .row) in
-    let t = tells v02 (l .k) (r .result) (due v02 (l .k)) (w .0) (the-if1 .left) in
-    loop-miss v02 (a .args .m .now) (a .args .first) (stated (a .args .start)) (l .k) (l .seen) (stated (l .st)) (l .inv) (stated (s .result)) (s .ensures .0)
+    let w = row-tied (a .args .v) (a .args .rows .now) (l .k) (r .result) (r .ensures) (a .pre .1 .3) (l .inv .row) in
+    let t = tells (a .args .v) (l .k) (r .result) (due (a .args .v) (l .k)) (w .0) (the-if1 .left) in
+    loop-miss (a .args .v) (a .args .m .now) (a .args .first) (stated (a .args .start)) (l .k) (l .seen) (stated (l .st)) (l .inv) (stated (s .result)) (s .ensures .0)
     (s .ensures .1) (s .ensures .2) (r .result) (w .1 .next) (a .args .names .now) (a .pre .1 .2) t (the-due-now .result) (the-due-now .ensures) (the-start-at .result)
     (the-start-at .ensures) (c .before .before .before .enum-told2 .given .1) (stepped (the-pass .result)) (the-pass .ensures)
     (halted (the-pass .result .met) (the-pass .result .state) (sym (c .before .is-stopped .ensures) ∙ c .if2 .taken))
@@ -295,12 +294,12 @@ group-loop-less n c =
     let the-due-now = c .before .before .before .before .before .before .before .before .before .due-now in
     let the-pass = c .before .before .before .before .pass in
     let a = c .before .before .before .before .before .before .before .before .before .before .before .before .before .before .before .before .before in
-    let w = row-tied v02 (a .args .rows .now) (l .k) (r .result) (r .ensures) (a .pre .1 .3) (l .inv .row) in
-    let t = tells v02 (l .k) (r .result) (due v02 (l .k)) (w .0) (the-if1 .left) in
+    let w = row-tied (a .args .v) (a .args .rows .now) (l .k) (r .result) (r .ensures) (a .pre .1 .3) (l .inv .row) in
+    let t = tells (a .args .v) (l .k) (r .result) (due (a .args .v) (l .k)) (w .0) (the-if1 .left) in
     let q = went-on (the-pass .result .met) (the-pass .result .state) (sym (c .before .before .before .is-stopped .ensures) ∙ c .before .before .if2 .left) in
     let g = fine-on (a .args .m .now) (s .result .at) (stepped (the-pass .result)) (stated (the-pass .result .state)) q
     (rw (the-pass .ensures) (missing-fine (a .args .m .now) (occOf (the-due-now .result)) (markName (r .result .mark)) (s .result .at) (s .result .notes) (s .ensures .1))) in
-    omega (arith, s .ensures .2, t .later, w .1 .next, few-rows v02, g .0 .within, g .1)
+    omega (arith, s .ensures .2, t .later, w .1 .next, few-rows (a .args .v), g .0 .within, g .1)
 
 group-loop-again : (t : ℕ) → group-lts.Need-loop-again (group-calls t) (group-at t) group.Post group-Inv-loop group-μ-loop
 group-loop-again n c =
@@ -312,10 +311,10 @@ group-loop-again n c =
     let the-start-at = c .before .before .before .before .before .before .before .start-at in
     let the-pass = c .before .before .before .before .pass in
     let a = c .before .before .before .before .before .before .before .before .before .before .before .before .before .before .before .before .before in
-    let w = row-tied v02 (a .args .rows .now) (l .k) (r .result) (r .ensures) (a .pre .1 .3) (l .inv .row) in
-    let t = tells v02 (l .k) (r .result) (due v02 (l .k)) (w .0) (the-if1 .left) in
+    let w = row-tied (a .args .v) (a .args .rows .now) (l .k) (r .result) (r .ensures) (a .pre .1 .3) (l .inv .row) in
+    let t = tells (a .args .v) (l .k) (r .result) (due (a .args .v) (l .k)) (w .0) (the-if1 .left) in
     let q = went-on (the-pass .result .met) (the-pass .result .state) (sym (c .before .before .before .is-stopped .ensures) ∙ c .before .before .if2 .left) in
-    loop-pass v02 (a .args .m .now) (a .args .first) (stated (a .args .start)) (l .k) (l .seen) (stated (l .st)) (l .inv) (stated (s .result)) (s .ensures .0)
+    loop-pass (a .args .v) (a .args .m .now) (a .args .first) (stated (a .args .start)) (l .k) (l .seen) (stated (l .st)) (l .inv) (stated (s .result)) (s .ensures .0)
     (s .ensures .1) (s .ensures .2) (r .result) (w .1 .next) (a .args .names .now) (a .pre .1 .2) t (the-due-now .result) (the-due-now .ensures) (the-start-at .result)
     (the-start-at .ensures) (c .before .before .before .before .before .enum-told2 .given .1) (stepped (the-pass .result)) (the-pass .ensures)
     (stated (the-pass .result .state)) q
@@ -331,18 +330,18 @@ group-element-requires n c κs =
     let the-if1 = c .before .before .before .before .before .if1 in
     let the-start-at = c .before .before .start-at in
     let a = c .before .before .before .before .before .before .before .before .before .before .before .before in
-    let w = row-tied v02 (a .args .rows .now) (l .k) (r .result) (r .ensures) (a .pre .1 .3) (l .inv .row) in
-    let t = tells v02 (l .k) (r .result) (due v02 (l .k)) (w .0) (the-if1 .left) in (
-      omega (arith, a .pre .0, l .inv .on, s .ensures .2, element-deep (due v02 (l .k)), l .inv .depth),
+    let w = row-tied (a .args .v) (a .args .rows .now) (l .k) (r .result) (r .ensures) (a .pre .1 .3) (l .inv .row) in
+    let t = tells (a .args .v) (l .k) (r .result) (due (a .args .v) (l .k)) (w .0) (the-if1 .left) in (
+      omega (arith, a .pre .0, l .inv .on, s .ensures .2, element-deep (due (a .args .v) (l .k)), l .inv .depth),
       (
         s .ensures .1,
         l .inv .row,
         t .element,
-        within v02 (l .k) (r .result) (a .args .names .now) (a .pre .1 .2) (a .args .m .now) (a .args .rows .now) (a .pre .1 .3) (r .ensures) (s .result .at)
+        within (a .args .v) (l .k) (r .result) (a .args .names .now) (a .pre .1 .2) (a .args .m .now) (a .args .rows .now) (a .pre .1 .3) (r .ensures) (s .result .at)
             (s .ensures .1 .within) t (sym (c .enum-told3 .given .1) ∙ the-start-at .ensures),
         a .pre .1 .2,
         a .pre .1 .3,
-        element-amounts v02 (a .args .m .now) (a .args .first) (stated (a .args .start)) (l .k) (l .seen) (stated (l .st)) (l .inv) (stated (s .result)) (s .ensures .0)
+        element-amounts (a .args .v) (a .args .m .now) (a .args .first) (stated (a .args .start)) (l .k) (l .seen) (stated (l .st)) (l .inv) (stated (s .result)) (s .ensures .0)
             (s .ensures .1) (s .ensures .2),
       ),
     )
@@ -360,9 +359,9 @@ group-returns-4 n c =
     let the-start-at = c .before .before .before .before .before .start-at in
     let the-element = c .before .before .element in
     let a = c .before .before .before .before .before .before .before .before .before .before .before .before .before .before .before in
-    let w = row-tied v02 (a .args .rows .now) (l .k) (r .result) (r .ensures) (a .pre .1 .3) (l .inv .row) in
-    let t = tells v02 (l .k) (r .result) (due v02 (l .k)) (w .0) (the-if1 .left) in
-    loop-fail v02 (a .args .m .now) (a .args .first) (stated (a .args .start)) (l .k) (l .seen) (stated (l .st)) (l .inv) (stated (s .result)) (s .ensures .0)
+    let w = row-tied (a .args .v) (a .args .rows .now) (l .k) (r .result) (r .ensures) (a .pre .1 .3) (l .inv .row) in
+    let t = tells (a .args .v) (l .k) (r .result) (due (a .args .v) (l .k)) (w .0) (the-if1 .left) in
+    loop-fail (a .args .v) (a .args .m .now) (a .args .first) (stated (a .args .start)) (l .k) (l .seen) (stated (l .st)) (l .inv) (stated (s .result)) (s .ensures .0)
     (s .ensures .1) (s .ensures .2) (r .result) (w .1 .next) (a .args .names .now) (a .pre .1 .2) t (the-due-now .result) (the-due-now .ensures) (the-start-at .result)
     (the-start-at .ensures) (c .before .before .before .enum-told3 .given .1) (stepped (the-element .result)) (the-element .ensures .0) (the-element .ensures .1)
     (halted (the-element .result .met) (the-element .result .state) (sym (c .before .is-stopped2 .ensures) ∙ c .if3 .taken))
@@ -378,7 +377,7 @@ group-loop-less-2 n c =
     let a = c .before .before .before .before .before .before .before .before .before .before .before .before .before .before .before .before .before .before in
     let q = went-on (the-element .result .met) (the-element .result .state) (sym (c .before .before .before .before .is-stopped2 .ensures) ∙ c .before .before .before .if3 .left) in
     let g = fine-on (a .args .m .now) (s .result .at + 1) (stepped (the-element .result)) (stated (the-element .result .state)) q (the-element .ensures .1) in
-    omega (arith, s .ensures .2, g .1, g .0 .within, l .inv .row, few-rows v02)
+    omega (arith, s .ensures .2, g .1, g .0 .within, l .inv .row, few-rows (a .args .v))
 
 group-loop-again-2 : (t : ℕ) → group-lts.Need-loop-again-2 (group-calls t) (group-at t) group.Post group-Inv-loop group-μ-loop
 group-loop-again-2 n c =
@@ -390,10 +389,10 @@ group-loop-again-2 n c =
     let the-start-at = c .before .before .before .before .before .before .before .before .start-at in
     let the-element = c .before .before .before .before .before .element in
     let a = c .before .before .before .before .before .before .before .before .before .before .before .before .before .before .before .before .before .before in
-    let w = row-tied v02 (a .args .rows .now) (l .k) (r .result) (r .ensures) (a .pre .1 .3) (l .inv .row) in
-    let t = tells v02 (l .k) (r .result) (due v02 (l .k)) (w .0) (the-if1 .left) in
+    let w = row-tied (a .args .v) (a .args .rows .now) (l .k) (r .result) (r .ensures) (a .pre .1 .3) (l .inv .row) in
+    let t = tells (a .args .v) (l .k) (r .result) (due (a .args .v) (l .k)) (w .0) (the-if1 .left) in
     let q = went-on (the-element .result .met) (the-element .result .state) (sym (c .before .before .before .before .is-stopped2 .ensures) ∙ c .before .before .before .if3 .left) in
-    loop-next v02 (a .args .m .now) (a .args .first) (stated (a .args .start)) (l .k) (l .seen) (stated (l .st)) (l .inv) (stated (s .result)) (s .ensures .0)
+    loop-next (a .args .v) (a .args .m .now) (a .args .first) (stated (a .args .start)) (l .k) (l .seen) (stated (l .st)) (l .inv) (stated (s .result)) (s .ensures .0)
     (s .ensures .1) (s .ensures .2) (r .result) (w .1 .next) (a .args .names .now) (a .pre .1 .2) t (the-due-now .result) (the-due-now .ensures) (the-start-at .result)
     (the-start-at .ensures) (c .before .before .before .before .before .before .enum-told3 .given .1) (stepped (the-element .result)) (the-element .ensures .0) (the-element .ensures .1)
     (stated (the-element .result .state)) q (c .before .if4 .taken)
@@ -406,7 +405,7 @@ group-loop-less-3 n c =
     let a = c .before .before .before .before .before .before .before .before .before .before .before .before .before .before .before .before .before in
     let q = went-on (the-element .result .met) (the-element .result .state) (sym (c .before .before .before .is-stopped2 .ensures) ∙ c .before .before .if3 .left) in
     let g = fine-on (a .args .m .now) (s .result .at + 1) (stepped (the-element .result)) (stated (the-element .result .state)) q (the-element .ensures .1) in
-    omega (arith, s .ensures .2, g .1, g .0 .within, l .inv .row, few-rows v02)
+    omega (arith, s .ensures .2, g .1, g .0 .within, l .inv .row, few-rows (a .args .v))
 
 group-loop-again-3 : (t : ℕ) → group-lts.Need-loop-again-3 (group-calls t) (group-at t) group.Post group-Inv-loop group-μ-loop
 group-loop-again-3 n c =
@@ -418,10 +417,10 @@ group-loop-again-3 n c =
     let the-start-at = c .before .before .before .before .before .before .before .start-at in
     let the-element = c .before .before .before .before .element in
     let a = c .before .before .before .before .before .before .before .before .before .before .before .before .before .before .before .before .before in
-    let w = row-tied v02 (a .args .rows .now) (l .k) (r .result) (r .ensures) (a .pre .1 .3) (l .inv .row) in
-    let t = tells v02 (l .k) (r .result) (due v02 (l .k)) (w .0) (the-if1 .left) in
+    let w = row-tied (a .args .v) (a .args .rows .now) (l .k) (r .result) (r .ensures) (a .pre .1 .3) (l .inv .row) in
+    let t = tells (a .args .v) (l .k) (r .result) (due (a .args .v) (l .k)) (w .0) (the-if1 .left) in
     let q = went-on (the-element .result .met) (the-element .result .state) (sym (c .before .before .before .is-stopped2 .ensures) ∙ c .before .before .if3 .left) in
-    loop-more v02 (a .args .m .now) (a .args .first) (stated (a .args .start)) (l .k) (l .seen) (stated (l .st)) (l .inv) (stated (s .result)) (s .ensures .0)
+    loop-more (a .args .v) (a .args .m .now) (a .args .first) (stated (a .args .start)) (l .k) (l .seen) (stated (l .st)) (l .inv) (stated (s .result)) (s .ensures .0)
     (s .ensures .1) (s .ensures .2) (r .result) (w .1 .next) (a .args .names .now) (a .pre .1 .2) t (the-due-now .result) (the-due-now .ensures) (the-start-at .result)
     (the-start-at .ensures) (c .before .before .before .before .before .enum-told3 .given .1) (stepped (the-element .result)) (the-element .ensures .0) (the-element .ensures .1)
     (stated (the-element .result .state)) q (c .if4 .left)

@@ -1,7 +1,6 @@
 -- `reader::item` meets its contract.
 use mathlib.Core.Path.{_∙_, ap, sym}
 use lib.ListN.{drop}
-use Rattle.profile.specs.Version.{v02}
 use Rattle.tags.specs.Tags.{look}
 use Rattle.table.specs.Table.{due}
 use Rattle.notes.specs.Steps.{stated, stepped, reads}
@@ -19,7 +18,7 @@ refuse-requires : tie.Need-refuse-requires
 refuse-requires c κs = search needs
 
 returns : tie.Need-returns
-returns c = item-long v02 (c .before .before .before .before .args .m .now) (c .before .before .before .before .args .at) (c .before .before .if1 .taken) (stepped (c .refuse .result)) (c .refuse .ensures)
+returns c = item-long (c .before .before .before .before .args .v) (c .before .before .before .before .args .m .now) (c .before .before .before .before .args .at) (c .before .before .if1 .taken) (stepped (c .refuse .result)) (c .refuse .ensures)
 
 new-requires-2 : tie.Need-new-requires-2
 new-requires-2 c κs = search needs
@@ -30,7 +29,7 @@ refuse-requires-2 c κs = search needs
 returns-2 : tie.Need-returns-2
 returns-2 c =
     let a = c .before .before .before .before .before .args in
-    item-far v02 (a .m .now) (a .at) (c .before .before .before .if1 .left) (c .before .before .if2 .taken) (stepped (c .refuse2 .result)) (c .refuse2 .ensures)
+    item-far (a .v) (a .m .now) (a .at) (c .before .before .before .if1 .left) (c .before .before .if2 .taken) (stepped (c .refuse2 .result)) (c .refuse2 .ensures)
 
 cast-new : tie.Need-cast-new
 cast-new c = search needs
@@ -38,18 +37,18 @@ cast-new c = search needs
 new-requires-3 : tie.Need-new-requires-3
 new-requires-3 c κs = search needs
 
-all-tags-requires : tie.Need-all-tags-requires
-all-tags-requires c κs = search needs
+tags-of-requires : tie.Need-tags-of-requires
+tags-of-requires c κs = search needs
 
-all-rows-requires : tie.Need-all-rows-requires
-all-rows-requires c κs = search needs
+rows-of-requires : tie.Need-rows-of-requires
+rows-of-requires c κs = search needs
 
 skip-requires : tie.Need-skip-requires
 skip-requires c κs =
     let a = c .before .before .before .before .before .before .args in
     let the-if1 = c .before .before .before .before .if1 in
     let the-new3 = c .before .before .new3 in
-    begins v02 (a .m .now) (a .at) (the-if1 .left) (c .before .before .before .if2 .left) (stated (the-new3 .result)) (the-new3 .ensures)
+    begins (a .v) (a .m .now) (a .at) (the-if1 .left) (c .before .before .before .if2 .left) (stated (the-new3 .result)) (the-new3 .ensures)
 
 item-row-requires : tie.Need-item-row-requires
 item-row-requires c κs = search needs
@@ -82,23 +81,23 @@ element-requires : tie.Need-element-requires
 element-requires c κs =
     let a = c .before .before .before .before .before .before .before .before .before .before .before .before .before .before .before .before .before .args in
     let the-new3 = c .before .before .before .before .before .before .before .before .before .before .before .before .before .new3 in
-    let the-all-tags = c .before .before .before .before .before .before .before .before .before .before .before .before .all-tags in
-    let the-all-rows = c .before .before .before .before .before .before .before .before .before .before .before .all-rows in
+    let the-tags-of = c .before .before .before .before .before .before .before .before .before .before .before .before .tags-of in
+    let the-rows-of = c .before .before .before .before .before .before .before .before .before .before .before .rows-of in
     let the-skip = c .before .before .before .before .before .before .before .before .before .before .skip in
     let the-item-row = c .before .before .before .before .before .before .before .before .before .item-row in
     let the-row-at = c .before .before .before .before .before .before .row-at in
     let the-start-at = c .before .before .before .before .start-at in (
       the-skip .ensures .1,
-      item-below v02 (the-all-tags .result) (the-all-rows .result) (the-row-at .result) (the-item-row .result) (the-all-tags .ensures) (the-all-rows .ensures)
-          (the-item-row .ensures) (the-row-at .ensures),
-      item-there v02 (the-all-tags .result) (the-all-rows .result) (the-row-at .result) (the-item-row .result) (the-all-tags .ensures) (the-all-rows .ensures)
-          (the-item-row .ensures) (the-row-at .ensures),
-      item-within v02 (the-all-tags .result) (the-all-rows .result) (the-row-at .result) (the-item-row .result) (the-all-tags .ensures) (the-all-rows .ensures)
-          (the-item-row .ensures) (the-row-at .ensures) (a .m .now) (the-skip .result .at) (the-skip .ensures .1 .within)
+      item-below (a .v) (the-tags-of .result) (the-rows-of .result) (the-row-at .result) (the-item-row .result) (the-tags-of .ensures) (the-rows-of .ensures)
+          (the-item-row .ensures (a .v)) (the-row-at .ensures),
+      item-there (a .v) (the-tags-of .result) (the-rows-of .result) (the-row-at .result) (the-item-row .result) (the-tags-of .ensures) (the-rows-of .ensures)
+          (the-item-row .ensures (a .v)) (the-row-at .ensures),
+      item-within (a .v) (the-tags-of .result) (the-rows-of .result) (the-row-at .result) (the-item-row .result) (the-tags-of .ensures) (the-rows-of .ensures)
+          (the-item-row .ensures (a .v)) (the-row-at .ensures) (a .m .now) (the-skip .result .at) (the-skip .ensures .1 .within)
           (sym (c .before .before .enum-told .given .1) ∙ the-start-at .ensures),
-      the-all-tags .ensures,
-      the-all-rows .ensures,
-      item-room v02 (the-item-row .result) (the-item-row .ensures) _ _ (stated (the-new3 .result)) (stated (the-skip .result)) (the-new3 .ensures) (the-skip .ensures .0),
+      the-tags-of .ensures,
+      the-rows-of .ensures,
+      item-room (a .v) (the-item-row .result) (the-item-row .ensures (a .v)) _ _ (stated (the-new3 .result)) (stated (the-skip .result)) (the-new3 .ensures) (the-skip .ensures .0),
     )
 
 enum-told-2 : tie.Need-enum-told-2
@@ -119,19 +118,19 @@ returns-3 c =
     let the-if1 = c .before .before .before .before .before .before .before .before .before .before .before .before .before .before .before .before .if1 in
     let the-if2 = c .before .before .before .before .before .before .before .before .before .before .before .before .before .before .before .if2 in
     let the-new3 = c .before .before .before .before .before .before .before .before .before .before .before .before .before .before .new3 in
-    let the-all-tags = c .before .before .before .before .before .before .before .before .before .before .before .before .before .all-tags in
-    let the-all-rows = c .before .before .before .before .before .before .before .before .before .before .before .before .all-rows in
+    let the-tags-of = c .before .before .before .before .before .before .before .before .before .before .before .before .before .tags-of in
+    let the-rows-of = c .before .before .before .before .before .before .before .before .before .before .before .before .rows-of in
     let the-skip = c .before .before .before .before .before .before .before .before .before .before .before .skip in
     let the-item-row = c .before .before .before .before .before .before .before .before .before .before .item-row in
     let the-row-at = c .before .before .before .before .before .before .before .row-at in
     let the-start-at = c .before .before .before .before .before .start-at in
-    item-enters v02 (a .m .now) (a .at) (the-if1 .left) (the-if2 .left) (stated (the-new3 .result)) (the-new3 .ensures)
+    item-enters (a .v) (a .m .now) (a .at) (the-if1 .left) (the-if2 .left) (stated (the-new3 .result)) (the-new3 .ensures)
     (stated (the-skip .result)) (the-skip .ensures .0) (the-skip .ensures .1) (the-start-at .result)
     (the-start-at .ensures ∙ ap (λ t. look t (drop (the-skip .result .at) (a .m .now)))
-    (item-start v02 (the-all-tags .result) (the-all-rows .result) (the-row-at .result) (the-item-row .result) (the-all-tags .ensures) (the-all-rows .ensures)
-    (the-item-row .ensures) (the-row-at .ensures)))
+    (item-start (a .v) (the-tags-of .result) (the-rows-of .result) (the-row-at .result) (the-item-row .result) (the-tags-of .ensures) (the-rows-of .ensures)
+    (the-item-row .ensures (a .v)) (the-row-at .ensures)))
     (c .before .before .before .enum-told .given .1) (stepped (c .element .result))
-    (c .element .ensures .0 ∙ ap (λ k. reads (elementIn (due v02 k) (a .m .now) (the-skip .result .at)) (the-skip .result .notes)) (the-item-row .ensures))
+    (c .element .ensures .0 ∙ ap (λ k. reads (elementIn (due (a .v) k) (a .m .now) (the-skip .result .at)) (the-skip .result .notes)) (the-item-row .ensures (a .v)))
     (c .element .ensures .1)
 
 returns-4 : tie.Need-returns-4
@@ -140,17 +139,17 @@ returns-4 c =
     let the-if1 = c .before .before .before .before .before .before .before .before .before .before .before .before .before .before .if1 in
     let the-if2 = c .before .before .before .before .before .before .before .before .before .before .before .before .before .if2 in
     let the-new3 = c .before .before .before .before .before .before .before .before .before .before .before .before .new3 in
-    let the-all-tags = c .before .before .before .before .before .before .before .before .before .before .before .all-tags in
-    let the-all-rows = c .before .before .before .before .before .before .before .before .before .before .all-rows in
+    let the-tags-of = c .before .before .before .before .before .before .before .before .before .before .before .tags-of in
+    let the-rows-of = c .before .before .before .before .before .before .before .before .before .before .rows-of in
     let the-skip = c .before .before .before .before .before .before .before .before .before .skip in
     let the-item-row = c .before .before .before .before .before .before .before .before .item-row in
     let the-row-at = c .before .before .before .before .before .row-at in
     let the-start-at = c .before .before .before .start-at in
-    item-cut v02 (a .m .now) (a .at) (the-if1 .left) (the-if2 .left) (stated (the-new3 .result)) (the-new3 .ensures)
+    item-cut (a .v) (a .m .now) (a .at) (the-if1 .left) (the-if2 .left) (stated (the-new3 .result)) (the-new3 .ensures)
     (stated (the-skip .result)) (the-skip .ensures .0) (the-skip .ensures .1) (the-start-at .result)
     (the-start-at .ensures ∙ ap (λ t. look t (drop (the-skip .result .at) (a .m .now)))
-    (item-start v02 (the-all-tags .result) (the-all-rows .result) (the-row-at .result) (the-item-row .result) (the-all-tags .ensures) (the-all-rows .ensures)
-    (the-item-row .ensures) (the-row-at .ensures)))
+    (item-start (a .v) (the-tags-of .result) (the-rows-of .result) (the-row-at .result) (the-item-row .result) (the-tags-of .ensures) (the-rows-of .ensures)
+    (the-item-row .ensures (a .v)) (the-row-at .ensures)))
     (c .before .enum-told2 .given .1) (stepped (c .refuse3 .result)) (c .refuse3 .ensures)
 
 returns-5 : tie.Need-returns-5
@@ -159,17 +158,17 @@ returns-5 c =
     let the-if1 = c .before .before .before .before .before .before .before .before .before .before .before .before .before .before .if1 in
     let the-if2 = c .before .before .before .before .before .before .before .before .before .before .before .before .before .if2 in
     let the-new3 = c .before .before .before .before .before .before .before .before .before .before .before .before .new3 in
-    let the-all-tags = c .before .before .before .before .before .before .before .before .before .before .before .all-tags in
-    let the-all-rows = c .before .before .before .before .before .before .before .before .before .before .all-rows in
+    let the-tags-of = c .before .before .before .before .before .before .before .before .before .before .before .tags-of in
+    let the-rows-of = c .before .before .before .before .before .before .before .before .before .before .rows-of in
     let the-skip = c .before .before .before .before .before .before .before .before .before .skip in
     let the-item-row = c .before .before .before .before .before .before .before .before .item-row in
     let the-row-at = c .before .before .before .before .before .row-at in
     let the-start-at = c .before .before .before .start-at in
-    item-other v02 (a .m .now) (a .at) (the-if1 .left) (the-if2 .left) (stated (the-new3 .result)) (the-new3 .ensures)
+    item-other (a .v) (a .m .now) (a .at) (the-if1 .left) (the-if2 .left) (stated (the-new3 .result)) (the-new3 .ensures)
     (stated (the-skip .result)) (the-skip .ensures .0) (the-skip .ensures .1) (the-start-at .result)
     (the-start-at .ensures ∙ ap (λ t. look t (drop (the-skip .result .at) (a .m .now)))
-    (item-start v02 (the-all-tags .result) (the-all-rows .result) (the-row-at .result) (the-item-row .result) (the-all-tags .ensures) (the-all-rows .ensures)
-    (the-item-row .ensures) (the-row-at .ensures)))
+    (item-start (a .v) (the-tags-of .result) (the-rows-of .result) (the-row-at .result) (the-item-row .result) (the-tags-of .ensures) (the-rows-of .ensures)
+    (the-item-row .ensures (a .v)) (the-row-at .ensures)))
     (c .before .enum-told3 .given .1) (stepped (c .refuse-here .result)) (c .refuse-here .ensures)
 
 pub item-spec : {M : Type 1} → statement M
@@ -184,8 +183,8 @@ item-spec =
     returns-2
     cast-new
     new-requires-3
-    all-tags-requires
-    all-rows-requires
+    tags-of-requires
+    rows-of-requires
     skip-requires
     item-row-requires
     slice-aggregate-start-at

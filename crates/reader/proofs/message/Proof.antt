@@ -1,6 +1,5 @@
 -- `reader::message` meets its contract.
 use mathlib.Core.Path.{_∙_, ap}
-use Rattle.profile.specs.Version.{v02}
 use Rattle.table.proofs.Rows.{first-row}
 use Rattle.notes.specs.Steps.{stated, stepped}
 use Rattle.reader.proofs.Room.{profile-room}
@@ -16,7 +15,7 @@ refuse-requires : tie.Need-refuse-requires
 refuse-requires c κs = search needs
 
 returns : tie.Need-returns
-returns c = message-long v02 (c .before .before .before .before .args .m .now) (c .before .before .before .before .args .at) (c .before .before .if1 .taken) (stepped (c .refuse .result)) (c .refuse .ensures)
+returns c = message-long (c .before .before .before .before .args .v) (c .before .before .before .before .args .m .now) (c .before .before .before .before .args .at) (c .before .before .if1 .taken) (stepped (c .refuse .result)) (c .refuse .ensures)
 
 new-requires-2 : tie.Need-new-requires-2
 new-requires-2 c κs = search needs
@@ -27,7 +26,7 @@ refuse-requires-2 c κs = search needs
 returns-2 : tie.Need-returns-2
 returns-2 c =
     let a = c .before .before .before .before .before .args in
-    message-far v02 (a .m .now) (a .at) (c .before .before .before .if1 .left) (c .before .before .if2 .taken) (stepped (c .refuse2 .result)) (c .refuse2 .ensures)
+    message-far (a .v) (a .m .now) (a .at) (c .before .before .before .if1 .left) (c .before .before .if2 .taken) (stepped (c .refuse2 .result)) (c .refuse2 .ensures)
 
 cast-new : tie.Need-cast-new
 cast-new c = search needs
@@ -35,11 +34,11 @@ cast-new c = search needs
 new-requires-3 : tie.Need-new-requires-3
 new-requires-3 c κs = search needs
 
-all-tags-requires : tie.Need-all-tags-requires
-all-tags-requires c κs = search needs
+tags-of-requires : tie.Need-tags-of-requires
+tags-of-requires c κs = search needs
 
-all-rows-requires : tie.Need-all-rows-requires
-all-rows-requires c κs = search needs
+rows-of-requires : tie.Need-rows-of-requires
+rows-of-requires c κs = search needs
 
 slice-aggregate-group : tie.Need-slice-aggregate-group
 slice-aggregate-group c = search needs
@@ -53,11 +52,11 @@ group-requires c κs =
     let the-if1 = c .before .before .before .before .before .before .if1 in
     let the-if2 = c .before .before .before .before .before .if2 in
     let the-new3 = c .before .before .before .before .new3 in (
-      begins v02 (a .m .now) (a .at) (the-if1 .left) (the-if2 .left) (stated (the-new3 .result)) (the-new3 .ensures),
-      first-row v02,
-      c .before .before .before .all-tags .ensures,
-      c .before .before .all-rows .ensures,
-      profile-room v02 (a .at) (stated (the-new3 .result)) (the-new3 .ensures),
+      begins (a .v) (a .m .now) (a .at) (the-if1 .left) (the-if2 .left) (stated (the-new3 .result)) (the-new3 .ensures),
+      first-row (a .v),
+      c .before .before .before .tags-of .ensures,
+      c .before .before .rows-of .ensures,
+      profile-room (a .v) (a .at) (stated (the-new3 .result)) (the-new3 .ensures),
     )
 
 returns-3 : tie.Need-returns-3
@@ -66,7 +65,7 @@ returns-3 c =
     let the-if1 = c .before .before .before .before .before .before .before .if1 in
     let the-if2 = c .before .before .before .before .before .before .if2 in
     let the-new3 = c .before .before .before .before .before .new3 in
-    message-is v02 (a .m .now) (a .at) (the-if1 .left) (the-if2 .left) (stated (the-new3 .result)) (the-new3 .ensures)
+    message-is (a .v) (a .m .now) (a .at) (the-if1 .left) (the-if2 .left) (stated (the-new3 .result)) (the-new3 .ensures)
     (stepped (c .group .result)) (c .group .ensures .0) (c .group .ensures .1)
 
 pub message-spec : {M : Type 1} → statement M
@@ -81,8 +80,8 @@ message-spec =
     returns-2
     cast-new
     new-requires-3
-    all-tags-requires
-    all-rows-requires
+    tags-of-requires
+    rows-of-requires
     slice-aggregate-group
     slice-aggregate-group-2
     group-requires

@@ -73,7 +73,11 @@ unfolding kindOf
 returns-17 c = rw (c .match .keys17)
 
 returns-18 : tie.Need-returns-18
-returns-18 c = other-kind (c .before .args .n) (c .match .rest)
+unfolding kindOf
+returns-18 c = rw (c .match .keys18)
+
+returns-19 : tie.Need-returns-19
+returns-19 c = other-kind (c .before .args .n) (c .match .rest)
 
 pub kind-of-spec : {M : Type 1} → statement M
 kind-of-spec =
@@ -96,4 +100,5 @@ kind-of-spec =
     returns-15
     returns-16
     returns-17
-    returns-18)
+    returns-18
+    returns-19)
