@@ -1,5 +1,6 @@
 /*
- * The C face of the proved library libbulk.a, which judges one SEPA direct-debit bulk (a pacs.003 message).
+ * The C face of the proved library libbulk.a, which judges one SEPA direct-debit bulk (a pacs.003 message of version 001.02 or 001.08;
+ * it is read as the version that its root names).
  * docs/FACE.md tells how to link it, docs/REFUSALS.md what each refusal number means, docs/PROMISES.md what is proved.
  *
  * Each function takes any bytes, always ends, and writes all three words of the answer:
@@ -37,16 +38,18 @@ void bulk_item(const uint8_t *message, size_t length, uint64_t i, uint64_t answe
  * the area is as lent. Bytes behind the last record are as lent. */
 void bulk_records(const uint8_t *message, size_t length, uint8_t *area, size_t area_length, uint64_t answer[BULK_ANSWER]);
 
-/* The plain form, which two messages share exactly when they say the same: 0, its length, 0, and the area begins with it; or number,
- * place, 0, and the area is as lent. Bytes behind the form are as lent. It is at most 38 bytes, and 3 for the total and for each item,
- * longer than the message. */
+/* The plain form, which two messages share exactly when they say the same in one version: 0, its length, 0, and the area begins with
+ * it; or number, place, 0, and the area is as lent. Bytes behind the form are as lent. It is at most 38 bytes, and 3 for the total and
+ * for each item, longer than the message. */
 void bulk_plain(const uint8_t *message, size_t length, uint8_t *area, size_t area_length, uint64_t answer[BULK_ANSWER]);
 
 /* One value: 0, 0, 0; or number, 0, 0. The number is 7; of an IBAN 7, 19 or 8, of a creditor identifier 7 or 8. An EndToEndId and the
- * two texts are judged with their white space collapsed: tab, CR and LF count as space, runs become one, ends are stripped. */
+ * two texts are judged with their white space collapsed: tab, CR and LF count as space, runs become one, ends are stripped. bulk_bic
+ * judges the BIC of pacs.003.001.02, bulk_bicfi the wider one of pacs.003.001.08. */
 void bulk_iban(const uint8_t *value, size_t length, uint64_t answer[BULK_ANSWER]);
 void bulk_creditor_id(const uint8_t *value, size_t length, uint64_t answer[BULK_ANSWER]);
 void bulk_bic(const uint8_t *value, size_t length, uint64_t answer[BULK_ANSWER]);
+void bulk_bicfi(const uint8_t *value, size_t length, uint64_t answer[BULK_ANSWER]);
 void bulk_date(const uint8_t *value, size_t length, uint64_t answer[BULK_ANSWER]);
 void bulk_time(const uint8_t *value, size_t length, uint64_t answer[BULK_ANSWER]);
 void bulk_reference(const uint8_t *value, size_t length, uint64_t answer[BULK_ANSWER]);

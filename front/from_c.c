@@ -36,6 +36,10 @@ static void check_values(void)
     check(bulk_creditor_id, "DE00ZZZ09999999999", 8, 0);
     check(bulk_bic, "BANKDEFFXXX", 0, 0);
     check(bulk_bic, "BANKDEFFXX", 7, 0);
+    check(bulk_bic, "1BNKDEFF", 7, 0);
+    check(bulk_bicfi, "1BNKDEFF", 0, 0);
+    check(bulk_bicfi, "BANKDEFFXXX", 0, 0);
+    check(bulk_bicfi, "BANK1EFF", 7, 0);
     check(bulk_date, "2000-02-29", 0, 0);
     check(bulk_date, "1900-02-29", 7, 0);
     check(bulk_time, "2010-12-01T09:30:00+14:00", 0, 0);
@@ -91,6 +95,42 @@ static void check_message(const uint8_t *message, size_t length)
     hold("item", answer, 0, behind(message, "</GrpHdr>"), behind(message, "</DrctDbtTxInf>"));
     bulk_item(message, length, 1, answer);
     hold("item, not there", answer, 18, 0, 0);
+}
+
+/* The example in version 001.08: another root, and each BIC is BICFI. Answers its length. */
+static size_t in_08(const uint8_t *message, size_t length, uint8_t *other)
+{
+    size_t at, written = 0;
+    for (at = 0; at < length; at++) {
+        if (message[at] == '>' && at >= 3 && memcmp(message + at - 3, "BIC", 3) == 0) {
+            other[written++] = 'F';
+            other[written++] = 'I';
+        }
+        other[written++] = message[at];
+    }
+    other[behind(other, "pacs.003.001.0")] = '8';
+    return written;
+}
+
+/* Both versions: each under its own root, one under the other's, and under a root of neither. */
+static void check_versions(const uint8_t *message, size_t length)
+{
+    static uint8_t other[4096];
+    uint64_t answer[BULK_ANSWER];
+    size_t number = (size_t)behind(message, "pacs.003.001.0");
+    size_t other_length = in_08(message, length, other);
+    bulk_judge(other, other_length, answer);
+    hold("judge, version 001.08", answer, 0, 1, 1234);
+    other[number] = '2';
+    bulk_judge(other, other_length, answer);
+    hold("judge, BICFI in version 001.02", answer, 4, behind(other, "<FinInstnId>"), 0);
+    other[number] = '9';
+    bulk_judge(other, other_length, answer);
+    hold("judge, neither version", answer, 2, 0, 0);
+    memcpy(other, message, length);
+    other[number] = '8';
+    bulk_judge(other, length, answer);
+    hold("judge, BIC in version 001.08", answer, 4, behind(message, "<FinInstnId>"), 0);
 }
 
 /* A book with two places more than it must have: as entries, and as the bytes that the header names. */
@@ -327,6 +367,7 @@ int main(int words, char **word)
     }
     check_values();
     check_message(message, length);
+    check_versions(message, length);
     check_layout();
     check_enter(message, length);
     check_withdraw(message, length);

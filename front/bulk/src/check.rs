@@ -11,10 +11,11 @@ use face::Kind;
 use std::ffi::OsStr;
 use std::os::unix::ffi::OsStrExt;
 
-const KINDS: [(&str, Kind); 12] = [
+const KINDS: [(&str, Kind); 13] = [
     ("iban", Kind::Iban),
     ("creditor-id", Kind::CreditorId),
     ("bic", Kind::Bic),
+    ("bicfi", Kind::Bicfi),
     ("count", Kind::Count),
     ("item-amount", Kind::ItemAmount),
     ("header-amount", Kind::HeaderAmount),

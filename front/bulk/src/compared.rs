@@ -1,13 +1,18 @@
-//! What two plain forms differ in: the elements of the header, and the first element of the first item.
-//! The library has written them, so what is compared here is bytes alone.
+//! What two plain forms differ in: the version, the elements of the header, and the first element of the
+//! first item. The library has written them, so what is compared here is bytes alone. Where the versions
+//! differ, a BIC of the one is held against that of the other, so that all else that differs is told too.
 
 use crate::doubled::Group;
-use crate::message::{self, Item};
+use crate::message::{self, Contents, Item};
 use crate::show::shown;
 use crate::tags::{until, Open, Tags, HEADER, ITEM};
+use crate::version::Version;
 
 /// What every plain form ends with, behind its last item.
 const END: &[u8] = b"</FIToFICstmrDrctDbt></Document>";
+
+/// The element whose namespace is the version.
+pub const ROOT: &str = "Document";
 
 /// A value in which the two differ.
 #[derive(Debug, PartialEq, Eq)]
@@ -15,7 +20,8 @@ pub struct Difference<'a> {
     /// The number of the item, from 1, with its TxId on either side, empty where there is no such item;
     /// none for the header.
     pub item: Option<(usize, [&'a [u8]; 2])>,
-    /// The path of the element in the header or in the item; none for an item that one side has alone.
+    /// The path of the element in the header or in the item; the root for the version; none for an item
+    /// that one side has alone.
     pub element: Option<String>,
     /// What it says on either side, if it is there. Of a whole item that is its TxId.
     pub values: [Option<&'a [u8]>; 2],
@@ -24,7 +30,7 @@ pub struct Difference<'a> {
 /// Two plain forms that were compared.
 #[derive(Debug, PartialEq, Eq)]
 pub struct Compared<'a> {
-    /// All in the header, and the first in the first item that differs.
+    /// The version, all in the header, and the first in the first item that differs.
     pub differences: Vec<Difference<'a>>,
     /// The numbers of all items that differ, or that one side has alone.
     pub items: Group,
@@ -34,9 +40,14 @@ impl<'a> Compared<'a> {
     /// Compares two plain forms.
     pub fn of(one: &'a [u8], other: &'a [u8]) -> Compared<'a> {
         let (one, other) = (Parts::of(one), Parts::of(other));
-        let mut differences = between(one.header, other.header, None);
+        let mut differences = Vec::from_iter(versions(&one, &other));
+        differences.extend(between(one.header, other.header, None));
         let most = one.items.len().max(other.items.len());
-        let items: Group = (1..=most).filter(|&at| one.item(at) != other.item(at)).collect();
+        let differ = |&at: &usize| match (one.item(at), other.item(at)) {
+            (Some(one), Some(other)) => one != other && !between(one, other, None).is_empty(),
+            _ => true,
+        };
+        let items: Group = (1..=most).filter(differ).collect();
         differences.extend(items.first().and_then(|&at| first_in(at, &one, &other)));
         Compared { differences, items }
     }
@@ -45,6 +56,13 @@ impl<'a> Compared<'a> {
     pub fn is_same(&self) -> bool {
         self.differences.is_empty()
     }
+}
+
+/// The versions, where they differ.
+fn versions<'a>(one: &Parts, other: &Parts) -> Option<Difference<'a>> {
+    let values = [one, other].map(|parts| parts.version.map(|version| version.name().as_bytes()));
+    let element = Some(ROOT.to_string());
+    (values[0] != values[1]).then_some(Difference { item: None, element, values })
 }
 
 /// The first difference in an item, by its number.
@@ -67,15 +85,16 @@ struct Parts<'a> {
     items: Vec<Item<'a>>,
     /// Where the last item ends.
     end: usize,
+    version: Option<Version>,
 }
 
 impl<'a> Parts<'a> {
     /// The parts of a form.
     fn of(form: &'a [u8]) -> Parts<'a> {
-        let items = message::read(form, form.len()).items;
+        let Contents { items, version, .. } = message::read(form, form.len());
         let end = form.len().saturating_sub(END.len());
         let header = &form[..items.first().map_or(end, |item| item.place)];
-        Parts { form, header, items, end }
+        Parts { form, header, items, end, version }
     }
 
     /// The bytes of an item, by its number from 1, if it is there.
@@ -94,6 +113,17 @@ impl<'a> Parts<'a> {
 /// A value and the path of its element.
 type Value<'a> = (String, &'a [u8]);
 
+/// Of the path of a BIC, in either version, the group that it stands in.
+fn around_bic(path: &str) -> Option<&str> {
+    let (group, name) = path.rsplit_once('/')?;
+    Version::is_bic(name.as_bytes()).then_some(group)
+}
+
+/// Whether two paths are those of one element: of a BIC also in two versions.
+fn is_one(path: &str, other: &str) -> bool {
+    path == other || (around_bic(path).is_some() && around_bic(path) == around_bic(other))
+}
+
 /// The values of a header or an item in their order. In a plain form nothing stands behind the start
 /// tag of a group, and no value is empty.
 fn values(part: &[u8]) -> Vec<Value<'_>> {
@@ -111,7 +141,7 @@ fn values(part: &[u8]) -> Vec<Value<'_>> {
 }
 
 /// What two headers or two items differ in, in the order of their elements. An element that comes next
-/// on one side and not at all on the other is missing there.
+/// on one side and not at all on the other is missing there. A path is told as the first side has it.
 fn between<'a>(
     one: &'a [u8],
     other: &'a [u8],
@@ -122,10 +152,11 @@ fn between<'a>(
     let mut found = Vec::new();
     loop {
         let next = match ones.first() {
-            Some(one) if others.iter().all(|other| other.0 != one.0) => Some(one),
+            Some(one) if others.iter().all(|other| !is_one(&other.0, &one.0)) => Some(one),
             _ => others.first(),
         };
         let Some((path, _)) = next else { return found };
+        let path = ones.first().map(|one| &one.0).filter(|one| is_one(one, path)).unwrap_or(path);
         let values = [take(&mut ones, path), take(&mut others, path)];
         if values[0] != values[1] {
             found.push(Difference { item, element: Some(path.clone()), values });
@@ -135,7 +166,7 @@ fn between<'a>(
 
 /// Takes the next value if it is of this path.
 fn take<'a>(left: &mut &[Value<'a>], path: &str) -> Option<&'a [u8]> {
-    let (first, rest) = left.split_first().filter(|(first, _)| first.0 == path)?;
+    let (first, rest) = left.split_first().filter(|(first, _)| is_one(&first.0, path))?;
     *left = rest;
     Some(first.1)
 }
@@ -232,6 +263,38 @@ mod tests {
         let other = evening(&[(text, "")]);
         assert_eq!(told(&one, &other), [format!("1 RmtInf/Ustrd: {said}, none")]);
         assert_eq!(told(&other, &one), [format!("1 RmtInf/Ustrd: none, {said}")]);
+    }
+
+    /// The other version alone, and with other differences: each BIC is held against its own.
+    #[test]
+    fn two_versions() {
+        let one = evening(&[]);
+        let as_08 = |form: &[u8]| {
+            let text = String::from_utf8(form.to_vec()).unwrap();
+            text.replacen("001.02", "001.08", 1).replace("BIC>", "BICFI>").into_bytes()
+        };
+        let versions = "0 Document: pacs.003.001.02, pacs.003.001.08";
+        assert_eq!(told(&one, &as_08(&one)), [versions]);
+        assert_eq!(told(&as_08(&one), &one), ["0 Document: pacs.003.001.08, pacs.003.001.02"]);
+        assert_eq!(told(&as_08(&one), &as_08(&one)), [""; 0]);
+        let other = as_08(&evening(&[("HAFNDEHHXXX", "1AFNDEHHXXX"), ("TULPNL2A", "TUL1NL2A")]));
+        let compared = Compared::of(&one, &other);
+        assert_eq!(compared.items, [3]);
+        let due = [
+            versions,
+            "0 InstgAgt/FinInstnId/BIC: HAFNDEHHXXX, 1AFNDEHHXXX",
+            "3 DbtrAgt/FinInstnId/BIC: TULPNL2A, TUL1NL2A",
+        ];
+        assert_eq!(told(&one, &other), due);
+        let due = "3 DbtrAgt/FinInstnId/BICFI: TUL1NL2A, TULPNL2A";
+        assert_eq!(told(&other, &one).last().unwrap(), due);
+        // An element on one side alone, and an item.
+        let other = as_08(&evening(&[("<PmtId>", "<PmtId><InstrId>I-1</InstrId>")]));
+        assert_eq!(told(&one, &other), [versions, "1 PmtId/InstrId: none, I-1"]);
+        let parts = Parts::of(&one);
+        let fewer = [&one[..parts.items[4].place], &one[parts.end..]].concat();
+        let due = [versions, "5 all of it: TX-20261028-0005, none"];
+        assert_eq!(told(&one, &as_08(&fewer)), due);
     }
 
     #[test]

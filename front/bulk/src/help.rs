@@ -10,7 +10,7 @@ pub fn page(language: Language) -> &'static str {
 pub const VERSION: &str = concat!("bulk ", env!("CARGO_PKG_VERSION"), "\n");
 
 const ENGLISH: &str = "\
-bulk judges a SEPA direct-debit bulk (pacs.003.001.02) before it is signed.
+bulk judges a SEPA direct-debit bulk, pacs.003.001.02 or .08, before signing.
 
   bulk judge FILE..       one line per file: accepted with count and total, or
                           refused with place and why. In short: bulk FILE..
@@ -19,9 +19,9 @@ bulk judges a SEPA direct-debit bulk (pacs.003.001.02) before it is signed.
   bulk plain FILE [OUT]   the plain form: no indentation, no needless zeros
   bulk same FILE FILE     whether two plain forms are the same, or what differs
   bulk book SCRIPT        a day book; lines: enter, withdraw, find, total, list
-  bulk check KIND VALUE   one value; KIND is iban, creditor-id, bic, count,
-                          item-amount, header-amount, date, time, reference,
-                          end-to-end, text70 (name) or text140 (remittance text)
+  bulk check KIND VALUE   one value; KIND is iban, creditor-id, bic, bicfi,
+                          count, item-amount, header-amount, date, time,
+                          reference, end-to-end, text70 (name), text140 (text)
   bulk explain [N]        what refusal N means, its causes, what to do
 
 - is standard input, as OUT standard output; a folder means its .xml files.
@@ -37,7 +37,7 @@ Exit status: 0 accepted, same; 1 refused, different; 2 could not do its work.
 ";
 
 const GERMAN: &str = "\
-bulk prüft einen SEPA-Lastschrift-Bulk (Sammler), pacs.003.001.02, vor Freigabe.
+bulk prüft einen SEPA-Lastschrift-Bulk (Sammler), pacs.003.001.02 oder .08.
 
   bulk judge DATEI..       je Datei eine Zeile: angenommen mit Anzahl und Summe
                            oder abgelehnt mit Stelle und Grund. Kurz: bulk DATEI
@@ -46,9 +46,9 @@ bulk prüft einen SEPA-Lastschrift-Bulk (Sammler), pacs.003.001.02, vor Freigabe
   bulk plain DATEI [ZIEL]  Normalform: ohne Einrückung und überflüssige Nullen
   bulk same DATEI DATEI    ob zwei Normalformen gleich sind, sonst was abweicht
   bulk book SKRIPT         Tagebuch; Zeilen: enter, withdraw, find, total, list
-  bulk check ART WERT      ein Wert; ART ist iban, bic, count, date, time,
-                           reference, end-to-end, creditor-id, item-amount,
-                           header-amount, text70 (Name) oder text140 (Zweck)
+  bulk check ART WERT      ein Wert; ART ist iban, bic, bicfi, count, date,
+                           time, reference, end-to-end, creditor-id, text140
+                           (Zweck), text70 (Name), item-amount, header-amount
   bulk explain [N]         Bedeutung von Ablehnung N, Ursachen, was zu tun ist
 
 - ist die Standardeingabe, als ZIEL die Standardausgabe. Ein Ordner meint seine

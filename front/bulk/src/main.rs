@@ -33,6 +33,7 @@ mod tags;
 mod target;
 mod trouble;
 mod verdict;
+mod version;
 mod why;
 
 use call::{Call, Command};

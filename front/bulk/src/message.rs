@@ -3,6 +3,7 @@
 
 use crate::collapsed::collapsed;
 use crate::tags::{until, Open, Tags, ITEM};
+use crate::version::Version;
 use face::Kind;
 use std::borrow::Cow;
 
@@ -36,11 +37,13 @@ pub struct Item<'a> {
     pub debtor_iban: &'a [u8],
 }
 
-/// The header and the items of a message.
+/// The header and the items of a message, and its version.
 #[derive(Debug, Default)]
 pub struct Contents<'a> {
     pub header: Header<'a>,
     pub items: Vec<Item<'a>>,
+    /// That of the root, if it was read.
+    pub version: Option<Version>,
 }
 
 /// Reads the values that begin before a place. At a refused value that place is its first byte, so
@@ -62,6 +65,7 @@ pub fn read(message: &[u8], place: usize) -> Contents<'_> {
             contents.note(&open, value);
         }
     }
+    contents.version = open.version;
     contents
 }
 
@@ -71,7 +75,7 @@ impl<'a> Contents<'a> {
         match (open.name(1), open.name(0), self.items.last_mut()) {
             (b"GrpHdr", b"MsgId", None) => self.header.msg_id = value,
             (b"GrpHdr", b"IntrBkSttlmDt", None) => self.header.settlement_date = value,
-            (b"FinInstnId", b"BIC", None) => self.header.bic = value,
+            (b"FinInstnId", name, None) if Version::is_bic(name) => self.header.bic = value,
             (b"LclInstrm", b"Cd", None) => self.header.instrument = value,
             (b"PmtTpInf", b"SeqTp", None) => self.header.sequence = value,
             (_, _, None) => {}
@@ -123,6 +127,7 @@ mod tests {
 
     const EVENING: &[u8] = include_bytes!("../../../samples/evening-indented.xml");
     const WRAPPED: &[u8] = include_bytes!("../../../samples/rents-wrapped.xml");
+    const LATER: &[u8] = include_bytes!("../../../samples/evening08.xml");
     const PARTNER: &[u8] = include_bytes!("../../../samples/partner.xml");
 
     /// Where this text stands in the evening.
@@ -149,10 +154,21 @@ mod tests {
         assert!(EVENING[item.place..].starts_with(b"<DrctDbtTxInf>"));
     }
 
+    /// The evening in version .08: its items are the same, and so is the header's BIC.
+    #[test]
+    fn what_the_evening_says_in_version_08() {
+        let (evening, other) = (read(EVENING, EVENING.len()), read(LATER, LATER.len()));
+        assert_eq!((evening.version, other.version), (Some(Version::V02), Some(Version::V08)));
+        assert_eq!(other.header, evening.header);
+        for (item, later) in evening.items.iter().zip(&other.items) {
+            assert_eq!(*later, Item { place: later.place, ..item.clone() });
+        }
+    }
+
     /// Each item of these samples is what the library writes into its record.
     #[test]
     fn the_items_are_those_of_the_records() {
-        for (sample, count) in [(EVENING, 5), (WRAPPED, 3), (PARTNER, 2)] {
+        for (sample, count) in [(EVENING, 5), (LATER, 5), (WRAPPED, 3), (PARTNER, 2)] {
             let items = read(sample, sample.len()).items;
             assert_eq!(items.len(), count);
             let mut area = vec![0; face::RECORD * count];
@@ -213,6 +229,8 @@ mod tests {
     fn only_what_lies_before_the_place() {
         let upto = |text: &str| read(EVENING, at(text));
         assert_eq!(upto("BULK-").header, Header::default());
+        assert_eq!(upto("<Document").version, None);
+        assert_eq!(upto("<FIToFICstmrDrctDbt>").version, Some(Version::V02));
         assert_eq!(upto("</MsgId>").header.msg_id, b"BULK-2026-10-28-EVENING");
         assert_eq!(upto("1120.50").items[2].cents, None);
         assert_eq!(upto("</IntrBkSttlmAmt>").items[0].cents, Some(84500));

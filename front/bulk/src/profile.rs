@@ -1,8 +1,10 @@
 //! The elements of the profile in the paper's order: what may come at a place, what kind of value an
-//! element has, which codes. Only refusals are put into words with it; the library judges, and the
-//! tests hold every line of this tree against it.
+//! element has, which codes. It is one tree for both versions, which differ in the BIC elements alone.
+//! Only refusals are put into words with it; the library judges, and the tests hold every line of this
+//! tree against it.
 
 use crate::tags::Open;
+use crate::version::Version;
 use face::Kind;
 
 /// What an element holds.
@@ -12,6 +14,8 @@ pub enum Content {
     Value(Kind),
     Amount(Kind),
     Code(&'static [&'static str]),
+    /// A BIC: the version decides the element's name and its kind.
+    Bic,
 }
 
 /// How often an element stands in its group.
@@ -141,25 +145,32 @@ const SCHEME: Element = group(
 
 const NAME: &[Element] = &[value("Nm", Kind::Text70)];
 const ACCOUNT: &[Element] = &[group("Id", &[value("IBAN", Kind::Iban)])];
-const AGENT: &[Element] = &[group("FinInstnId", &[value("BIC", Kind::Bic)])];
+const AGENT: &[Element] = &[group("FinInstnId", &[once("BIC", Content::Bic)])];
 
-/// The innermost of the open elements.
+/// The innermost of the open elements; none where the root was not read.
 pub fn innermost(open: &Open) -> Option<Element> {
+    let version = open.version?;
     let mut names = open.names();
     let mut element = (names.next()? == DOCUMENT.name.as_bytes()).then_some(DOCUMENT)?;
     for name in names {
         let Content::Group(children) = element.content else { return None };
-        element = *children.iter().find(|child| child.name.as_bytes() == name)?;
+        let mut children = children.iter().map(|child| child.in_version(version));
+        element = children.find(|child| child.name.as_bytes() == name)?;
     }
     Some(element)
 }
 
 /// The tags that may come at a place where a tag is due.
 pub fn expected(open: &Open) -> Vec<String> {
-    let Some(element) = innermost(open) else { return Vec::new() };
+    let (Some(element), Some(version)) = (innermost(open), open.version) else {
+        return Vec::new();
+    };
     let end = format!("</{}>", element.name);
     match element.content {
-        Content::Group(children) => due(children, open, end),
+        Content::Group(children) => {
+            let children = children.iter().map(|child| child.in_version(version));
+            due(&children.collect::<Vec<_>>(), open, end)
+        }
         _ => vec![end],
     }
 }
@@ -185,6 +196,17 @@ fn due(children: &[Element], open: &Open, end: String) -> Vec<String> {
 }
 
 impl Element {
+    /// As a version has it.
+    fn in_version(&self, version: Version) -> Element {
+        match self.content {
+            Content::Bic => {
+                let (name, kind) = version.bic();
+                value(name, kind)
+            }
+            _ => *self,
+        }
+    }
+
     /// Its start tag.
     fn start(&self) -> String {
         match self.content {
@@ -199,10 +221,11 @@ mod tests {
     use super::*;
     use crate::tags::{Tag, Tags};
 
-    /// PmtTpInf in every item, and in the header.
-    const SAMPLES: [&[u8]; 2] = [
+    /// PmtTpInf in every item, and in the header; version .08.
+    const SAMPLES: [&[u8]; 3] = [
         include_bytes!("../../../samples/evening.xml"),
         include_bytes!("../../../samples/partner.xml"),
+        include_bytes!("../../../samples/evening08.xml"),
     ];
 
     /// Number and place of the library's answer.
@@ -242,7 +265,8 @@ mod tests {
     /// item's PmtTpInf would stand and the header has one.
     #[test]
     fn whatever_is_not_expected_may_not_come() {
-        let mut all: Vec<String> = tags(SAMPLES[0]).map(|(tag, _)| text(&tag)).collect();
+        let both = tags(SAMPLES[0]).chain(tags(SAMPLES[2]));
+        let mut all: Vec<String> = both.map(|(tag, _)| text(&tag)).collect();
         all.sort();
         all.dedup();
         let mut again = 0;
@@ -290,6 +314,7 @@ mod tests {
                     "2000-02-29",
                     "2000-02-29T00:00:00",
                     "BANKDEFF",
+                    "1BNKDE0O",
                     "A B",
                     "\tA\n",
                     "A /",

@@ -8,6 +8,7 @@ use crate::place::{self, Found};
 use crate::profile::{self, Content};
 use crate::show::{beginning, ending, shown};
 use crate::tags::{until, Open};
+use crate::version::Version;
 use crate::why::{country, why, Why};
 use face::Kind;
 
@@ -197,7 +198,7 @@ fn reason<'a>(
         (2, Found::Bytes(bytes), _) if bytes.starts_with(b"\xef\xbb\xbf") => {
             Some(Why::ByteOrderMark)
         }
-        (4, _, Some(_)) => Some(Why::Expected(profile::expected(open))),
+        (4, found, Some(_)) => Some(expected(open, found)),
         (7, Found::Bytes(value), Some(Content::Value(kind) | Content::Amount(kind))) => {
             why(kind, value)
         }
@@ -208,6 +209,26 @@ fn reason<'a>(
         (23, ..) => Some(Why::HeaderHas(contents.header.instrument, contents.header.sequence)),
         _ => None,
     }
+}
+
+/// The tags that may come in place of what was found; for the tag of a BIC also by which version, since
+/// it may be another's.
+fn expected(open: &Open, found: &Found) -> Why<'static> {
+    let tags = profile::expected(open);
+    match (found, open.version) {
+        (Found::Bytes(tag), Some(version))
+            if is_bic(tag) && tags.iter().any(|due| is_bic(due.as_bytes())) =>
+        {
+            Why::ExpectedIn(version, tags)
+        }
+        _ => Why::Expected(tags),
+    }
+}
+
+/// Whether a tag is one of a BIC, in either version.
+fn is_bic(tag: &[u8]) -> bool {
+    let name = tag.strip_prefix(b"</").or_else(|| tag.strip_prefix(b"<"));
+    name.and_then(|name| name.strip_suffix(b">")).is_some_and(Version::is_bic)
 }
 
 /// The limit that an amount is under or over. One of no cents has only zeros.

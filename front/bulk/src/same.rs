@@ -1,7 +1,7 @@
 //! `same`: whether two bulks have the same plain form, and if not, where they differ.
 
 use crate::call::{Call, Command, Form};
-use crate::compared::{Compared, Difference};
+use crate::compared::{Compared, Difference, ROOT};
 use crate::doubled::numbers;
 use crate::json::Object;
 use crate::language::Language;
@@ -144,6 +144,10 @@ fn words(compared: &Compared, both: &[Judged; 2], language: Language) -> String 
     for difference in &compared.differences {
         text.push_str(&format!("  {}\n", difference_told(difference, language)));
     }
+    if matches!(&compared.differences[..], [alone] if is_version(alone)) {
+        let rest = language.say("all else is the same", "alles andere ist gleich");
+        text.push_str(&format!("  {rest}\n"));
+    }
     if compared.items.len() > 1 {
         let heading = language.say("Items that differ", "Abweichende Posten");
         let (count, items) = (compared.items.len(), numbers(&compared.items, language));
@@ -152,8 +156,25 @@ fn words(compared: &Compared, both: &[Judged; 2], language: Language) -> String 
     text
 }
 
+/// Whether the difference is that of the versions.
+fn is_version(difference: &Difference) -> bool {
+    difference.element.as_deref() == Some(ROOT)
+}
+
+/// `the versions differ: pacs.003.001.02 here, pacs.003.001.08 there`.
+fn versions_told(difference: &Difference, language: Language) -> String {
+    let [here, there] = difference.values.map(|value| shown(value.unwrap_or(b"")));
+    language.say(
+        format!("the versions differ: {here} here, {there} there"),
+        format!("die Versionen sind verschieden: hier {here}, dort {there}"),
+    )
+}
+
 /// `item 3, TxId T-0815: IntrBkSttlmAmt “12.34” here, “12.43” there`.
 fn difference_told(difference: &Difference, language: Language) -> String {
+    if is_version(difference) {
+        return versions_told(difference, language);
+    }
     let place = match difference.item {
         None => language.say("header", "Kopf").to_string(),
         Some((item, _)) => {

@@ -1,6 +1,8 @@
 //! The tags of a message one after the other, and the elements that are open behind each. It judges
 //! nothing: up to the place of a refusal the judge has told that the tags are in order.
 
+use crate::version::Version;
+
 pub const ITEM: &[u8] = b"DrctDbtTxInf";
 pub const HEADER: &[u8] = b"GrpHdr";
 pub const PAYMENT_TYPE: &[u8] = b"PmtTpInf";
@@ -60,13 +62,14 @@ struct Element<'a> {
     child: Option<&'a [u8]>,
 }
 
-/// The elements that are open at a place, how many items have begun, and whether the header has a
-/// PmtTpInf.
+/// The elements that are open at a place, how many items have begun, whether the header has a
+/// PmtTpInf, and which version the root names, once it is read.
 #[derive(Default)]
 pub struct Open<'a> {
     elements: Vec<Element<'a>>,
     pub items: usize,
     pub is_typed: bool,
+    pub version: Option<Version>,
 }
 
 impl<'a> Open<'a> {
@@ -93,6 +96,9 @@ impl<'a> Open<'a> {
             _ => {
                 let name = until(tag.inside, b' ');
                 let opens = tag.is_whole || name.len() < tag.inside.len();
+                if self.elements.is_empty() && tag.is_whole {
+                    self.version = Version::of_root(tag.inside);
+                }
                 if opens {
                     self.enter(name);
                 }

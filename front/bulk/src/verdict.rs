@@ -7,6 +7,7 @@ use crate::message::{self, Contents, Item};
 use crate::place::{self, Found};
 use crate::refusal::{Against, Refusal};
 use crate::show::{self, beginning, shown};
+use crate::version::Version;
 use crate::{euro, pages, Status};
 use std::ffi::{OsStr, OsString};
 use std::os::unix::ffi::OsStrExt;
@@ -100,14 +101,19 @@ impl<'a> Judged<'a> {
         }
     }
 
-    /// What is signed: so many items and cents, which bulk, when it settles, of which kind.
+    /// What is signed: so many items and cents, which bulk, when it settles, of which kind and version.
     pub fn signed(&self, count: u64, cents: u64, language: Language) -> String {
         let header = &self.contents.header;
         let (items, money) = (language.items(count.into()), language.money(cents));
         let (msg_id, date) = (shown(header.msg_id), shown(header.settlement_date));
         let settles = language.say("settlement date", "Abrechnungsdatum");
-        let instrument = shown(self.contents.instrument());
-        format!("{items}, {money}, MsgId {msg_id}, {settles} {date}, {instrument}")
+        let (instrument, version) = (shown(self.contents.instrument()), self.version());
+        format!("{items}, {money}, MsgId {msg_id}, {settles} {date}, {instrument}, {version}")
+    }
+
+    /// The version that the root names; nothing where it was not read.
+    fn version(&self) -> &'static str {
+        self.contents.version.map_or("", Version::name)
     }
 
     /// What stands below the line, indented: an excerpt of the place, and the warnings.
@@ -155,6 +161,7 @@ impl<'a> Judged<'a> {
             .text_or_null("msg_id", header.msg_id)
             .text_or_null("settlement_date", header.settlement_date)
             .text_or_null("instrument", self.contents.instrument())
+            .text_or_null("version", self.version().as_bytes())
             .list("doubled", self.doubled.same.iter().map(|group| same_json(items, group)))
             .list("looks_doubled", self.doubled.alike.iter().map(|group| alike_json(items, group)))
             .text_or_null(
@@ -169,7 +176,7 @@ pub fn unread_json(name: &OsStr, error: &str) -> Object {
     let object = Object::default().text("file", name.as_bytes()).text("verdict", b"unread");
     let object = no_refusal(object.raw("count", "null").raw("cents", "null"));
     let object = object.text("error", error.as_bytes());
-    let keys = ["msg_id", "settlement_date", "instrument"];
+    let keys = ["msg_id", "settlement_date", "instrument", "version"];
     let object = keys.iter().fold(object, |object, key| object.raw(key, "null"));
     object.raw("doubled", "[]").raw("looks_doubled", "[]").raw("same_msg_id", "null")
 }

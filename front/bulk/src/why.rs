@@ -4,6 +4,7 @@
 use crate::collapsed::{collapsed, WHITE};
 use crate::language::Language;
 use crate::show::{characters, shown};
+use crate::version::Version;
 use face::Kind;
 
 #[derive(Clone, Debug, PartialEq, Eq)]
@@ -59,6 +60,8 @@ pub enum Why<'a> {
     HeaderHas(&'a [u8], &'a [u8]),
     /// The tags that may come.
     Expected(Vec<String>),
+    /// The tags that may come in the version that the root names; another version has what was found.
+    ExpectedIn(Version, Vec<String>),
     ByteOrderMark,
 }
 
@@ -120,12 +123,14 @@ fn may_stand(kind: Kind, at: usize, byte: u8) -> bool {
     match (kind, at) {
         (Kind::Count, _) => byte.is_ascii_digit(),
         (Kind::ItemAmount | Kind::HeaderAmount, _) => byte.is_ascii_digit() || byte == b'.',
-        (Kind::Iban | Kind::CreditorId, 0..=1) | (Kind::Bic, 0..=5) => byte.is_ascii_uppercase(),
+        (Kind::Iban | Kind::CreditorId, 0..=1) | (Kind::Bic, 0..=5) | (Kind::Bicfi, 4..=5) => {
+            byte.is_ascii_uppercase()
+        }
         (Kind::Iban | Kind::CreditorId, 2..=3) => byte.is_ascii_digit(),
         (Kind::CreditorId, 4..=6) => byte.is_ascii_alphanumeric(),
         (Kind::Bic, 6) => capital_or_digit && !b"01".contains(&byte),
         (Kind::Bic, 7) => capital_or_digit && byte != b'O',
-        (Kind::Iban | Kind::Bic, _) => capital_or_digit,
+        (Kind::Iban | Kind::Bic | Kind::Bicfi, _) => capital_or_digit,
         (Kind::EndToEnd | Kind::Text70 | Kind::Text140, _) => in_reference || WHITE.contains(&byte),
         _ => in_reference,
     }
@@ -134,7 +139,7 @@ fn may_stand(kind: Kind, at: usize, byte: u8) -> bool {
 /// A length outside that of the kind.
 fn length(kind: Kind, value: &[u8]) -> Option<Why<'static>> {
     let (least, most) = match kind {
-        Kind::Bic if ![8, 11].contains(&value.len()) => {
+        Kind::Bic | Kind::Bicfi if ![8, 11].contains(&value.len()) => {
             return Some(Why::EightOrEleven(value.len()))
         }
         Kind::Iban => (15, 34),
@@ -242,9 +247,8 @@ impl Why<'_> {
                     format!("das {number}. Zeichen, {character}, ist nicht zulässig"),
                 )
             }
-            Why::LeastCents(_) | Why::MostCents(_) | Why::Codes(_) | Why::Expected(_) => {
-                self.limits(language)
-            }
+            Why::LeastCents(_) | Why::MostCents(_) | Why::Codes(_) => self.limits(language),
+            Why::Expected(_) | Why::ExpectedIn(..) => self.tags(language),
             Why::FirstHas(_) | Why::HeaderHas(..) => self.elsewhere(language),
             Why::CountryLength { country, length, due } => {
                 let country = shown(country);
@@ -301,9 +305,23 @@ impl Why<'_> {
                 let codes = language.one_of(&texts(codes));
                 language.say(format!("allowed: {codes}"), format!("zulässig: {codes}"))
             }
+            _ => String::new(),
+        }
+    }
+
+    /// The tags that may come.
+    fn tags(&self, language: Language) -> String {
+        match self {
             Why::Expected(tags) => {
                 let tags = language.one_of(tags);
                 language.say(format!("expected: {tags}"), format!("erwartet: {tags}"))
+            }
+            Why::ExpectedIn(version, tags) => {
+                let (version, tags) = (version.name(), language.one_of(tags));
+                language.say(
+                    format!("expected: {tags}, since the root names {version}"),
+                    format!("erwartet: {tags}, denn das Wurzelelement nennt {version}"),
+                )
             }
             _ => String::new(),
         }
@@ -367,10 +385,11 @@ impl Why<'_> {
 mod tests {
     use super::*;
 
-    const KINDS: [(Kind, &[&str]); 12] = [
+    const KINDS: [(Kind, &[&str]); 13] = [
         (Kind::Iban, &["DE87200500001234567890", "NL96TULP0417164300", "AA111111111111"]),
         (Kind::CreditorId, &["DE98ZZZ09999999999", "DE98ZZZ-", "DE98ZZZ(+)"]),
         (Kind::Bic, &["BANKDEFF", "BANKDEFFXXX", "BANKDEFFXX"]),
+        (Kind::Bicfi, &["BANKDEFF", "1BNKDE0OXXX", "BANKDEFFXX"]),
         (Kind::Count, &["5", "000000000000007", "0000000000000007"]),
         (Kind::ItemAmount, &["5.3", "12.65", "1000000000", "0.00", "0000000000000005.1"]),
         (Kind::HeaderAmount, &["2024.90", "0", "999999999999999.99", "."]),
@@ -465,6 +484,9 @@ mod tests {
         assert_eq!(told(Kind::Text140, &"A".repeat(141)), "141 characters, at most 140");
         assert_eq!(told(Kind::Iban, "DE87 2005"), "character 5, “ ”, is not allowed");
         assert_eq!(told(Kind::Bic, "BANKDEFFXX"), "10 characters, 8 or 11 are allowed");
+        assert_eq!(told(Kind::Bic, "B1NKDEFF"), "character 2, “1”, is not allowed");
+        assert_eq!(told(Kind::Bicfi, "B1NKD1FF"), "character 6, “1”, is not allowed");
+        assert_eq!(told(Kind::Bicfi, "1BNKDEFFX"), "9 characters, 8 or 11 are allowed");
         assert_eq!(told(Kind::ItemAmount, "12.345"), "3 digits after the point, at most 2");
         assert_eq!(told(Kind::Date, "31.12.2026"), "expected: YYYY-MM-DD");
         assert_eq!(told(Kind::Reference, "RENT 2023 04"), "character 5, “ ”, is not allowed");

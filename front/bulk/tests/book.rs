@@ -88,7 +88,7 @@ fn in_words() {
     let said = [
         "open: 0 bulks, 0.00 EUR (0 cents)",
         "a.xml: entered, 5 items, 2,024.90 EUR (202490 cents), MsgId BULK-2026-10-28-EVENING, \
-         settlement date 2026-10-30, CORE; open: 1 bulk, 2,024.90 EUR",
+         settlement date 2026-10-30, CORE, pacs.003.001.02; open: 1 bulk, 2,024.90 EUR",
         "a.xml, KEY: refused 20: A bulk with this key is open already.",
         "KEY: open at place 0, 2,024.90 EUR (202490 cents)",
         "open: 1 bulk, 2,024.90 EUR (202490 cents)",
@@ -109,7 +109,8 @@ fn in_german() {
     let said = [
         "offen: 0 Bulks, 0,00 EUR (0 Cent)",
         "a.xml: eingetragen, 5 Posten, 2.024,90 EUR (202490 Cent), MsgId \
-         BULK-2026-10-28-EVENING, Abrechnungsdatum 2026-10-30, CORE; offen: 1 Bulk, 2.024,90 EUR",
+         BULK-2026-10-28-EVENING, Abrechnungsdatum 2026-10-30, CORE, pacs.003.001.02; offen: 1 \
+         Bulk, 2.024,90 EUR",
         "a.xml, KEY: abgelehnt (Nr. 20): Ein Bulk mit diesem Schlüssel ist bereits offen.",
         "KEY: offen auf Platz 0, 2.024,90 EUR (202490 Cent)",
         "offen: 1 Bulk, 2.024,90 EUR (202490 Cent)",

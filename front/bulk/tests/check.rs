@@ -18,8 +18,6 @@ fn single_values() {
         ("creditor-id", "DE98ZZZ09999999999", 0, "accepted"),
         ("creditor-id", "DE00ZZZ09999999999", 1, "refused 8 0"),
         ("creditor-id", "US86ZZZ200500001234567890", 0, "accepted"),
-        ("bic", "BANKDEFFXXX", 0, "accepted"),
-        ("bic", "BANKDEFFXX", 1, "refused 7 0"),
         ("count", "007", 0, "accepted 7"),
         ("count", "-7", 1, "refused 7 0"),
         ("item-amount", "5.3", 0, "accepted 530"),
@@ -46,6 +44,27 @@ fn single_values() {
     let text = "A".repeat(71);
     assert_eq!(bulk(&["--plain", "check", "text70", &text]).done(1), "refused 7 0\n");
     assert_eq!(bulk(&["--plain", "check", "text140", &text]).done(0), "accepted\n");
+}
+
+/// The BIC of pacs.003.001.02, and the wider one of pacs.003.001.08.
+#[test]
+fn bics_of_both_versions() {
+    for (value, narrow, wide) in [
+        ("BANKDEFF", 0, 0),
+        ("BANKDEFFXXX", 0, 0),
+        ("1BNKDEFF", 1, 0),
+        ("BANKDE1O", 1, 0),
+        ("BANK1EFF", 1, 1),
+        ("BANKDEFFXX", 1, 1),
+    ] {
+        for (kind, status) in [("bic", narrow), ("bicfi", wide)] {
+            let answer = ["accepted\n", "refused 7 0\n"][status];
+            let said = bulk(&["--plain", "check", kind, value]).done(status as i32);
+            assert_eq!(said, answer, "{kind} {value}");
+        }
+    }
+    let said = bulk(&["--de", "check", "bicfi", "BANK1EFF"]).done(1);
+    assert!(said.starts_with("bicfi „BANK1EFF“ (das 5. Zeichen, „1“, ist nicht zulässig): "));
 }
 
 /// White space at the ends and in runs does not count where it may stand.
@@ -123,7 +142,7 @@ fn single_values_in_words() {
         .done(1)
         .contains("date “” (the value is empty): refused 7"));
     let said = bulk(&["check", "ibam", "x"]).trouble();
-    assert!(said.contains("Unknown kind “ibam”. Kinds: iban, creditor-id, bic,"), "{said}");
+    assert!(said.contains("Unknown kind “ibam”. Kinds: iban, creditor-id, bic, bicfi,"), "{said}");
     assert!(said.contains(" reference, end-to-end, text70, text140"), "{said}");
 }
 

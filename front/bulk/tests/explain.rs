@@ -151,6 +151,29 @@ fn the_texts_of_the_payment_type() {
     assert_eq!(overview(23)[1], german);
 }
 
+/// Both versions, wherever the root or a BIC is spoken of.
+#[test]
+fn the_texts_of_the_versions() {
+    for sentence in overview(2) {
+        assert!(sentence.contains("pacs.003.001.02") && sentence.contains("pacs.003.001.08"));
+    }
+    for (number, words) in [
+        (2, ["Do not just change the number in the root", "oder dasselbe mit `.08` am Ende"]),
+        (4, ["and in `BICFI` in pacs.003.001.08", "in pacs.003.001.02 in `BIC` und in"]),
+        (
+            7,
+            [
+                "a digit among the first four, 0 or 1 as",
+                "eine Ziffer unter den ersten vier Zeichen",
+            ],
+        ),
+        (20, ["the version does not count", "die Version zählt nicht"]),
+    ] {
+        let said = flat(&bulk(&["explain", &number.to_string()]).done(0));
+        words.iter().for_each(|words| assert!(said.contains(words), "{words}\n{said}"));
+    }
+}
+
 /// The pages of the day book.
 #[test]
 fn the_texts_of_the_day_book() {

@@ -13,7 +13,7 @@ fn the_samples() {
         let said = bulk(&["judge", text(&file)]).done(0);
         let line = format!(
             "{}: accepted, 5 items, 2,024.90 EUR (202490 cents), MsgId BULK-2026-10-28-EVENING, \
-             settlement date 2026-10-30, CORE\n",
+             settlement date 2026-10-30, CORE, pacs.003.001.02\n",
             text(&file)
         );
         assert_eq!(said, line);
@@ -70,7 +70,7 @@ fn the_samples_in_german() {
     assert!(
         said.ends_with(
             ": angenommen, 5 Posten, 2.024,90 EUR (202490 Cent), MsgId BULK-2026-10-28-EVENING, \
-             Abrechnungsdatum 2026-10-30, CORE\n"
+             Abrechnungsdatum 2026-10-30, CORE, pacs.003.001.02\n"
         ),
         "{said}"
     );
@@ -121,9 +121,30 @@ fn money_is_grouped_for_the_eye_alone() {
 type Damage = (&'static str, &'static str, u64, &'static str, &'static str);
 
 /// Each first one of its text in the indented evening is damaged.
-const DAMAGES: [Damage; 27] = [
+const DAMAGES: [Damage; 30] = [
     ("<?xml", "\u{feff}<?xml", 2, "", "found “\\u{feff}” (a byte order mark (BOM)): The beginning"),
-    ("001.02", "001.08", 2, "", "pacs.003.001.08\">”: "),
+    ("001.02", "001.09", 2, "", "pacs.003.001.09\">”: The beginning is wrong"),
+    (
+        "001.02",
+        "001.08",
+        4,
+        "/GrpHdr/InstgAgt/FinInstnId",
+        "found “<BIC>” (expected: <BICFI>, since the root names pacs.003.001.08): Not allowed here",
+    ),
+    (
+        "<BIC>RHEI",
+        "<BICFI>RHEI",
+        4,
+        "/DrctDbtTxInf[1]/DbtrAgt/FinInstnId (TxId TX-20261028-0001, debtor Anna Gluehbirne, 845.00 EUR)",
+        "found “<BICFI>” (expected: <BIC>, since the root names pacs.003.001.02): Not allowed here",
+    ),
+    (
+        "RHEIDEDKXXX",
+        "RHE1DEDKXXX",
+        7,
+        "/DrctDbtTxInf[1]/DbtrAgt/FinInstnId/BIC (TxId TX-20261028-0001, debtor Anna Gluehbirne, ",
+        "found “RHE1DEDKXXX” (character 4, “1”, is not allowed): ",
+    ),
     (
         "<TtlIntr",
         "<CtrlSum>1</CtrlSum><TtlIntr",

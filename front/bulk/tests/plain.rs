@@ -55,7 +55,10 @@ fn into_a_file() {
     let folder = Folder::new();
     let (file, out) = (sample("evening-padded.xml"), folder.path("out.xml"));
     let said = bulk(&["plain", text(&file), text(&out)]).done(0);
-    assert!(said.ends_with(&format!("CORE; plain form written to {}\n", text(&out))), "{said}");
+    assert!(
+        said.ends_with(&format!("CORE, pacs.003.001.02; plain form written to {}\n", text(&out))),
+        "{said}"
+    );
     assert_eq!(fs::read_to_string(&out).unwrap(), plain_evening());
     // Once more: the file holds just this.
     fs::set_permissions(&out, Permissions::from_mode(0o640)).unwrap();

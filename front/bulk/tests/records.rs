@@ -23,7 +23,7 @@ fn the_records_of_the_paper_s_example() {
     let (file, out) = (folder.put("bulk.xml", message), folder.path("out"));
     let said = bulk(&["records", text(&file), text(&out)]).done(0);
     let line = "bulk.xml: accepted, 1 item, 12.34 EUR (1234 cents), MsgId MSG/1, settlement date \
-                2010-12-03, CORE; records written to ";
+                2010-12-03, CORE, pacs.003.001.02; records written to ";
     assert!(said.contains(line) && said.ends_with("/out\n"), "{said}");
     assert_eq!(fs::read_to_string(&out).unwrap(), record);
     assert_eq!(folder.names(), ["bulk.xml", "out"]);

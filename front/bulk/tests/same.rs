@@ -32,7 +32,7 @@ fn the_three_evenings_are_the_same() {
             let said = bulk(&["same", text(one), text(other)]).done(0);
             let line = format!(
                 "{} and {}: the same plain form, 5 items, 2,024.90 EUR (202490 cents), MsgId \
-                 BULK-2026-10-28-EVENING, settlement date 2026-10-30, CORE\n",
+                 BULK-2026-10-28-EVENING, settlement date 2026-10-30, CORE, pacs.003.001.02\n",
                 text(one),
                 text(other)
             );

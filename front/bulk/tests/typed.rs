@@ -32,7 +32,7 @@ fn the_partner_s_bulk_is_accepted() {
     assert_eq!(bulk(&["--plain", text(&file)]).done(0), "accepted 2 196550\n");
     let said = bulk(&["judge", text(&file)]).done(0);
     let line = ": accepted, 2 items, 1,965.50 EUR (196550 cents), MsgId BULK-2026-10-28-PARTNER, \
-                settlement date 2026-10-30, CORE\n";
+                settlement date 2026-10-30, CORE, pacs.003.001.02\n";
     assert!(said.ends_with(line), "{said}");
     let said = piped(&["--json", "-"], partner().replacen(">CORE<", ">B2B<", 1)).done(0);
     assert!(said.contains("\"instrument\":\"B2B\","), "{said}");

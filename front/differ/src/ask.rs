@@ -33,6 +33,7 @@ pub fn plain_check(kind: Kind, value: &[u8]) -> Result<u64, u8> {
         Kind::Iban => plain::iban(value),
         Kind::CreditorId => plain::creditor_id(value),
         Kind::Bic => plain::bic(value),
+        Kind::Bicfi => plain::bicfi(value),
         Kind::Date => plain::date(value),
         Kind::Time => plain::time(value),
         Kind::Reference => plain::reference(value),

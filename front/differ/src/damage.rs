@@ -2,11 +2,14 @@
 
 use crate::collapse;
 use crate::kind::Kind;
-use crate::message::{accepted, concat, Message, Part, Plan, What, DECLARATION, INSTRUMENTS};
+use crate::message::{
+    accepted, concat, Message, Part, Plan, Version, What, DECLARATION, INSTRUMENTS,
+};
 use crate::random::Random;
 use crate::twins::may_have_white;
 use crate::typed::{self, Places};
 use crate::value::{self, WHITE};
+use crate::versions;
 
 /// What is known of the judge's answer, from the way the message was made.
 #[derive(Clone, Copy, Debug, PartialEq, Eq)]
@@ -101,6 +104,10 @@ const DAMAGES: &[(&str, Damage)] = &[
     ("local instruments mixed", mixed),
     ("payment type here and there", type_here_and_there),
     ("payment type once more", type_once_more),
+    ("element of the other version", versions::elements_mixed),
+    ("root of the other version", versions::root_of_other),
+    ("root of neither version", versions::root_of_neither),
+    ("BIC of one version", versions::wider_bic),
     ("value empty", empty_value),
     ("value nearly valid", near_value),
     ("value damaged", damaged_value),
@@ -143,7 +150,7 @@ pub fn case(seed: u64, case: u64) -> Case {
 }
 
 /// A message of thousands of items, every other time damaged. Every third has 10,000, and of every
-/// four the last two have PmtTpInf in the header. One that is over the limit of length is known to be
+/// four the last two have PmtTpInf in the header; of every eight the first four are of version .08. One that is over the limit of length is known to be
 /// refused for that.
 pub fn large(seed: u64, case: u64) -> Case {
     let random = &mut Random::new(seed ^ 0x1A46E, case);
@@ -151,6 +158,7 @@ pub fn large(seed: u64, case: u64) -> Case {
     plan.items = if case % 3 == 0 { MOST_ITEMS } else { random.between(2000, MOST_ITEMS) };
     plan.small = random.once_in(2);
     plan.type_in_header = case / 2 % 2 == 1;
+    plan.version = Version::ALL[usize::from(case / 4 % 2 == 0)];
     let message = accepted(&plan, random);
     let made = match case % 2 {
         0 => whole(message),
@@ -453,6 +461,7 @@ fn element_not_listed(mut message: Message, random: &mut Random) -> Option<(Vec<
     let element = random.pick(&[
         "<CtrlSum>1</CtrlSum>",
         "<InstdAgt><FinInstnId><BIC>BANKDEFF</BIC></FinInstnId></InstdAgt>",
+        "<InstdAgt><FinInstnId><BICFI>BANKDEFF</BICFI></FinInstnId></InstdAgt>",
         "<ClrSysRef>A</ClrSysRef>",
         "<CtgyPurp><Cd>CASH</Cd></CtgyPurp>",
         "<UltmtDbtr><Nm>A</Nm></UltmtDbtr>",
@@ -902,6 +911,9 @@ fn beginning(message: Message, random: &mut Random) -> Option<(Vec<u8>, Known)> 
         "<Document>",
         "<document xmlns=\"urn:iso:std:iso:20022:tech:xsd:pacs.003.001.02\">",
         "<Document xmlns=\"urn:iso:std:iso:20022:tech:xsd:pacs.003.001.01\">",
+        "<Document xmlns=\"urn:iso:std:iso:20022:tech:xsd:pacs.003.001.09\">",
+        "<document xmlns=\"urn:iso:std:iso:20022:tech:xsd:pacs.003.001.08\">",
+        "<Document xmlns='urn:iso:std:iso:20022:tech:xsd:pacs.003.001.08'>",
         "<Document  xmlns=\"urn:iso:std:iso:20022:tech:xsd:pacs.003.001.02\">",
         "<Document xmlns='urn:iso:std:iso:20022:tech:xsd:pacs.003.001.02'>",
         "x",

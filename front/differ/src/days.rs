@@ -3,7 +3,8 @@
 use crate::message::{accepted, Message, Plan, What, INSTRUMENTS};
 use crate::random::Random;
 use crate::typed;
-use crate::value::{HEADER_MOST, LETTERS_DIGITS};
+use crate::value::{known_bic, HEADER_MOST, LETTERS_DIGITS};
+use crate::versions;
 use ::face::book::{self, Entry, Key, BOOK};
 
 /// A message to enter, and what is known of it: its entry, or the judge's own refusal.
@@ -163,7 +164,8 @@ fn message(random: &mut Random) -> Message {
 fn whole(message: &Message) -> Bulk {
     let value = |name| &message.parts[message.header_value(name)].bytes[..];
     let service = &message.parts[services(message)[0]].bytes;
-    let key = book::key([service, value("MsgId"), value("BIC"), value("IntrBkSttlmDt")]);
+    let bic = &message.parts[message.header_bic()].bytes;
+    let key = book::key([service, value("MsgId"), bic, value("IntrBkSttlmDt")]);
     let key = key.expect("each value has its place in the key");
     let entry = Entry { key, unused: [0; 4], cents: message.cents };
     Bulk { bytes: message.bytes(), known: Ok(entry) }
@@ -194,17 +196,19 @@ fn refused(mut message: Message, random: &mut Random) -> Bulk {
 }
 
 /// A message with one part of its key otherwise, however little; or with its key, and PmtTpInf at the
-/// other place or all else otherwise.
+/// other place, or in the other version, or all else otherwise.
 fn relative(mut message: Message, random: &mut Random) -> Message {
-    match random.pick(&["MsgId", "BIC", "IntrBkSttlmDt", "LclInstrm", "PmtTpInf", "key"]) {
+    let ways = ["MsgId", "BIC", "IntrBkSttlmDt", "LclInstrm", "PmtTpInf", "version", "key"];
+    match random.pick(&ways) {
         "LclInstrm" => {
             let is_core = message.parts[services(&message)[0]].bytes == b"CORE";
             serve(&mut message, if is_core { b"B2B" } else { b"CORE" });
         }
         "PmtTpInf" => message = typed::moved(&message),
+        "version" => message = versions::moved(&message).unwrap_or(message),
         "key" => message = other_of_key(&message, random),
         name => {
-            let part = message.header_value(name);
+            let part = of_key(&message, name);
             message.parts[part].bytes = near(name, &message.parts[part].bytes, random);
         }
     }
@@ -218,11 +222,24 @@ fn serve(message: &mut Message, service: &[u8]) {
     }
 }
 
-/// Another message, with other items, that has the key of this one.
+/// The part of the header that a key takes for this name.
+fn of_key(message: &Message, name: &str) -> usize {
+    match name {
+        "BIC" => message.header_bic(),
+        _ => message.header_value(name),
+    }
+}
+
+/// Another message, with other items, that has the key of this one. It is of a version whose BICs may
+/// be that one.
 fn other_of_key(message: &Message, random: &mut Random) -> Message {
+    let bic = &message.parts[message.header_bic()].bytes;
     let mut other = self::message(random);
+    while known_bic(other.version.bic().1, bic).is_err() {
+        other = self::message(random);
+    }
     for name in ["MsgId", "BIC", "IntrBkSttlmDt"] {
-        let (from, to) = (message.header_value(name), other.header_value(name));
+        let (from, to) = (of_key(message, name), of_key(&other, name));
         other.parts[to].bytes = message.parts[from].bytes.clone();
     }
     serve(&mut other, &message.parts[services(message)[0]].bytes);

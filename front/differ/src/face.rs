@@ -9,6 +9,7 @@ pub fn check(kind: Kind, value: &[u8]) -> Words {
         Kind::Iban => face::Kind::Iban,
         Kind::CreditorId => face::Kind::CreditorId,
         Kind::Bic => face::Kind::Bic,
+        Kind::Bicfi => face::Kind::Bicfi,
         Kind::Date => face::Kind::Date,
         Kind::Time => face::Kind::Time,
         Kind::Reference => face::Kind::Reference,

@@ -66,7 +66,7 @@ impl Asker {
         self.tally.hold(name, &question, bytes, ("plain", &words), ("known", &known));
         if words[0] == 0 {
             let read = self.slow.judge(bytes);
-            let slow = read.map_or(Vec::new(), |message| self.slow.plain(&message.said));
+            let slow = read.map_or(Vec::new(), |message| self.slow.plain(&message));
             self.tally.hold_areas(name, &question, bytes, ("plain", &form), ("slow", &slow));
         }
         if !case.plain.is_empty() {
@@ -120,7 +120,8 @@ impl Asker {
     }
 
     /// "Two messages that have one have the same plain form exactly when they have equally many
-    /// items, the optional elements agree, and all values in order mean the same".
+    /// items, the optional elements agree, and all values in order mean the same"; since request 10
+    /// they are of one version too.
     fn twin(&mut self, name: &Name, case: &Case) {
         let Some(twin) = &case.twin else { return };
         let (bytes, other) = (&case.bytes, &twin.bytes);
@@ -129,7 +130,7 @@ impl Asker {
         self.tally.hold(name, &question, bytes, ("library", &is_same), ("known", &twin.is_same));
         let (one, two) = (self.slow.judge(bytes), self.slow.judge(other));
         let mean_the_same = match (&one, &two) {
-            (Ok(one), Ok(two)) => Some(one.said == two.said),
+            (Ok(one), Ok(two)) => Some(one.version == two.version && one.said == two.said),
             _ => None,
         };
         let due = Some(is_same);

@@ -6,6 +6,8 @@ pub enum Kind {
     Iban,
     CreditorId,
     Bic,
+    /// The BIC of version .08.
+    Bicfi,
     Date,
     Time,
     Reference,
@@ -32,10 +34,11 @@ impl Kind {
 }
 
 /// The kinds that have a single checker.
-pub const CHECKED: [Kind; 12] = [
+pub const CHECKED: [Kind; 13] = [
     Kind::Iban,
     Kind::CreditorId,
     Kind::Bic,
+    Kind::Bicfi,
     Kind::Date,
     Kind::Time,
     Kind::Reference,

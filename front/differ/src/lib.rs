@@ -8,6 +8,7 @@
 //! - [`damage`]: damaged messages, with what is known of their refusal.
 //! - [`sweep`]: every byte and every part of small messages damaged; messages at the limits.
 //! - [`typed`]: the payment type in the header, in items, in both and in neither.
+//! - [`versions`]: both versions, and messages that mix them; roots of neither.
 //! - [`slips`], [`letters`]: every slip of an accepted message; those in the letters of accounts.
 //! - [`twins`]: accepted messages in pairs, which mean the same or do not.
 //! - [`spellings`]: every spelling of counts and amounts, white space at every place.
@@ -44,3 +45,4 @@ pub mod twins;
 pub mod typed;
 pub mod usual;
 pub mod value;
+pub mod versions;

@@ -8,7 +8,7 @@ use differ::bench::{bench, Machine};
 use differ::damage::{self, Case, Known, Twin};
 use differ::random::Random;
 use differ::tally::Name;
-use differ::{days, face, form, slips, spellings, sweep, twins, typed, value};
+use differ::{days, face, form, slips, spellings, sweep, twins, typed, value, versions};
 use std::process::ExitCode;
 
 const USAGE: &str = "\
@@ -18,6 +18,7 @@ differ value-sweep SEED       values beside each other, of every kind
 differ messages N SEED        N messages, accepted and damaged: judge, items, laws
 differ sweep SEED             every byte and every part of small messages damaged
 differ typed SEED             the payment type in the header, in items, in both, in neither; cut
+differ versions SEED          both versions, elements and roots of the other and of neither; cut
 differ slips N SEED           every slip of N messages
 differ records N SEED         N messages with record areas of all sizes
 differ plain N SEED           N messages with areas of all sizes for the plain form
@@ -78,6 +79,7 @@ fn swept(run: &str, seed: u64) -> Option<ExitCode> {
         "sweep" => message_sweep(seed),
         "spellings" => spelled(seed),
         "typed" => type_sweep(seed),
+        "versions" => version_sweep(seed),
         _ => return None,
     })
 }
@@ -105,6 +107,7 @@ fn all(times: u64) -> ExitCode {
         runs.push(message_sweep(seed));
         runs.push(spelled(seed));
         runs.push(type_sweep(seed));
+        runs.push(version_sweep(seed));
     }
     runs.push(values(100_000 * times, 1));
     runs.push(messages(20_000 * times, 1));
@@ -156,12 +159,24 @@ fn message_sweep(seed: u64) -> ExitCode {
     asker.tally.end()
 }
 
-/// The payment type at every place and cut behind every byte, each with every question but records and
-/// plain form; those too of what is accepted.
+/// A sweep that hands each of its cases on.
+type Sweep = fn(u64, &mut dyn FnMut(u64, Case));
+
+/// The payment type at every place and cut behind every byte.
 fn type_sweep(seed: u64) -> ExitCode {
-    let mut asker = Asker::new(format!("typed {seed}"));
-    typed::sweep(seed, |number, case| {
-        let name = Name { run: "typed", seed, number, sort: case.damage };
+    fully_asked("typed", seed, |seed, each| typed::sweep(seed, each))
+}
+
+/// Both versions, mixed in every way and cut behind every byte.
+fn version_sweep(seed: u64) -> ExitCode {
+    fully_asked("versions", seed, |seed, each| versions::sweep(seed, each))
+}
+
+/// Each case of a sweep with every question but records and plain form; those too of what is accepted.
+fn fully_asked(run: &str, seed: u64, sweep: Sweep) -> ExitCode {
+    let mut asker = Asker::new(format!("{run} {seed}"));
+    sweep(seed, &mut |number, case| {
+        let name = Name { run, seed, number, sort: case.damage };
         if asker.message(&name, &case)[0] == 0 {
             asker.records(&name, &case, &areas(seed, number, &case));
             asker.plain(&name, &case, &form_areas(seed, number, &case));
@@ -304,10 +319,12 @@ fn large(n: u64, seed: u64) -> ExitCode {
 }
 
 /// A sample, and what its verdict must be.
-const SAMPLES: [(&str, Known); 12] = [
+const SAMPLES: [(&str, Known); 14] = [
     ("evening.xml", Known::Accepted { count: 5, cents: 202_490 }),
     ("evening-indented.xml", Known::Accepted { count: 5, cents: 202_490 }),
     ("evening-padded.xml", Known::Accepted { count: 5, cents: 202_490 }),
+    ("evening08.xml", Known::Accepted { count: 5, cents: 202_490 }),
+    ("evening08-bic.xml", Known::Refused { number: 4, place: 8431 }),
     ("rents.xml", Known::Accepted { count: 3, cents: 200_330 }),
     ("rents-wrapped.xml", Known::Accepted { count: 3, cents: 200_330 }),
     ("october.xml", Known::Refused { number: 14, place: 252 }),
@@ -428,6 +445,7 @@ fn one_message(run: &str, seed: u64, number: u64, of_message: OneMessage) -> Opt
         "large" => message(number, damage::large(seed, number)),
         "sweep" => sweep::sweep(seed, message),
         "typed" => typed::sweep(seed, message),
+        "versions" => versions::sweep(seed, message),
         "slips" => slips::slips(seed, number / slips::NUMBERS, message),
         "limits" => sweep::limits(message),
         _ => {}

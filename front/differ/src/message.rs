@@ -47,6 +47,42 @@ pub struct Message {
     pub items: Vec<(usize, usize)>,
     /// Each item's record, made from its values beside the message.
     pub records: Vec<Vec<u8>>,
+    pub version: Version,
+}
+
+/// The version that a message's root names. It decides the BIC elements alone.
+#[derive(Clone, Copy, Debug, PartialEq, Eq, PartialOrd, Ord)]
+pub enum Version {
+    V02,
+    V08,
+}
+
+impl Version {
+    pub const ALL: [Version; 2] = [Version::V02, Version::V08];
+
+    /// The root's start tag.
+    pub fn root(self) -> &'static str {
+        match self {
+            Version::V02 => r#"<Document xmlns="urn:iso:std:iso:20022:tech:xsd:pacs.003.001.02">"#,
+            Version::V08 => r#"<Document xmlns="urn:iso:std:iso:20022:tech:xsd:pacs.003.001.08">"#,
+        }
+    }
+
+    /// What a BIC element is called, and the kind of its value.
+    pub fn bic(self) -> (&'static str, Kind) {
+        match self {
+            Version::V02 => ("BIC", Kind::Bic),
+            Version::V08 => ("BICFI", Kind::Bicfi),
+        }
+    }
+
+    /// The other of the two.
+    pub fn other(self) -> Version {
+        match self {
+            Version::V02 => Version::V08,
+            Version::V08 => Version::V02,
+        }
+    }
 }
 
 /// How white space stands between tags.
@@ -72,6 +108,7 @@ pub struct Plan {
     pub optional: Option<bool>,
     /// PmtTpInf: once in the header, or in every item.
     pub type_in_header: bool,
+    pub version: Version,
 }
 
 impl Plan {
@@ -90,11 +127,11 @@ impl Plan {
             _ => Spacing::None,
         };
         let (declaration, type_in_header) = (random.once_in(2), random.once_in(3));
-        Plan { items, spacing, small: false, declaration, optional: None, type_in_header }
+        let version = Version::ALL[random.below(2)];
+        Plan { items, spacing, small: false, declaration, optional: None, type_in_header, version }
     }
 }
 
-pub const ROOT: &str = r#"<Document xmlns="urn:iso:std:iso:20022:tech:xsd:pacs.003.001.02">"#;
 pub const DECLARATION: &str = r#"<?xml version="1.0" encoding="UTF-8"?>"#;
 
 const METHODS: Kind = Kind::Code(&["CLRG"]);
@@ -107,6 +144,7 @@ struct Writer<'r> {
     random: &'r mut Random,
     spacing: Spacing,
     small: bool,
+    version: Version,
     depth: usize,
     parts: Vec<Part>,
 }
@@ -186,7 +224,8 @@ impl Writer<'_> {
     fn agent(&mut self, name: &'static str) -> Vec<u8> {
         self.open(name);
         self.open("FinInstnId");
-        let bic = self.element("BIC", Kind::Bic);
+        let (element, kind) = self.version.bic();
+        let bic = self.element(element, kind);
         self.close("FinInstnId");
         self.close(name);
         bic
@@ -337,15 +376,15 @@ fn short(kind: Kind) -> usize {
         Kind::Iban => 22,
         Kind::CreditorId => 18,
         Kind::Time => 29,
-        Kind::Date | Kind::Bic | Kind::Code(_) => 11,
+        Kind::Date | Kind::Bic | Kind::Bicfi | Kind::Code(_) => 11,
         _ => 4,
     }
 }
 
 /// An accepted message by this plan.
 pub fn accepted(plan: &Plan, random: &mut Random) -> Message {
-    let mut writer =
-        Writer { random, spacing: plan.spacing, small: plan.small, depth: 0, parts: Vec::new() };
+    let &Plan { spacing, small, version, .. } = plan;
+    let mut writer = Writer { random, spacing, small, version, depth: 0, parts: Vec::new() };
     let w = &mut writer;
     let amounts: Vec<u64> = (0..plan.items)
         .map(|_| if plan.small { w.random.worth(1, 9999) } else { value::item_cents(w.random) })
@@ -357,7 +396,7 @@ pub fn accepted(plan: &Plan, random: &mut Random) -> Message {
     }
     w.white();
     w.depth += 1;
-    w.part(What::Start, "Document", ROOT.into());
+    w.part(What::Start, "Document", version.root().into());
     w.open("FIToFICstmrDrctDbt");
 
     let instrument = value::valid(INSTRUMENTS, w.random).bytes;
@@ -375,7 +414,7 @@ pub fn accepted(plan: &Plan, random: &mut Random) -> Message {
     w.close("FIToFICstmrDrctDbt");
     w.close("Document");
     w.white();
-    Message { parts: writer.parts, count: plan.items as u64, cents, items, records }
+    Message { parts: writer.parts, count: plan.items as u64, cents, items, records, version }
 }
 
 impl Message {
@@ -427,6 +466,11 @@ impl Message {
     /// The parts that are so.
     pub fn parts_that(&self, are: impl Fn(&Part) -> bool) -> Vec<usize> {
         (0..self.parts.len()).filter(|&at| are(&self.parts[at])).collect()
+    }
+
+    /// The part that is the instructing agent's BIC.
+    pub fn header_bic(&self) -> usize {
+        self.header_value(self.version.bic().0)
     }
 
     /// The part that is the value of the header's element of this name.

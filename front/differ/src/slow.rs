@@ -6,10 +6,29 @@ use crate::kind::Kind;
 use std::borrow::Cow;
 
 const DECLARATION: &str = "<?xml version=\"1.0\" encoding=\"UTF-8\"?>";
-const ROOT: &str = "<Document xmlns=\"urn:iso:std:iso:20022:tech:xsd:pacs.003.001.02\">";
+
+/// What a version has of its own: the name and the kind of what the table calls `BIC`, and behind which
+/// number its root's namespace ends.
+struct Version {
+    number: &'static str,
+    name: &'static str,
+    kind: &'static str,
+}
+
+const VERSIONS: [Version; 2] = [
+    Version { number: "02", name: "BIC", kind: "bic" },
+    Version { number: "08", name: "BICFI", kind: "bicfi" },
+];
+
+impl Version {
+    /// The root's start tag.
+    fn root(&self) -> String {
+        format!("<Document xmlns=\"urn:iso:std:iso:20022:tech:xsd:pacs.003.001.{}\">", self.number)
+    }
+}
 
 /// The paper's indented order. `?` 0 or 1, `+` 1 or more, `!` 1 unless the header has one, and then
-/// none; `=` and the kind for a value.
+/// none; `=` and the kind for a value, which is the version's for a BIC.
 const TABLE: &str = "
 FIToFICstmrDrctDbt
   GrpHdr
@@ -28,7 +47,7 @@ FIToFICstmrDrctDbt
       SeqTp = FRST RCUR FNAL OOFF
     InstgAgt
       FinInstnId
-        BIC = bic
+        BIC =
   DrctDbtTxInf +
     PmtId
       InstrId ? = reference
@@ -61,7 +80,7 @@ FIToFICstmrDrctDbt
         IBAN = iban
     CdtrAgt
       FinInstnId
-        BIC = bic
+        BIC =
     Dbtr
       Nm = text70
     DbtrAcct
@@ -69,12 +88,13 @@ FIToFICstmrDrctDbt
         IBAN = iban
     DbtrAgt
       FinInstnId
-        BIC = bic
+        BIC =
     RmtInf ?
       Ustrd = text140
 ";
 
 struct Node {
+    /// As the table has it; the tags of a BIC are the version's.
     name: &'static str,
     least: usize,
     most: usize,
@@ -98,13 +118,15 @@ impl Node {
     }
 }
 
-/// The table as a tree.
+/// The table as a tree, for each version.
 pub struct Slow {
-    top: Vec<Node>,
+    tops: [Vec<Node>; 2],
 }
 
+type Lines = std::iter::Peekable<std::str::Lines<'static>>;
+
 /// The elements of the table from here on that stand at this depth.
-fn nodes(lines: &mut std::iter::Peekable<std::str::Lines<'static>>, depth: usize) -> Vec<Node> {
+fn nodes(lines: &mut Lines, depth: usize, version: &Version) -> Vec<Node> {
     let mut nodes = Vec::new();
     while let Some(line) = lines.peek() {
         let text = line.trim_start();
@@ -112,8 +134,9 @@ fn nodes(lines: &mut std::iter::Peekable<std::str::Lines<'static>>, depth: usize
             break;
         }
         lines.next();
-        let (name, value) = match text.split_once(" = ") {
-            Some((name, value)) => (name, Some(value)),
+        let (name, value) = match text.split_once(" =") {
+            Some((name, "")) => (name, Some(version.kind)),
+            Some((name, value)) => (name, Some(value.trim_start())),
             None => (text, None),
         };
         let (name, mark) = name.split_once(' ').unwrap_or((name, ""));
@@ -122,25 +145,16 @@ fn nodes(lines: &mut std::iter::Peekable<std::str::Lines<'static>>, depth: usize
             "+" => (1, usize::MAX),
             _ => (1, 1),
         };
-        let children = nodes_below(lines, depth, value.is_none());
-        let (start, end) = (start_tag(name, value), format!("</{name}>"));
+        let children = match value {
+            Some(_) => Vec::new(),
+            None => self::nodes(lines, depth + 1, version),
+        };
+        let tag = if name == "BIC" { version.name } else { name };
+        let (start, end) = (start_tag(tag, value), format!("</{tag}>"));
         let unless_in_header = mark == "!";
         nodes.push(Node { name, least, most, unless_in_header, value, children, start, end });
     }
     nodes
-}
-
-/// The elements below one that is a group; a value has none.
-fn nodes_below(
-    lines: &mut std::iter::Peekable<std::str::Lines<'static>>,
-    depth: usize,
-    group: bool,
-) -> Vec<Node> {
-    if group {
-        nodes(lines, depth + 1)
-    } else {
-        Vec::new()
-    }
 }
 
 type Refusal = (u8, usize);
@@ -332,8 +346,10 @@ fn start_tag(name: &str, value: Option<&str>) -> String {
     }
 }
 
-/// An accepted message: count, cents, the items' places, and all that it says in its order.
+/// An accepted message: which version it is of, count, cents, the items' places, and all that it says
+/// in its order.
 pub struct Accepted<'m> {
+    pub version: usize,
     pub count: u64,
     pub cents: u64,
     pub items: Vec<(usize, usize)>,
@@ -350,10 +366,13 @@ impl Default for Slow {
 impl Slow {
     /// Reads the table.
     pub fn new() -> Slow {
-        let mut lines = TABLE.trim_matches('\n').lines().peekable();
-        let top = nodes(&mut lines, 0);
-        assert!(lines.next().is_none());
-        Slow { top }
+        let tops = VERSIONS.map(|version| {
+            let mut lines = TABLE.trim_matches('\n').lines().peekable();
+            let top = nodes(&mut lines, 0, &version);
+            assert!(lines.next().is_none());
+            top
+        });
+        Slow { tops }
     }
 
     /// Judges a message.
@@ -377,8 +396,9 @@ impl Slow {
             run.choose(&[DECLARATION], 2)?;
         }
         run.white();
-        run.choose(&[ROOT], 2)?;
-        run.children(&self.top, "</Document>")?;
+        let roots = VERSIONS.map(|version| version.root());
+        let version = run.choose(&roots.each_ref().map(String::as_str), 2)?;
+        run.children(&self.tops[version], "</Document>")?;
         run.white();
         if run.at < message.len() {
             return Err((16, run.at));
@@ -390,7 +410,7 @@ impl Slow {
             return Err((15, run.total.1));
         }
         let Run { total, items, said, .. } = run;
-        Ok(Accepted { count: items.len() as u64, cents: total.0, items, said })
+        Ok(Accepted { version, count: items.len() as u64, cents: total.0, items, said })
     }
 
     /// What is recorded of each item of a message that says this, field by field; nothing for an
@@ -421,11 +441,11 @@ impl Slow {
         self.recorded(said).into_iter().map(record).collect::<String>().into_bytes()
     }
 
-    /// The plain form of a message that says this: the table written out, with these values.
-    pub fn plain(&self, said: &[Said]) -> Vec<u8> {
-        let mut form = [DECLARATION, ROOT].concat().into_bytes();
-        let mut left = said;
-        for node in &self.top {
+    /// The plain form of an accepted message: the table of its version written out, with its values.
+    pub fn plain(&self, message: &Accepted) -> Vec<u8> {
+        let mut form = [DECLARATION, &VERSIONS[message.version].root()].concat().into_bytes();
+        let mut left = message.said.as_slice();
+        for node in &self.tops[message.version] {
             write(node, &mut left, &mut form);
         }
         form.extend(b"</Document>");
@@ -521,6 +541,7 @@ fn checker(kind: &str) -> Option<Checker> {
         "item-amount" => |v| amount(v, 99_999_999_999),
         "header-amount" => |v| amount(v, 99_999_999_999_999_999),
         "bic" => bic,
+        "bicfi" => bicfi,
         "iban" => iban,
         "creditor-id" => creditor_id,
         _ => return None,
@@ -533,6 +554,7 @@ pub fn check(kind: Kind, value: &[u8]) -> Result<u64, u8> {
         Kind::Iban => "iban",
         Kind::CreditorId => "creditor-id",
         Kind::Bic => "bic",
+        Kind::Bicfi => "bicfi",
         Kind::Date => "date",
         Kind::Time => "time",
         Kind::Reference => "reference",
@@ -692,6 +714,11 @@ fn amount(value: &[u8], most: u128) -> Result<u64, u8> {
 /// Eight or eleven, by the two templates.
 fn bic(value: &[u8]) -> Result<u64, u8> {
     (like(value, "AAAAAATL") || like(value, "AAAAAATLXXX")).then_some(0).ok_or(7)
+}
+
+/// The same of version .08.
+fn bicfi(value: &[u8]) -> Result<u64, u8> {
+    (like(value, "XXXXAAXX") || like(value, "XXXXAAXXXXX")).then_some(0).ok_or(7)
 }
 
 /// Long division of the written number, character by character.

@@ -6,7 +6,7 @@ use crate::collapse::{spelled_to, white_runs, words};
 use crate::damage::{fine, kind_of, values_of, Case, MOST_ITEMS};
 use crate::handmade::EXAMPLES;
 use crate::kind::Kind;
-use crate::message::{accepted, Message, Part, Plan, Spacing, What};
+use crate::message::{accepted, Message, Part, Plan, Spacing, Version, What};
 use crate::random::Random;
 use crate::twins::{collapses, may_have_white, with_header};
 use crate::value::{self, Valid, ITEM_MOST, WHITE};
@@ -16,10 +16,12 @@ type Give<'a> = &'a mut dyn FnMut(Case);
 /// Cents with every number of decimals that must be written, short and long.
 const CENTS: [u64; 10] = [1, 5, 10, 99, 100, 530, 1000, 123_450, ITEM_MOST - 99, ITEM_MOST];
 
-/// A plan for so many short items without white space.
+/// A plan for so many short items without white space: with a declaration in version .02, without one
+/// in .08.
 fn compact(items: usize, declaration: bool) -> Plan {
     let (spacing, optional) = (Spacing::None, Some(declaration));
-    Plan { items, spacing, small: true, declaration, optional, type_in_header: false }
+    let version = if declaration { Version::V02 } else { Version::V08 };
+    Plan { items, spacing, small: true, declaration, optional, type_in_header: false, version }
 }
 
 /// All spellings of small messages. Each case has its number, so that it can be made again.
@@ -171,7 +173,7 @@ fn longest_value(kind: Kind) -> Vec<u8> {
             let longest = EXAMPLES.iter().max_by_key(|example| example.len());
             longest.expect("there are examples").as_bytes().to_vec()
         }
-        Kind::Bic => b"BANKDEFFXXX".to_vec(),
+        Kind::Bic | Kind::Bicfi => b"BANKDEFFXXX".to_vec(),
         Kind::Date => b"2010-12-03".to_vec(),
         Kind::Time => b"2010-12-01T09:30:00.000+01:00".to_vec(),
         Kind::ItemAmount | Kind::HeaderAmount => value::euros(ITEM_MOST).into_bytes(),

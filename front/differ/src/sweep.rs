@@ -8,7 +8,7 @@ use crate::damage::{
 };
 use crate::handmade::{handmade, EXAMPLES, UNLISTED};
 use crate::kind::Kind;
-use crate::message::{accepted, concat, Message, Part, Plan, Spacing, What};
+use crate::message::{accepted, concat, Message, Part, Plan, Spacing, Version, What};
 use crate::random::Random;
 use crate::spellings;
 use crate::value::{self, WHITE};
@@ -16,20 +16,22 @@ use crate::value::{self, WHITE};
 type Give<'a> = &'a mut dyn FnMut(Vec<u8>, &'static str, Known);
 
 /// The small messages that are swept: everything optional, behind a declaration, compact and as meant,
-/// and in white space; nothing optional and two items, with PmtTpInf in each and in the header.
-fn small_messages(seed: u64) -> [Message; 4] {
-    let small = |spacing: Spacing, full: bool, type_in_header: bool| {
+/// and in white space; nothing optional and two items, with PmtTpInf in each and in the header. The
+/// compact one in both versions, of the others every other one.
+fn small_messages(seed: u64) -> [Message; 5] {
+    let small = |version: Version, spacing: Spacing, full: bool, type_in_header: bool| {
         let random = &mut Random::new(seed, u64::MAX - u64::from(full));
-        let (items, optional) = (if full { 1 } else { 2 }, Some(full));
+        let (items, declaration, optional) = (if full { 1 } else { 2 }, full, Some(full));
         let plan =
-            Plan { items, spacing, small: true, declaration: full, optional, type_in_header };
+            Plan { items, spacing, small: true, declaration, optional, type_in_header, version };
         accepted(&plan, random)
     };
     [
-        small(Spacing::None, true, false).as_meant(),
-        small(Spacing::Everywhere, true, false),
-        small(Spacing::None, false, false),
-        small(Spacing::None, false, true),
+        small(Version::V02, Spacing::None, true, false).as_meant(),
+        small(Version::V08, Spacing::None, true, false).as_meant(),
+        small(Version::V08, Spacing::Everywhere, true, false),
+        small(Version::V02, Spacing::None, false, false),
+        small(Version::V08, Spacing::None, false, true),
     ]
 }
 
@@ -329,8 +331,16 @@ fn long_values(give: &mut dyn FnMut(Case)) {
 
 /// A plan for so many short items.
 fn compact(items: usize) -> Plan {
-    let (spacing, optional) = (Spacing::None, Some(false));
-    Plan { items, spacing, small: true, declaration: true, optional, type_in_header: false }
+    let (spacing, optional, version) = (Spacing::None, Some(false), Version::V02);
+    Plan {
+        items,
+        spacing,
+        small: true,
+        declaration: true,
+        optional,
+        type_in_header: false,
+        version,
+    }
 }
 
 /// Messages of the longest length, and of one byte more.

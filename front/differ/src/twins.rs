@@ -8,6 +8,7 @@ use crate::message::{Message, Part, What, DECLARATION, INSTRUMENTS};
 use crate::random::Random;
 use crate::typed;
 use crate::value::{self, Valid, WHITE};
+use crate::versions;
 
 /// A way to make another message; nothing where it does not fit.
 type Way = fn(Message, &mut Random) -> Option<Message>;
@@ -29,6 +30,7 @@ const OTHER: &[(&str, Way)] = &[
     ("a value nearly the same", nearly_the_same),
     ("the other local instrument", other_instrument),
     ("payment type at the other place", |message, _| Some(typed::moved(&message))),
+    ("the other version", |message, _| versions::moved(&message)),
     ("a cent more", cent_more),
     ("a cent from one item to another", cent_moved),
     ("optional element left out", left_out),
@@ -175,7 +177,7 @@ fn nearly_the_same(mut message: Message, random: &mut Random) -> Option<Message>
             part.say(parted(kind, &part.meant, random)?);
             return Some(message);
         }
-        Kind::Bic if old.len() == 8 => [old, b"XXX"].concat(),
+        Kind::Bic | Kind::Bicfi if old.len() == 8 => [old, b"XXX"].concat(),
         Kind::CreditorId if old.len() < 35 => [old, b"/"].concat(),
         Kind::CreditorId => other_case(old)?,
         Kind::Time if old.ends_with(b"Z") => [&old[..old.len() - 1], b"+00:00"].concat(),

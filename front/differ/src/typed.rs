@@ -2,7 +2,7 @@
 //! behind each byte, and put in wherever a tag may stand. What is known comes from the making.
 
 use crate::damage::{cut_to, element_at, fine, whole, Case, Known};
-use crate::message::{accepted, concat, Message, Part, Plan, Spacing, What};
+use crate::message::{accepted, concat, Message, Part, Plan, Spacing, Version, What};
 use crate::random::Random;
 use crate::twins::{may_have_white, starts};
 
@@ -134,19 +134,21 @@ fn cut(message: &Message, known: Known, length: usize) -> (Vec<u8>, Known) {
     }
 }
 
-/// The sweep: small messages of two items, compact and in white space, with PmtTpInf at all places and
-/// cut behind each byte; then with one more at each place where a tag may stand.
+/// The sweep: small messages of two items, compact in version .02 and in white space in .08, with
+/// PmtTpInf at all places and cut behind each byte; then with one more at each place where a tag may
+/// stand.
 pub fn sweep(seed: u64, mut each: impl FnMut(u64, Case)) {
     let mut number = 0;
     let mut give = |case: Case| {
         each(number, case);
         number += 1;
     };
-    for spacing in [Spacing::None, Spacing::Everywhere] {
+    let spaced = [(Version::V02, Spacing::None), (Version::V08, Spacing::Everywhere)];
+    for (version, spacing) in spaced {
         let (items, optional) = (2, Some(spacing != Spacing::None));
-        let declaration = spacing == Spacing::None;
+        let (declaration, type_in_header) = (spacing == Spacing::None, false);
         let plan =
-            Plan { items, spacing, small: true, declaration, optional, type_in_header: false };
+            Plan { items, spacing, small: true, declaration, optional, type_in_header, version };
         let message = accepted(&plan, &mut Random::new(seed, 0x7479));
         for ways in 0..8_u32 {
             let [header, one, other] = [0, 1, 2].map(|way| ways >> way & 1 == 1);

@@ -1,7 +1,7 @@
-//! Messages like those that are sent, for the stopwatch: one creditor, many debtors, values of usual
+//! Messages like those that are sent, for the stopwatch: version .02, one creditor, many debtors, values of usual
 //! length, each item with its own references, amount and account.
 
-use crate::message::{DECLARATION, ROOT};
+use crate::message::{Version, DECLARATION};
 use crate::random::Random;
 use crate::value::{check_digits, euros, DIGITS};
 
@@ -49,7 +49,7 @@ pub fn usual(items: usize, indented: bool) -> Vec<u8> {
     let header = HEADER
         .replace("@COUNT", &items.to_string())
         .replace("@TOTAL", &euros(amounts.iter().sum()));
-    let mut text = format!("{DECLARATION}|{ROOT}|{header}");
+    let mut text = format!("{DECLARATION}|{}|{header}", Version::V02.root());
     for (number, cents) in amounts.into_iter().enumerate() {
         text.push_str(&item(number + 1, cents, random));
     }

@@ -45,6 +45,7 @@ pub fn valid(kind: Kind, random: &mut Random) -> Valid {
         Kind::Iban => yes(iban(random)),
         Kind::CreditorId => yes(creditor_id(random)),
         Kind::Bic => yes(bic(random)),
+        Kind::Bicfi => yes(bicfi(random)),
         Kind::Date => yes(date(random)),
         Kind::Time => yes(time(random)),
         Kind::Reference => yes(reference(random)),
@@ -257,6 +258,18 @@ fn bic(random: &mut Random) -> Vec<u8> {
     bytes
 }
 
+/// A BIC of version .08: every third time one of version .02, which is one too.
+fn bicfi(random: &mut Random) -> Vec<u8> {
+    if random.once_in(3) {
+        return bic(random);
+    }
+    let mut bytes = random.bytes(CAPITALS_DIGITS, 4);
+    bytes.extend(random.bytes(CAPITALS, 2));
+    let more = if random.once_in(2) { 2 } else { 5 };
+    bytes.extend(random.bytes(CAPITALS_DIGITS, more));
+    bytes
+}
+
 /// The days of a month.
 fn days(year: usize, month: usize) -> usize {
     let leap = year % 400 == 0 || (year % 4 == 0 && year % 100 != 0);
@@ -444,7 +457,7 @@ pub fn random(kind: Kind, random: &mut Random) -> Vec<u8> {
     }
     match kind {
         Kind::Iban | Kind::CreditorId => random_account(kind, random),
-        Kind::Bic => {
+        Kind::Bic | Kind::Bicfi => {
             let length = random.between(7, 12);
             random.bytes(random_set(&[b"ABNOPZ0129", CAPITALS], length), length)
         }
@@ -537,8 +550,9 @@ pub fn case(seed: u64, case: u64) -> Case {
 
 /// Values beside each other, for every kind: each place of a valid value set to each byte, each byte
 /// put in at each place, each place left out; each length of one byte; IBANs of every pair of
-/// capitals and every length; every slip in their letters; white space at each place; the days of many months, all hours,
-/// minutes, seconds and zones. `each` gets the number of the case too.
+/// capitals and every length; every slip in their letters; every byte of a few BICs, of both kinds;
+/// white space at each place; the days of many months, all hours, minutes, seconds and zones. `each`
+/// gets the number of the case too.
 pub fn sweep(seed: u64, mut each: impl FnMut(u64, Case)) {
     let mut number = 0;
     let mut give_known = |kind: Kind, bytes: Vec<u8>, sort: &'static str, known| {
@@ -554,6 +568,7 @@ pub fn sweep(seed: u64, mut each: impl FnMut(u64, Case)) {
     collapse::sweep(&mut Random::new(seed, 0x517E), &mut |kind, bytes, sort, known| {
         give_known(kind, bytes, sort, Some(known));
     });
+    sweep_bics(&mut |kind, bytes, known| give_known(kind, bytes, "sweep: BICs", Some(known)));
     let mut give = |kind: Kind, bytes: Vec<u8>, sort: &'static str| {
         give_known(kind, bytes, sort, None);
     };
@@ -597,6 +612,46 @@ fn sweep_countries(random: &mut Random, mut give: impl FnMut(Vec<u8>, Result<u64
     for unlisted in UNLISTED {
         give(unlisted.into(), Err(19));
         give(digits_off(unlisted.as_bytes()), Err(19));
+    }
+}
+
+/// The bytes that may stand at a place of a BIC, by the paper's lists.
+fn bic_set(kind: Kind, at: usize) -> &'static [u8] {
+    match (kind, at) {
+        (Kind::Bic, 0..=5) | (_, 4 | 5) => CAPITALS,
+        (Kind::Bic, 6) => b"ABCDEFGHIJKLMNOPQRSTUVWXYZ23456789",
+        (Kind::Bic, 7) => b"ABCDEFGHIJKLMNPQRSTUVWXYZ0123456789",
+        _ => CAPITALS_DIGITS,
+    }
+}
+
+/// What the checker of a kind of BIC answers, by those sets.
+pub fn known_bic(kind: Kind, value: &[u8]) -> Result<u64, u8> {
+    let is_in_set = |(at, byte): (usize, &u8)| bic_set(kind, at).contains(byte);
+    let holds = [8, 11].contains(&value.len()) && value.iter().enumerate().all(is_in_set);
+    holds.then_some(0).ok_or(7)
+}
+
+/// A few values, good in both versions, in one or in none: each place of each set to each byte, and
+/// each length from 0 to 13. Both checkers are asked.
+fn sweep_bics(give: &mut dyn FnMut(Kind, Vec<u8>, Result<u64, u8>)) {
+    let mut ask = |value: &[u8]| {
+        for kind in [Kind::Bic, Kind::Bicfi] {
+            give(kind, value.to_vec(), known_bic(kind, value));
+        }
+    };
+    for value in ["BANKDEFF", "BANKDEFFXXX", "1BNKDEFF999", "BANKDE1O", "0000AA00", "BANK0EFFXXX"] {
+        for at in 0..value.len() {
+            for byte in 0..=255 {
+                let mut other = value.as_bytes().to_vec();
+                other[at] = byte;
+                ask(&other);
+            }
+        }
+        for length in 0..=13 {
+            let long = [value.as_bytes(), b"A0B1C"].concat();
+            ask(&long[..length]);
+        }
     }
 }
 

@@ -2,7 +2,8 @@
 
 use differ::daybook::Plain;
 use differ::days::{self, Call, Day};
-use differ::value::HEADER_MOST;
+use differ::kind::Kind;
+use differ::value::{known_bic, HEADER_MOST};
 use face::book::{parts, Entry, Key, BOOK};
 use std::collections::BTreeSet;
 
@@ -144,6 +145,22 @@ fn one_key_wherever_the_payment_type_stands() {
         }
     }
     assert_eq!(services, [b"B2B".to_vec(), b"CORE".to_vec()].into_iter().collect());
+}
+
+/// Two bulks of a day with one key, of which one is of version .02 and the other of version .08; and
+/// keys with a BIC that .08 has alone.
+#[test]
+fn one_key_in_both_versions() {
+    let (mut in_both, mut wider) = (0, 0);
+    for day in of_sort("from the empty book, keys nearly the same") {
+        let is_08 = |bytes: &[u8]| bytes.windows(7).any(|part| part == b"<BICFI>");
+        let bulk = |bulk: &days::Bulk| (bulk.known.expect("whole").key, is_08(&bulk.bytes));
+        let bulks: BTreeSet<(Key, bool)> = day.bulks.iter().map(bulk).collect();
+        in_both += bulks.iter().filter(|(key, is)| *is && bulks.contains(&(*key, false))).count();
+        let is_wider = |key: &Key| known_bic(Kind::Bic, parts(key)[2]).is_err();
+        wider += bulks.iter().filter(|(key, _)| is_wider(key)).count();
+    }
+    assert!(in_both > 10 && wider > 10, "{in_both} {wider}");
 }
 
 /// Whether PmtTpInf stands in the header of a message.

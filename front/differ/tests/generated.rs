@@ -4,11 +4,11 @@ use differ::ask::{other_names, plain_check};
 use differ::damage::{self, Known};
 use differ::face::RECORD;
 use differ::kind::{Kind, CHECKED};
-use differ::message::{Message, Part, What, INSTRUMENTS};
+use differ::message::{Message, Part, Version, What, INSTRUMENTS};
 use differ::random::Random;
 use differ::slow::Slow;
 use differ::value::{self, WHITE};
-use differ::{letters, slips, spellings, sweep, twins, typed};
+use differ::{letters, slips, spellings, sweep, twins, typed, versions};
 use std::collections::{BTreeMap, BTreeSet};
 
 /// The first messages that the gate's run of seed 1 is made from.
@@ -18,7 +18,7 @@ fn messages() -> impl Iterator<Item = Message> {
 
 /// Every element with a value, and the shortest and longest value that the paper allows there, of the
 /// three that collapse by the collapsed value.
-const LENGTHS: [(&str, usize, usize); 22] = [
+const LENGTHS: [(&str, usize, usize); 23] = [
     ("MsgId", 1, 35),
     ("CreDtTm", 19, 29),
     ("NbOfTxs", 1, 15),
@@ -26,6 +26,7 @@ const LENGTHS: [(&str, usize, usize); 22] = [
     ("IntrBkSttlmDt", 10, 10),
     ("SttlmMtd", 4, 4),
     ("BIC", 8, 11),
+    ("BICFI", 8, 11),
     ("InstrId", 1, 35),
     ("EndToEndId", 1, 35),
     ("TxId", 1, 35),
@@ -291,6 +292,69 @@ fn payment_types_here_and_there() {
     );
 }
 
+/// Both versions, each in a good share of the messages; in .08 BICs that .02 has too, and others: with a
+/// digit at each of the first four places, 0 or 1 at the seventh, O at the eighth.
+#[test]
+fn both_versions_and_their_bics() {
+    let mut seen = BTreeSet::new();
+    let mut shares = BTreeMap::new();
+    for message in messages() {
+        *shares.entry(message.version).or_insert(0) += 1;
+        for part in versions::bics(&message) {
+            let bytes = &message.parts[part].bytes;
+            assert_eq!(value::known_bic(message.version.bic().1, bytes), Ok(0));
+            if value::known_bic(Kind::Bic, bytes).is_ok() {
+                seen.insert((message.version, "narrow".to_string()));
+            }
+            let digits = (0..4).filter(|&at| bytes[at].is_ascii_digit());
+            seen.extend(digits.map(|at| (message.version, format!("digit {at}"))));
+            if b"01".contains(&bytes[6]) || bytes[7] == b'O' {
+                seen.insert((message.version, "seventh or eighth".to_string()));
+            }
+        }
+    }
+    assert!(shares.len() == 2 && shares.values().all(|share| *share > 2_500), "{shares:?}");
+    let wider = (0..4).map(|at| format!("digit {at}"));
+    let wide = wider.chain(["narrow", "seventh or eighth"].map(String::from));
+    let narrow = [(Version::V02, "narrow".to_string())];
+    let due = wide.map(|what| (Version::V08, what)).chain(narrow);
+    assert_eq!(seen, due.collect());
+}
+
+/// The sweep of the versions: each answer that it can have, known from its making, in either version.
+#[test]
+fn versions_in_every_way() {
+    let mut seen: BTreeMap<&str, BTreeSet<(bool, String)>> = BTreeMap::new();
+    versions::sweep(1, |_, case| {
+        let is_08 = case.bytes.windows(6).any(|part| part == b"001.08");
+        let answer = match case.known {
+            Known::Refused { number, .. } => number.to_string(),
+            Known::Accepted { .. } => "accepted".into(),
+            Known::Bad | Known::Nothing => "refused".into(),
+        };
+        seen.entry(case.damage).or_default().insert((is_08, answer));
+    });
+    let due = [
+        ("none", "accepted"),
+        ("the other version", "accepted"),
+        ("a version, cut", "3 accepted"),
+        ("root, byte set", "2 4"),
+        ("root of neither version", "2"),
+        ("root of neither version, cut", "2 3"),
+        ("root of the other version", "4"),
+        ("elements of the other version", "4 accepted"),
+        ("one tag of the other version", "4"),
+        ("tag of a version, cut", "3 4 refused"),
+        ("BIC of a version", "accepted"),
+        ("no BIC of a version", "7"),
+    ];
+    let in_both = |answers: &str| -> BTreeSet<(bool, String)> {
+        let answers = answers.split(' ').map(String::from);
+        answers.flat_map(|answer| [(false, answer.clone()), (true, answer)]).collect()
+    };
+    assert_eq!(seen, due.map(|(damage, answers)| (damage, in_both(answers))).into());
+}
+
 #[test]
 fn every_damage_and_every_number() {
     let mut damages = BTreeSet::new();
@@ -420,7 +484,7 @@ fn twins_that_are_nearly_the_same() {
         if case.damage != "a value nearly the same" {
             continue;
         }
-        for element in ["MsgId", "CreDtTm", "Id", "EndToEndId", "Nm", "Ustrd", "BIC"] {
+        for element in ["MsgId", "CreDtTm", "Id", "EndToEndId", "Nm", "Ustrd", "BIC", "BICFI"] {
             let start = format!("<{element}>");
             let (one, other) = (values(&twin.bytes, &start), values(&case.bytes, &start));
             let words =
@@ -445,6 +509,7 @@ fn twins_that_are_nearly_the_same() {
         "Nm with a space",
         "Ustrd with a space",
         "BIC XXX",
+        "BICFI XXX",
     ] {
         assert!(ends.contains(due), "{due}: {ends:?}");
     }
@@ -535,7 +600,7 @@ fn plain_forms_at_the_limits() {
     let mut lengths = Vec::new();
     spellings::limits(&mut |case| lengths.push((case.bytes.len(), case.plain.len())));
     let (longest, growing) = (lengths[0], lengths[1]);
-    assert_eq!(longest, (13_460_514 - 38, 13_460_514));
+    assert_eq!(longest, (13_540_518 - 38, 13_540_518));
     assert_eq!(growing.1 - growing.0, 38 + 3 * 10_001);
 }
 

@@ -21,6 +21,7 @@ pub enum Kind {
     Iban,
     CreditorId,
     Bic,
+    Bicfi,
     Count,
     ItemAmount,
     HeaderAmount,
@@ -39,6 +40,7 @@ extern "C" {
     fn bulk_iban(value: *const u8, length: usize, answer: *mut u64);
     fn bulk_creditor_id(value: *const u8, length: usize, answer: *mut u64);
     fn bulk_bic(value: *const u8, length: usize, answer: *mut u64);
+    fn bulk_bicfi(value: *const u8, length: usize, answer: *mut u64);
     fn bulk_date(value: *const u8, length: usize, answer: *mut u64);
     fn bulk_time(value: *const u8, length: usize, answer: *mut u64);
     fn bulk_reference(value: *const u8, length: usize, answer: *mut u64);
@@ -101,6 +103,7 @@ pub fn check(kind: Kind, value: &[u8]) -> Words {
         Kind::Iban => bulk_iban,
         Kind::CreditorId => bulk_creditor_id,
         Kind::Bic => bulk_bic,
+        Kind::Bicfi => bulk_bicfi,
         Kind::Count => bulk_count,
         Kind::ItemAmount => bulk_item_amount,
         Kind::HeaderAmount => bulk_header_amount,

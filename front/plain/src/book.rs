@@ -24,7 +24,7 @@ pub struct Key {
     pub service: [u8; 4],
     /// MsgId.
     pub msg_id: [u8; 35],
-    /// The BIC of InstgAgt.
+    /// The BIC of InstgAgt, of either version: the key does not tell them apart.
     pub bic: [u8; 11],
     /// IntrBkSttlmDt.
     pub date: [u8; 10],
@@ -119,12 +119,13 @@ fn bulk(message: &[u8]) -> Result<Entry, Refusal> {
 }
 
 /// The key of an accepted message. No value holds a `<`, so a tag is found wherever it stands; the
-/// first BIC is that of InstgAgt, and the first LclInstrm is the header's or that of all items.
+/// first FinInstnId is that of InstgAgt and holds its BIC alone, whatever the version calls it, and
+/// the first LclInstrm is the header's or that of all items.
 fn key(message: &[u8]) -> Key {
     Key {
         service: padded(value_behind(behind(message, b"<LclInstrm>"), b"<Cd>")),
         msg_id: padded(value_behind(message, b"<MsgId>")),
-        bic: padded(value_behind(message, b"<BIC>")),
+        bic: padded(value_behind(behind(message, b"<FinInstnId>"), b">")),
         date: padded(value_behind(message, b"<IntrBkSttlmDt>")),
     }
 }

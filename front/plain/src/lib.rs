@@ -1,4 +1,5 @@
-//! A plain judge of one SEPA interbank collection message (pacs.003.001.02), by documents 01 and 02.
+//! A plain judge of one SEPA interbank collection message (pacs.003.001.02 or .08), by documents 01
+//! and 02.
 //!
 //! The message lies in lent bytes and is read once, left to right; the first fault met ends the
 //! reading. Nothing is allocated.
@@ -13,7 +14,7 @@ mod record;
 mod value;
 
 pub use value::{
-    bic, count, creditor_id, date, end_to_end, header_amount, iban, item_amount, reference,
+    bic, bicfi, count, creditor_id, date, end_to_end, header_amount, iban, item_amount, reference,
     text140, text70, time,
 };
 
@@ -74,15 +75,16 @@ pub fn records(message: &[u8], area: &mut [u8]) -> Verdict {
     }))
 }
 
-/// Judges a message, writes its plain form to the area's start and answers its length. "Bytes after
-/// it stay. Refusals, area unchanged: the judge's own; then 1, place 0, when the plain form would pass
-/// 16,777,216 bytes; then 17 when it is longer than the lent area", at place 0 too.
+/// Judges a message, writes its plain form to the area's start and answers its length. It "stays in"
+/// the version that the root names. "Bytes after it stay. Refusals, area unchanged: the judge's own;
+/// then 1, place 0, when the plain form would pass 16,777,216 bytes; then 17 when it is longer than
+/// the lent area", at place 0 too.
 pub fn plain_form(message: &[u8], area: &mut [u8]) -> Result<usize, (u8, usize)> {
     read::<false>(message, |_, _| {})?;
     let mut length = 0;
     form::write(message, |part| length += part.len());
-    // No plain form is that long: 10,000 items of at most 1,346 bytes, each with its own PmtTpInf, and
-    // 514 around them. With PmtTpInf in the header it is shorter.
+    // No plain form is that long: in version .08 10,000 items of at most 1,354 bytes, each with its own
+    // PmtTpInf, and 518 around them. With PmtTpInf in the header, or in version .02, it is shorter.
     if length > LONGEST {
         return Err((number::TOO_LONG, 0));
     }

@@ -1,8 +1,8 @@
 //! The message as bytes: a cursor that takes tags and values, and the elements in their order.
 
 use crate::value::{
-    bic, code, count, creditor_id, date, end_to_end, header_amount, iban, item_amount, number,
-    reference, text140, text70, time,
+    bic, bicfi, code, count, creditor_id, date, end_to_end, header_amount, iban, item_amount,
+    number, reference, text140, text70, time,
 };
 
 /// A refusal: "Each gives its number and a place".
@@ -14,10 +14,20 @@ pub const LONGEST: usize = 16_777_216;
 const MOST_ITEMS: usize = 10_000;
 
 pub const DECLARATION: &[u8; 38] = br#"<?xml version="1.0" encoding="UTF-8"?>"#;
-const ROOT: &[u8; 65] = br#"<Document xmlns="urn:iso:std:iso:20022:tech:xsd:pacs.003.001.02">"#;
+const ROOT_02: &[u8; 65] = br#"<Document xmlns="urn:iso:std:iso:20022:tech:xsd:pacs.003.001.02">"#;
+const ROOT_08: &[u8; 65] = br#"<Document xmlns="urn:iso:std:iso:20022:tech:xsd:pacs.003.001.08">"#;
 const ITEM: &[u8; 14] = b"<DrctDbtTxInf>";
 const ITEM_END: &[u8; 15] = b"</DrctDbtTxInf>";
 const PAYMENT_TYPE: &[u8; 10] = b"<PmtTpInf>";
+
+/// "A message is read as the version its root names". It decides the BIC elements alone.
+#[derive(Clone, Copy)]
+enum Version {
+    /// pacs.003.001.02
+    V02,
+    /// pacs.003.001.08
+    V08,
+}
 
 /// What the end of the message is held against, and what its items are.
 struct Header<'m> {
@@ -88,8 +98,9 @@ pub fn read<'m, const ACCEPTED: bool>(
     if message.len() > LONGEST {
         return Err((number::TOO_LONG, 0));
     }
-    let mut cursor = Cursor::<ACCEPTED> { length: message.len(), rest: message };
-    cursor.opening()?;
+    let mut cursor =
+        Cursor::<ACCEPTED> { length: message.len(), rest: message, version: Version::V02 };
+    cursor.version = cursor.opening()?;
     cursor.tag(b"<FIToFICstmrDrctDbt>")?;
     let header = cursor.group_header()?;
 
@@ -115,6 +126,8 @@ pub fn read<'m, const ACCEPTED: bool>(
 struct Cursor<'m, const ACCEPTED: bool> {
     length: usize,
     rest: &'m [u8],
+    /// Once the root is read.
+    version: Version,
 }
 
 /// Bytes, tags and values.
@@ -268,13 +281,19 @@ impl<'m, const ACCEPTED: bool> Cursor<'m, ACCEPTED> {
 impl<'m, const ACCEPTED: bool> Cursor<'m, ACCEPTED> {
     /// "A message may start with exactly `<?xml version="1.0" encoding="UTF-8"?>`. Then comes
     /// `<Document ..>`"; white space "may stand after the declaration"; "without a declaration it may
-    /// stand before the root".
-    fn opening(&mut self) -> Result<(), Refusal> {
+    /// stand before the root". Answers the version; "a root of neither is 2".
+    fn opening(&mut self) -> Result<Version, Refusal> {
         if self.rest.starts_with(b"<?") {
             self.fixed(DECLARATION, number::ROOT)?;
         }
         self.white_space();
-        self.fixed(ROOT, number::ROOT)
+        for (root, version) in [(ROOT_02, Version::V02), (ROOT_08, Version::V08)] {
+            if let Some(rest) = self.rest.strip_prefix(root) {
+                self.rest = rest;
+                return Ok(version);
+            }
+        }
+        Err(self.not_due(&[ROOT_02, ROOT_08], number::ROOT))
     }
 
     /// "After `</Document>`: 16, 14, 15", for a message of so many items and this sum.
@@ -522,11 +541,15 @@ impl<'m, const ACCEPTED: bool> Cursor<'m, ACCEPTED> {
         Ok(account)
     }
 
-    /// "FinInstnId/BIC" of InstgAgt, CdtrAgt and DbtrAgt.
+    /// "FinInstnId/BIC" of InstgAgt, CdtrAgt and DbtrAgt. In version .08 "each `BIC` element is
+    /// `BICFI`".
     #[inline]
     fn financial_institution(&mut self) -> Result<&'m [u8], Refusal> {
         self.tag(b"<FinInstnId>")?;
-        let code = self.element(b"<BIC>", bic, b"</BIC>")?.bytes;
+        let code = match self.version {
+            Version::V02 => self.element(b"<BIC>", bic, b"</BIC>")?.bytes,
+            Version::V08 => self.element(b"<BICFI>", bicfi, b"</BICFI>")?.bytes,
+        };
         self.tag(b"</FinInstnId>")?;
         Ok(code)
     }

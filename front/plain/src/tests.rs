@@ -3,6 +3,7 @@
 
 mod recorded;
 mod typed;
+mod versions;
 
 use super::*;
 use crate::value::collapsed;
@@ -470,11 +471,12 @@ fn collapsed_lengths_either_side() {
 /// Neither a reference (MsgId, InstrId, TxId, MndtId) nor any other kind collapses.
 #[test]
 fn no_other_kind_collapses() {
-    let others: [(Checker, &str); 9] = [
+    let others: [(Checker, &str); 10] = [
         (reference, "A-B"),
         (iban, "DE87200500001234567890"),
         (creditor_id, "DE98ZZZ09999999999"),
         (bic, "BANKDEFF"),
+        (bicfi, "BANKDEFF"),
         (count, "12"),
         (item_amount, "12.34"),
         (header_amount, "12.34"),
@@ -896,15 +898,16 @@ fn no_plain_form_of_a_refused_message() {
     assert_eq!(plain_form(&too_long, &mut []), Err((1, 0)));
 }
 
-/// The longest plain form: 10,000 items, each value as long as it can be. It is under the limit of 1.
+/// The longest plain form: version .08, 10,000 items, each value as long as it can be. It is under the
+/// limit of 1.
 #[test]
 fn the_longest_plain_form() {
-    let mut header = header("10000", "9999999999900.00");
-    let mut item = one_item("999999999.99", "CORE");
+    let mut header = versions::as_08(&header("10000", "9999999999900.00"));
+    let mut item = versions::as_08(&one_item("999999999.99", "CORE"));
     for (name, value) in [
         ("MsgId", "A".repeat(35)),
         ("CreDtTm", "2010-12-01T09:30:00.000+01:00".into()),
-        ("BIC", "BANKDEFFXXX".into()),
+        ("BICFI", "BANKDEFFXXX".into()),
     ] {
         header = with_value(&header, name, &value);
     }
@@ -916,16 +919,17 @@ fn the_longest_plain_form() {
         ("Othr><Id", format!("DE98ZZZ09999999999{}", "+".repeat(17))),
         ("Nm", "A".repeat(70)),
         ("IBAN", "MT84MALT011000012345MTLCAST001S".into()),
-        ("BIC", "BANKDEFFXXX".into()),
+        ("BICFI", "BANKDEFFXXX".into()),
         ("Ustrd", "A".repeat(140)),
     ] {
         item = with_value(&item, name, &value);
     }
-    assert_eq!((header.len() - "<FIToFICstmrDrctDbt>".len(), item.len()), (359, 1_346));
-    let longest = format!("{ROOT}{header}{}{CLOSE}", item.repeat(10_000));
+    assert_eq!((header.len() - "<FIToFICstmrDrctDbt>".len(), item.len()), (363, 1_354));
+    let root = versions::as_08(ROOT);
+    let longest = format!("{root}{header}{}{CLOSE}", item.repeat(10_000));
     let form = plain(&longest).expect("it is accepted");
     assert_eq!(form, format!("{DECLARATION}{longest}"));
-    assert_eq!(form.len(), 13_460_514);
+    assert_eq!(form.len(), 13_540_518);
     assert!(form.len() <= LONGEST);
 }
 

@@ -330,6 +330,17 @@ pub fn bic(value: &[u8]) -> Result<u64, u8> {
     )
 }
 
+/// BICFI, in version .08: "four of `A-Z 0-9`, two capitals, two of `A-Z 0-9`, then nothing or three
+/// of `A-Z 0-9`."
+#[inline]
+pub fn bicfi(value: &[u8]) -> Result<u64, u8> {
+    form(
+        matches!(value.len(), 8 | 11)
+            && value.iter().all(is_capital_or_digit)
+            && value[4..6].iter().all(u8::is_ascii_uppercase),
+    )
+}
+
 /// IBAN: "two capitals, two digits, then capitals or digits; 15 to 34 in all", then its country's
 /// length: "19, wrong length or no such country, after 7 and before 8", and its check digits: "move
 /// the first four characters to the end".

@@ -99,6 +99,30 @@ fn the_service_is_the_header_s() {
     assert_eq!(book.enter(in_header.as_bytes()), Ok(1234));
 }
 
+/// A bulk of version .08 has the same key as in .02, and a wider BIC its own: the key does not tell the
+/// version.
+#[test]
+fn the_key_has_no_version() {
+    let as_08 =
+        |message: &str| message.replacen("001.02\">", "001.08\">", 1).replace("BIC>", "BICFI>");
+    for (old, new) in [("", ""), ("><", "> \n\t<"), ("InstrId>I1<", "InstrId>I2<")] {
+        let spelled = EXAMPLE.replace(old, new);
+        assert_eq!(key(as_08(&spelled).as_bytes()), named("MSG/1"));
+        assert_eq!(key(spelled.as_bytes()), named("MSG/1"));
+    }
+    let mut entries = places(MOST);
+    let mut book = Book { entries: &mut entries, open: 0 };
+    assert_eq!(book.enter(EXAMPLE.as_bytes()), Ok(1234));
+    assert_eq!(book.enter(as_08(EXAMPLE).as_bytes()), Err(OPEN_ALREADY));
+    let wider = as_08(EXAMPLE).replacen(">BANKDEFF<", ">1BNKDEFF999<", 1);
+    assert_eq!(book.enter(wider.as_bytes()), Ok(1234));
+    let due = key_of("CORE", "MSG/1", "1BNKDEFF999", "2010-12-03");
+    assert_eq!((book.find(&due), book.find(&named("MSG/1"))), (Ok(Some(1)), Ok(Some(0))));
+    // In .02 it is no BIC, so no bulk.
+    let wider = EXAMPLE.replacen(">BANKDEFF<", ">1BNKDEFF999<", 1);
+    assert!(matches!(book.enter(wider.as_bytes()), Err((7, _))));
+}
+
 /// Keys differ by bytes: another service, MsgId, BIC or date is another bulk, also BIC8 and BIC11.
 #[test]
 fn each_part_tells_bulks_apart() {
