@@ -11,7 +11,7 @@ use lib.Seq.{length-take-le}
 use Rattle.text.specs.Truth.{either, pick, allOf}
 use Rattle.text.proofs.Truths.{never, fails, passes, pass, lastly}
 use Rattle.reading.specs.Verdict.{Judged, accepted, refused}
-use Rattle.naming.specs.Key.{Keyed as KeyedBulk, keyed}
+use Rattle.naming.specs.Key.{Keyed as KeyedBulk}
 use Rattle.judge.specs.declared.Verdict.the-variants.{Accepted, Refused}
 use Rattle.judge.specs.Verdict.{meant}
 use Rattle.keys.specs.declared.Keyed.{Keyed}
@@ -28,11 +28,11 @@ use Rattle.book.specs.Code.{callAs, callFor, answerFor, outcomeOf, noEnt
 use Rattle.book.proofs.Lists.{open-first, shifted-is, cents-at, capped-test}
 
 -- ---- the call that enters a message
-module _ (m : List ℕ) (k : Keyed) (e : keyedAs k ≡ keyed m) where
-  pub unfit-call : (n p : ℕ) (x : Entry) → k .verdict ≡ Refused n p → callFor (Unfit n p) x ≡ enter (bulkOf (keyed m))
-  unfit-call n p x f = rw (← e, f)
+module _ (x : KeyedBulk) (k : Keyed) (e : keyedAs k ≡ x) where
+  pub unfit-call : (n p : ℕ) (y : Entry) → k .verdict ≡ Refused n p → callFor (Unfit n p) y ≡ enter (bulkOf x)
+  unfit-call n p y f = rw (← e, f)
 
-  pub fit-call : (n c : ℕ) → k .verdict ≡ Accepted n c → callFor Enter (record { key = k .key; cents = c }) ≡ enter (bulkOf (keyed m))
+  pub fit-call : (n c : ℕ) → k .verdict ≡ Accepted n c → callFor Enter (record { key = k .key; cents = c }) ≡ enter (bulkOf x)
   fit-call n c f = rw (← e, f)
 
 module _ (b : List Entry) (n : ℕ) (long : length b ≡ mostOpen) where

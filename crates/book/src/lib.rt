@@ -4,7 +4,8 @@ ghost use mathlib.Core.Path.{_≡_};
 ghost use mathlib.Core.Bool.{not};
 ghost use Prim.Native.Nat.{_+_, _≤_, _<_};
 ghost use lib.ListN.{length, take, drop, getD};
-ghost use Rattle.naming.specs.Key.{keyed};
+ghost use Rattle.twice.specs.Twice.{cleared};
+ghost use Rattle.keys.specs.Indexed.{keyedWith};
 ghost use Rattle.book.specs.Book.{mostOpen, hasKey, isOpen, twoEqual, sumOf, isBook, firstAt};
 ghost use Rattle.book.specs.Calls.{refusal, bulk, bulkOf, enter, withdraw, enters, withdraws};
 ghost use Rattle.book.specs.Code.{callAs, answerFor, answerOf, outcomeOf, blankEntry, capped, bookOf, calledOn, askedOn, foundFor, shifted};
@@ -295,11 +296,11 @@ pub fn found_at(a: Answer, at: usize) -> Found
     }
 }
 
-// The call that enters a message: its bulk, or the judge's own refusal.
-pub fn entering(message: &[u8]) -> Call
-    ensures { λ r. ⌜ callAs r ≡ enter (bulkOf (keyed (now (message .entry)))) ⌝ }
+// The call that enters a message: its bulk, or the judge's own refusal. The index is cleared.
+pub fn entering<'a>(message: &'a [u8], index: &'a mut [u32]) -> Call
+    ensures { λ r. ⌜ (callAs r ≡ enter (bulkOf (keyedWith (now (index .entry)) (now (message .entry))))) × (now (index .exit) ≡ cleared (now (index .entry))) ⌝ }
 {
-    let k = keys::key(message);
+    let k = keys::key(message, index);
     let verdict = k.verdict;
     let key = k.key;
     match verdict {

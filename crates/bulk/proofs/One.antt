@@ -4,9 +4,9 @@ use mathlib.Core.List.{List}
 use Prim.Native.Nat.{ℕ}
 use Rattle.answers.specs.Given.{Given}
 use Rattle.reading.specs.Verdict.{Judged, Located}
-use Rattle.postings.specs.Area.{recorded}
+use Rattle.records.specs.Indexed.{recordedWith}
 use Rattle.forms.specs.Written.{Outcome}
-use Rattle.forms.proofs.Once.{one-written}
+use Rattle.plain.proofs.Once.{one-written-with}
 use Rattle.book.specs.declared.Entry.{Entry}
 use Rattle.book.specs.Calls.{Call, called, Searched}
 use Rattle.book.specs.Book.{Book}
@@ -23,13 +23,13 @@ module _ (x y : List ℕ) where
   pub one-told-extent : (l : Located) → x ≡ toldExtent l → y ≡ toldExtent l → x ≡ y
   one-told-extent l e f = e ∙ sym f
 
-  pub one-told-records : (m a b c : List ℕ) → x ≡ toldVerdict (recorded m a .verdict) → b ≡ recorded m a .area → y ≡ toldVerdict (recorded m a .verdict) → c ≡ recorded m a .area
+  pub one-told-records : (i m a b c : List ℕ) → x ≡ toldVerdict (recordedWith i m a .verdict) → b ≡ recordedWith i m a .area → y ≡ toldVerdict (recordedWith i m a .verdict) → c ≡ recordedWith i m a .area
       → (x ≡ y) × (b ≡ c)
-  one-told-records m a b c e f g h = (e ∙ sym g, f ∙ sym h)
+  one-told-records i m a b c e f g h = (e ∙ sym g, f ∙ sym h)
 
-  pub one-told-plain : (m a b c : List ℕ) → PlainTold m a x b → PlainTold m a y c → (x ≡ y) × (b ≡ c)
-  one-told-plain m a b c k l =
-      let e = one-written m a (record { answer = k .answer; area = b }) (record { answer = l .answer; area = c }) (k .wrote) (l .wrote) in
+  pub one-told-plain : (i m a b c : List ℕ) → PlainTold i m a x b → PlainTold i m a y c → (x ≡ y) × (b ≡ c)
+  one-told-plain i m a b c k l =
+      let e = one-written-with i m a (record { answer = k .answer; area = b }) (record { answer = l .answer; area = c }) (k .wrote) (l .wrote) in
       (k .told ∙ ap (λ (o : Outcome). toldWritten (o .answer)) e ∙ sym (l .told), ap (λ (o : Outcome). o .area) e)
 
   -- a book: a change, with its entries afterwards; and a search

@@ -20,7 +20,8 @@ use lib.Dec.{eqb}
 use Rattle.text.specs.Truth.{pick}
 use Rattle.answers.specs.Given.{Given, yes, worth, refused}
 use Rattle.reading.specs.Verdict.{Judged, accepted, refused as denied, Located, lies, notThere}
-use Rattle.forms.specs.Written.{Answered, written, refused as notWritten, Wrote}
+use Rattle.forms.specs.Written.{Answered, written, refused as notWritten}
+use Rattle.plain.specs.Indexed.{WroteWith}
 use Rattle.book.specs.declared.Answer.{Answer}
 use Rattle.book.specs.declared.Found.{Found}
 
@@ -41,10 +42,10 @@ abbrev pub toldWritten : Answered → List ℕ
 toldWritten (written length) = 0 ∷ length ∷ 0 ∷ []
 toldWritten (notWritten number place) = number ∷ place ∷ 0 ∷ []
 
--- of a message and a lent area: the three words, and the area afterwards
-pub record PlainTold (m a words b : List ℕ) : Type 0 where
+-- of an index, a message and a lent area: the three words, and the area afterwards
+pub record PlainTold (i m a words b : List ℕ) : Type 0 where
   pub answer : Answered
-  pub wrote : Wrote m a (record { answer = answer; area = b })
+  pub wrote : WroteWith i m a (record { answer = answer; area = b })
   pub told : words ≡ toldWritten answer
 
 abbrev pub toldCall : Answer → List ℕ

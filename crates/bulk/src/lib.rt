@@ -22,13 +22,14 @@ ghost use Rattle.accounts.specs.Identifier.{identifierGiven};
 ghost use Rattle.accounts.specs.Bic.{bicGiven, bicfiGiven};
 ghost use Rattle.bulk.specs.Told.{told, toldVerdict, toldExtent, toldWritten, PlainTold, toldCall, toldIs, toldFound};
 ghost use Rattle.plain.specs.Answer.{answered};
-ghost use Rattle.naming.specs.Key.{keyed};
+ghost use Rattle.twice.specs.Twice.{cleared};
+ghost use Rattle.keys.specs.Indexed.{keyedWith};
 ghost use Rattle.book.specs.Calls.{bulkOf, enter, withdraw, called, asked, searched};
 ghost use Rattle.book.specs.Code.{answerFor, answerOf, foundOf, bookOf};
 ghost use Rattle.judge.specs.Verdict.{meant, located};
 ghost use Rattle.reading.specs.Judged.{judged};
-ghost use Rattle.reading.specs.Items.{item as itemOf};
-ghost use Rattle.postings.specs.Area.{recorded};
+ghost use Rattle.judge.specs.Index.{judgedWith, itemWith};
+ghost use Rattle.records.specs.Indexed.{recordedWith};
 
 // Writes the three words.
 fn tell(a: Answer, answer: &mut [u64; 3])
@@ -79,37 +80,56 @@ fn tell_written(w: Written, answer: &mut [u64; 3])
     }
 }
 
-// A message: 0, the count and the cents; or the number, the place and 0.
+// A message: 0, the count and the cents; or the number, the place and 0. The index is cleared; 25, 0, 0 where it has under 16,384 numbers, and it is as lent.
 #[no_mangle]
-pub extern "C" fn bulk_judge(message: &[u8], answer: &mut [u64; 3])
+pub extern "C" fn bulk_judge(message: &[u8], index: &mut [u32], answer: &mut [u64; 3])
+    ensures { λ _. ⌜ (now (answer .exit) ≡ toldVerdict (judgedWith (now (index .entry)) (now (message .entry)))) × (now (index .exit) ≡ cleared (now (index .entry))) ⌝ }
+{
+    tell_verdict(judge::judge(message, index), answer);
+}
+
+// The same without an index, by the plain search.
+#[no_mangle]
+pub extern "C" fn bulk_judge_plainly(message: &[u8], answer: &mut [u64; 3])
     ensures { λ _. ⌜ now (answer .exit) ≡ toldVerdict (judged (now (message .entry))) ⌝ }
 {
-    tell_verdict(judge::judge(message), answer);
+    tell_verdict(judge::judge_plainly(message), answer);
 }
 
 // Item i of a message: 0, the place of its `<` and the place behind its `>`; or the number, the place and 0.
 #[no_mangle]
-pub extern "C" fn bulk_item(message: &[u8], i: u64, answer: &mut [u64; 3])
-    ensures { λ _. ⌜ now (answer .exit) ≡ toldExtent (itemOf i (now (message .entry))) ⌝ }
+pub extern "C" fn bulk_item(message: &[u8], i: u64, index: &mut [u32], answer: &mut [u64; 3])
+    ensures { λ _. ⌜ (now (answer .exit) ≡ toldExtent (itemWith (now (index .entry)) i (now (message .entry)))) × (now (index .exit) ≡ cleared (now (index .entry))) ⌝ }
 {
-    tell_extent(judge::item(message, i), answer);
+    tell_extent(judge::item(message, i, index), answer);
 }
 
 // A message and a record area: the three words as of `bulk_judge`, or 17, 0, 0 where the area is too small;
 // and a record for each item, or the area as lent.
 #[no_mangle]
-pub extern "C" fn bulk_records(message: &[u8], area: &mut [u8], answer: &mut [u64; 3])
-    ensures { λ _. ⌜ (now (answer .exit) ≡ toldVerdict (recorded (now (message .entry)) (now (area .entry)) .verdict)) × (now (area .exit) ≡ recorded (now (message .entry)) (now (area .entry)) .area) ⌝ }
+pub extern "C" fn bulk_records(
+    message: &[u8],
+    area: &mut [u8],
+    index: &mut [u32],
+    answer: &mut [u64; 3],
+)
+    ensures { λ _. ⌜ (now (answer .exit) ≡ toldVerdict (recordedWith (now (index .entry)) (now (message .entry)) (now (area .entry)) .verdict))
+        × (now (area .exit) ≡ recordedWith (now (index .entry)) (now (message .entry)) (now (area .entry)) .area) × (now (index .exit) ≡ cleared (now (index .entry))) ⌝ }
 {
-    tell_verdict(records::records(message, area), answer);
+    tell_verdict(records::records(message, area, index), answer);
 }
 
 // The plain form: 0, its length and 0, and the area begins with it; or the number, the place and 0, and the area is as lent.
 #[no_mangle]
-pub extern "C" fn bulk_plain(message: &[u8], area: &mut [u8], answer: &mut [u64; 3])
-    ensures { λ _. ⌜ PlainTold (now (message .entry)) (now (area .entry)) (now (answer .exit)) (now (area .exit)) ⌝ }
+pub extern "C" fn bulk_plain(
+    message: &[u8],
+    area: &mut [u8],
+    index: &mut [u32],
+    answer: &mut [u64; 3],
+)
+    ensures { λ _. ⌜ PlainTold (now (index .entry)) (now (message .entry)) (now (area .entry)) (now (answer .exit)) (now (area .exit)) × (now (index .exit) ≡ cleared (now (index .entry))) ⌝ }
 {
-    tell_written(plain::write(message, area), answer);
+    tell_written(plain::write(message, area, index), answer);
 }
 
 // An IBAN.
@@ -245,18 +265,20 @@ fn tell_found(answer: &mut [u64; 3], r: Found)
     *answer = [r.number as u64, r.place as u64, 0];
 }
 
-// A message is entered into the day book: 0, the number open, the bulk's cents; or number, place, 0, and the book as lent.
+// A message is entered into the day book: 0, the number open, the bulk's cents; or number, place, 0, and the book as lent. The index is cleared.
 #[no_mangle]
 pub extern "C" fn bulk_book_enter<'a>(
     entries: &'a mut [Entry],
     opened: usize,
     message: &'a [u8],
+    index: &'a mut [u32],
     answer: &'a mut [u64; 3],
 )
-    ensures { λ _. ⌜ (now (answer .exit) ≡ toldCall (answerOf (called (enter (bulkOf (keyed (now (message .entry))))) (bookOf (now (entries .entry)) opened))))
-        × (now (entries .exit) ≡ called (enter (bulkOf (keyed (now (message .entry))))) (bookOf (now (entries .entry)) opened) .book .entries) ⌝ }
+    ensures { λ _. ⌜ (now (answer .exit) ≡ toldCall (answerOf (called (enter (bulkOf (keyedWith (now (index .entry)) (now (message .entry))))) (bookOf (now (entries .entry)) opened))))
+        × (now (entries .exit) ≡ called (enter (bulkOf (keyedWith (now (index .entry)) (now (message .entry))))) (bookOf (now (entries .entry)) opened) .book .entries)
+        × (now (index .exit) ≡ cleared (now (index .entry))) ⌝ }
 {
-    let call = book::entering(message);
+    let call = book::entering(message, index);
     let a = daybook::act(entries, opened, call);
     tell_call(answer, a);
 }

@@ -119,7 +119,7 @@ reads-as m u v p q e r g =
 
 -- ---- a bulk's items stand behind its header
 module _ {v : Version} (b : Bulk v) (law : Lawful (message many b)) where
-  abbrev rest : List ℕ
+  abbrev pub rest : List ℕ
   rest = texts (itemText v) (b .items) ++ (b .close ++ back b)
 
   pub items-proper : Each (LedBy (Proper (inItem v))) (b .items)
@@ -129,7 +129,7 @@ module _ {v : Version} (b : Bulk v) (law : Lawful (message many b)) where
   header-proper = law .inside .1 .0 .1 .1 .0
 
   -- where what the header holds begins
-  abbrev inHead : ℕ
+  abbrev pub inHead : ℕ
   inHead = length (head (message many b)) + length (b .blank) + length (plainTag bulkName) + length (b .header .blank) + length (plainTag headerName)
 
   front-long : length (front b) ≡ inHead + length (text (inHeader v) (b .header .held))
@@ -148,39 +148,49 @@ module _ {v : Version} (b : Bulk v) (law : Lawful (message many b)) where
   pub items-there : drop (length (front b)) (whole (message many b)) ≡ rest
   items-there = ap (drop (length (front b))) (whole-parts many b) ∙ drop-append-seam (front b) rest
 
-  header-ends : (h : ℕ)
-      → Whole (trace (inHeader v) (whole (message many b)) (skipped (whole (message many b)) (skipped (whole (message many b)) (length (head (message many b))) + length (plainTag bulkName)) + length (plainTag headerName))) h
-      → h ≡ length (front b)
-  header-ends h w = one-end (trace (inHeader v) m inHead) h (length (front b)) (rw at-head at w) (rw front-long (trace-tells m (inHeader v) (header-sure v) (b .header .held) (header-proper .1) inHead rest d2 .whole))
+  -- what stands behind its head, behind the bulk's start tag and behind the header's
+  abbrev pub afterHead : List ℕ
+  afterHead = text (inHeader v) (b .header .held) ++ rest
+
+  abbrev pub afterBulk : List ℕ
+  afterBulk = b .header .blank ++ (plainTag headerName ++ afterHead)
+
+  abbrev pub hd : ℕ
+  hd = length (head (message many b))
+
+  pub at-bulk : drop (length (head (message many b))) (whole (message many b)) ≡ b .blank ++ (plainTag bulkName ++ afterBulk)
+  at-bulk = ap (drop hd) (whole-parts many b ∙ simp append-assoc) ∙ drop-append-seam (head (message many b)) (b .blank ++ (plainTag bulkName ++ afterBulk))
+
+  pub at-header : drop (hd + length (b .blank) + length (plainTag bulkName)) (whole (message many b)) ≡ afterBulk
+  at-header =
+      let m = whole (message many b) in
+      past m (plainTag bulkName) afterBulk (hd + length (b .blank)) (past m (b .blank) (plainTag bulkName ++ afterBulk) hd at-bulk)
+
+  -- the header is read to where the items stand, and tells what it says
+  pub header-told : Told (trace (inHeader v) (whole (message many b)) inHead) (length (front b)) (said (inHeader v) (b .header .held))
+  header-told = rw front-long (trace-tells m (inHeader v) (header-sure v) (b .header .held) (header-proper .1) inHead rest there)
     where
       m : List ℕ
       m = whole (message many b)
 
-      hd : ℕ
-      hd = length (head (message many b))
+      there : drop inHead m ≡ afterHead
+      there =
+          past m (plainTag headerName) afterHead (hd + length (b .blank) + length (plainTag bulkName) + length (b .header .blank))
+          (past m (b .header .blank) (plainTag headerName ++ afterHead) (hd + length (b .blank) + length (plainTag bulkName)) at-header)
 
-      u : List ℕ
-      u = text (inHeader v) (b .header .held) ++ rest
-
-      t : List ℕ
-      t = b .header .blank ++ (plainTag headerName ++ u)
-
-      d0 : drop hd m ≡ b .blank ++ (plainTag bulkName ++ t)
-      d0 = ap (drop hd) (whole-parts many b ∙ simp append-assoc) ∙ drop-append-seam (head (message many b)) (b .blank ++ (plainTag bulkName ++ t))
-
-      d1 : drop (hd + length (b .blank) + length (plainTag bulkName)) m ≡ t
-      d1 = past m (plainTag bulkName) t (hd + length (b .blank)) (past m (b .blank) (plainTag bulkName ++ t) hd d0)
-
-      d2 : drop inHead m ≡ u
-      d2 =
-          past m (plainTag headerName) u (hd + length (b .blank) + length (plainTag bulkName) + length (b .header .blank))
-          (past m (b .header .blank) (plainTag headerName ++ u) (hd + length (b .blank) + length (plainTag bulkName)) d1)
+  header-ends : (h : ℕ)
+      → Whole (trace (inHeader v) (whole (message many b)) (skipped (whole (message many b)) (skipped (whole (message many b)) (length (head (message many b))) + length (plainTag bulkName)) + length (plainTag headerName))) h
+      → h ≡ length (front b)
+  header-ends h w = one-end (trace (inHeader v) m inHead) h (length (front b)) (rw at-head at w) (header-told .whole)
+    where
+      m : List ℕ
+      m = whole (message many b)
 
       s0 : skipped m hd ≡ hd + length (b .blank)
-      s0 = skip-to m hd (b .blank) (plainTag bulkName ++ t) (law .inside .1 .0 .0) (plain-starts bulkName t) d0
+      s0 = skip-to m hd (b .blank) (plainTag bulkName ++ afterBulk) (law .inside .1 .0 .0) (plain-starts bulkName afterBulk) at-bulk
 
       s1 : skipped m (hd + length (b .blank) + length (plainTag bulkName)) ≡ hd + length (b .blank) + length (plainTag bulkName) + length (b .header .blank)
-      s1 = skip-to m (hd + length (b .blank) + length (plainTag bulkName)) (b .header .blank) (plainTag headerName ++ u) (header-proper .0) (plain-starts headerName u) d1
+      s1 = skip-to m (hd + length (b .blank) + length (plainTag bulkName)) (b .header .blank) (plainTag headerName ++ afterHead) (header-proper .0) (plain-starts headerName afterHead) at-header
 
       at-head : skipped m (skipped m hd + length (plainTag bulkName)) + length (plainTag headerName) ≡ inHead
       at-head = ap (λ (i : ℕ). skipped m (i + length (plainTag bulkName)) + length (plainTag headerName)) s0 ∙ ap (λ (i : ℕ). i + length (plainTag headerName)) s1

@@ -1,9 +1,11 @@
 pub mod Trees
 pub mod Parts
 pub mod Items
+pub mod Read
 pub mod Itself
 pub mod Posted
 pub mod Typed
 pub mod Refused
+pub mod Twice
 pub mod Slips
 pub mod Present

@@ -49,7 +49,7 @@ unfolding inHeader itemless
 header-itemless V02 = (refl, refl)
 header-itemless V08 = (refl, refl)
 
-item-itemless : (v : Version) → itemless (inItem v)
+pub item-itemless : (v : Version) → itemless (inItem v)
 unfolding inItem itemless
 item-itemless V02 = (refl, refl)
 item-itemless V08 = (refl, refl)
@@ -71,7 +71,7 @@ no-counts : (v : Version) (d : Doc (inItem v)) → Proper (inItem v) d → value
 no-counts v d pr = no-values (valuesOf Count (said (inItem v) d)) (of-kind Count (inItem v) (item-countless v .0) d pr ∙ item-countless v .1)
 
 module _ (v : Version) where
-  items-many : (l : List (DocItem v)) → Each (LedBy (Proper (inItem v))) l → itemsIn (itemsSaid v l) ≡ length l
+  pub items-many : (l : List (DocItem v)) → Each (LedBy (Proper (inItem v))) l → itemsIn (itemsSaid v l) ≡ length l
   items-many [] pr = refl
   items-many (x ∷ l) pr =
       let s = said (inItem v) (x .held) in

@@ -28,7 +28,6 @@ accepted-records m n c e k =
     rw (accepted-header m n c e k, accepted-items m n c e k) (records-of (k .version) (k .bulk .header) (k .bulk .items) (length (front (k .bulk))))
 
 -- For an accepted message and an area with room: the records are those of its bulk's items, one for each, in order, and behind them stands what stood there.
--- So an item that stands twice has two records.
 pub accepted-posted : (m a : List ℕ) (n c : ℕ) → judged m ≡ accepted n c → recordLength * n ≤ length a → (k : Bulked m) → Posted m a n c (k .bulk)
 unfolding recorded
 accepted-posted m a n c e h k =

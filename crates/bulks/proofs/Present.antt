@@ -1,5 +1,5 @@
--- In every accepted message there stand exactly one count and one total, and in each of its items exactly one amount, one debtor's IBAN, one creditor's and one
--- identifier: so what is said of a slip in one of these is about something.
+-- In every accepted message there stand exactly one count and one total, and in each of its items exactly one TxId, one amount, one debtor's IBAN, one creditor's and one
+-- identifier: so what is said of a slip in one of these, or of two TxIds, is about something.
 use mathlib.Core.Path.{_≡_, ap, _∙_}
 use mathlib.Core.List.{List, [], _∷_}
 use Prim.Native.Nat.{ℕ, _+_}
@@ -34,7 +34,7 @@ module _ (m : List ℕ) (n c : ℕ) (e : judged m ≡ accepted n c) where
       let d = message-found m (x .last) (goes-whole (message m) [] r (x .goes)) in
       rw (ap (λ q. whats (notesOf q)) (x .goes) ∙ ap whats (goes-flat (message m) [] r (x .goes)) ∙ d .says) (one-header (d .version) (d .document .inside) (d .lawful .inside))
 
-  -- and in each of its items one amount, the debtor's IBAN and the creditor's, and one creditor identifier.
+  -- and in each of its items one TxId, one amount, the debtor's IBAN and the creditor's, and one creditor identifier.
   pub items-present : Each (λ x. OneItem (x .holds)) (theItems m)
   items-present =
       let k = accepted-bulk m n c e in

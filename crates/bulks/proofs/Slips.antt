@@ -1,4 +1,4 @@
--- One item left out, and one item standing twice: both are refused.
+-- One item left out, and one item standing twice: both are refused, and with which number where one stands twice.
 use mathlib.Core.Path.{_≡_, refl, sym, ap, subst, _∙_}
 use mathlib.Core.Bool.{Bool, true, false}
 use mathlib.Core.Logic.{_⊎_, inl, inr}
@@ -13,28 +13,25 @@ use Rattle.tags.specs.Tags.{white}
 use Rattle.profile.specs.declared.Version.{Version}
 use Rattle.profile.specs.Tree.{many, more}
 use Rattle.profile.specs.Profile.{inItem}
+use Rattle.reading.specs.Trace.{from as from′, opened}
 use Rattle.reading.specs.Verdict.{Refusal, accepted, lies, notThere}
 use Rattle.reading.specs.Judged.{judged}
 use Rattle.reading.specs.Items.{item}
 use Rattle.reading.proofs.Flat.{never}
 use Rattle.documents.specs.Document.{texts, text, Each, White, LedBy, Proper}
-use Rattle.documents.specs.Message.{whole, Lawful}
+use Rattle.documents.specs.Message.{head, whole, Lawful}
 use Rattle.documents.proofs.Each.{each-both, each-first, each-rest}
+use Rattle.documents.proofs.Messages.{opens}
 use Rattle.items.proofs.Accepted.{item-past}
-use Rattle.bulks.specs.Bulk.{DocItem, Bulk, message, withItems, itemText, front, bareText}
+use Rattle.bulks.specs.Bulk.{tree, DocItem, Bulk, message, withItems, itemText, front, bareText}
+use Rattle.bulks.specs.Twice.{Twice}
 use Rattle.bulks.specs.Accepted.{Bulked}
 use Rattle.bulks.proofs.Trees.{accepted-bulk}
 use Rattle.bulks.proofs.Parts.{back, whole-parts}
 use Rattle.bulks.proofs.Items.{items-proper, its-judgement}
-use Rattle.bulks.proofs.Itself.{texts-both, ahead, behind, item-around}
+use Rattle.bulks.proofs.Itself.{Split, texts-both, ahead, behind, item-around}
 use Rattle.bulks.proofs.Refused.{bulk-refused}
-
--- other items, and other white space behind them, that may stand
-lawful-items : {v : Version} (b : Bulk v) (l : List (DocItem v)) (w : List ℕ) → Lawful (message many b) → Each (LedBy (Proper (inItem v))) l → White w → Lawful (message more (withItems b l w))
-lawful-items b l w law pr h =
-    let i = law .inside in
-    let x = i .1 .0 in
-    record { before = law .before; inside = (i .0, ((x .0, (x .1 .0, x .1 .1, (omega arith, pr, h))), tt), i .2); behind = law .behind }
+use Rattle.bulks.proofs.Twice.{lawful-items, doubled}
 
 white-both : (w x : List ℕ) → White w → White x → White (w ++ x)
 white-both [] x h g = g
@@ -43,9 +40,6 @@ white-both (c ∷ w) x h g = go (white c) h (λ k. white-both w x k g)
     go : (b : Bool) → both b (every white w) ≡ true → (every white w ≡ true → every white (w ++ x) ≡ true) → both b (every white (w ++ x)) ≡ true
     go true e k = k e
     go false e k = never (cc)
-
-twice : (f t w y v u s : List ℕ) → f ++ ((t ++ ((w ++ y) ++ ((v ++ y) ++ u))) ++ s) ≡ ((f ++ (t ++ w)) ++ y) ++ (v ++ (y ++ (u ++ s)))
-twice f t w y v u s = simp append-assoc
 
 -- ---- white space that stands before what is left of the items
 module _ (v : Version) (w : List ℕ) where
@@ -92,7 +86,7 @@ module _ {v : Version} (b : Bulk v) (law : Lawful (message many b)) (n c : ℕ) 
   left-out : Refusal (judged (ahead b xs x ys ++ behind b xs x ys))
   left-out =
       subst (λ (t : List ℕ). Refusal (judged t)) same
-      (bulk-refused b l w law (lawful-items b l w law proper (after-white v (x .blank) (it-proper .0 .0) ys (b .close) close-white)) n c e (λ z.
+      (bulk-refused b l w law (lawful-items b more l w law (omega arith) proper (after-white v (x .blank) (it-proper .0 .0) ys (b .close) close-white)) n c e (λ z.
       omega (arith, z, ap length is, length-append xs (x ∷ ys), length-append xs (itemsAfter v (x .blank) ys), after-length v (x .blank) ys)))
     where
       l : List (DocItem v)
@@ -113,28 +107,6 @@ module _ {v : Version} (b : Bulk v) (law : Lawful (message many b)) (n c : ℕ) 
           ∙ ap (λ (t : List ℕ). texts (itemText v) xs ++ t) (after-text v (x .blank) ys (b .close) (back b)))
           ∙ simp append-assoc))
 
-  -- standing twice in succession, with any white space between
-  doubled : (w : List ℕ) → White w → Refusal (judged ((ahead b xs x ys ++ bareText v x) ++ (w ++ (bareText v x ++ behind b xs x ys))))
-  doubled w g =
-      subst (λ (t : List ℕ). Refusal (judged t)) same
-      (bulk-refused b l (b .close) law (lawful-items b l (b .close) law proper close-white) n c e (λ z.
-      omega (arith, z, ap length is, length-append xs (x ∷ ys), length-append xs (x ∷ twin ∷ ys))))
-    where
-      twin : DocItem v
-      twin = record { blank = w; held = x .held }
-
-      l : List (DocItem v)
-      l = xs ++ (x ∷ twin ∷ ys)
-
-      proper : Each P l
-      proper = each-both P xs (x ∷ twin ∷ ys) (each-first P xs (x ∷ ys) all-proper) (it-proper .0, ((g, it-proper .0 .1), it-proper .1))
-
-      same : whole (message more (withItems b l (b .close))) ≡ (ahead b xs x ys ++ bareText v x) ++ (w ++ (bareText v x ++ behind b xs x ys))
-      same =
-          whole-parts more (withItems b l (b .close))
-          ∙ (ap (λ (t : List ℕ). front b ++ (t ++ (b .close ++ back b))) (texts-both v xs (x ∷ twin ∷ ys))
-          ∙ twice (front b) (texts (itemText v) xs) (x .blank) (bareText v x) w (texts (itemText v) ys) (b .close ++ back b))
-
 -- ---- what is read: an item of an accepted message, in the message's positions
 module _ (m : List ℕ) (n c : ℕ) (e : judged m ≡ accepted n c) (i from to : ℕ) (q : item i m ≡ lies from to) where
   there : i < n
@@ -153,13 +125,30 @@ module _ (m : List ℕ) (n c : ℕ) (e : judged m ≡ accepted n c) (i from to :
     pub begins : length ahead ≡ from
     pub ends : length (ahead ++ body) ≡ to
     pub without : Refusal (judged (ahead ++ behind))
-    pub with-two : (w : List ℕ) → White w → Refusal (judged ((ahead ++ body) ++ (w ++ (body ++ behind))))
+    pub version : Version
+    pub opens : (u : Version) (p : ℕ) → opened m ≡ from′ u p → u ≡ version
+    pub with-two : (w : List ℕ) → White w → let t = (ahead ++ body) ++ (w ++ (body ++ behind)) in Twice version t i (to + length w) (judged t)
 
   cut : Cut
   cut = go (accepted-bulk m n c e)
     where
       same-places : (f t : ℕ) → item i m ≡ lies f t → (f ≡ from) × (t ≡ to)
       same-places f t h = let z : lies f t ≡ lies from to = sym h ∙ q in ((cc), (cc))
+
+      one-version : (u v : Version) (p q : ℕ) → from′ u p ≡ from′ v q → u ≡ v
+      one-version u v p q e = cc
+
+      opened-as : (k : Bulked m) → opened m ≡ from′ (k .version) (length (head (message many (k .bulk))))
+      opened-as k =
+          let d = message many (k .bulk) in
+          ap opened (k .is) ∙ opens d (k .lawful) (text (tree many (k .version)) (d .inside) ++ d .behind)
+
+      Two : (k : Bulked m) → Split (k .bulk .items) i → ℕ → List ℕ → Type 0
+      Two k s j w =
+          let a = ahead (k .bulk) (s .before) (s .it) (s .after) in
+          let u = bareText (k .version) (s .it) in
+          let t = (a ++ u) ++ (w ++ (u ++ behind (k .bulk) (s .before) (s .it) (s .after))) in
+          Twice (k .version) t j (to + length w) (judged t)
 
       go : Bulked m → Cut
       go k =
@@ -178,7 +167,9 @@ module _ (m : List ℕ) (n c : ℕ) (e : judged m ≡ accepted n c) (i from to :
             begins = p .0;
             ends = p .1;
             without = left-out b (k .lawful) n c y (s .before) (s .it) (s .after) (s .is);
-            with-two = doubled b (k .lawful) n c y (s .before) (s .it) (s .after) (s .is);
+            version = k .version;
+            opens = λ u p o. one-version u (k .version) p (length (head (message many b))) (sym o ∙ opened-as k);
+            with-two = λ w h. subst (λ (j : ℕ). Two k s j w) (s .at) (rw (p .1) at (doubled b (k .lawful) n c y (s .before) (s .it) (s .after) (s .is) w h));
           }
 
   -- One whole item left out: the message without the bytes from its `<` to behind its `>`.
@@ -191,12 +182,13 @@ module _ (m : List ℕ) (n c : ℕ) (e : judged m ≡ accepted n c) (i from to :
           let g : drop to m ≡ k .behind = ap (drop to) (k .is ∙ sym (append-assoc (k .ahead) (k .body) (k .behind))) ∙ drop-at (k .ahead ++ k .body) (k .behind) to (k .ends) in
           rw (f, g) (k .without)
 
-  -- One item standing twice in succession, directly or with any white space between.
-  pub item-doubled : (w : List ℕ) → White w → Refusal (judged (take to m ++ (w ++ drop from m)))
-  item-doubled w h = go cut
+  -- One item standing twice in succession, directly or with any white space between: with 24 at the second one's TxId, but where 1 or 12 comes first.
+  pub item-doubled : (v : Version) (p : ℕ) → opened m ≡ from′ v p → (w : List ℕ) → White w
+      → Twice v (take to m ++ (w ++ drop from m)) i (to + length w) (judged (take to m ++ (w ++ drop from m)))
+  item-doubled v p o w h = go cut
     where
-      go : Cut → Refusal (judged (take to m ++ (w ++ drop from m)))
+      go : Cut → Twice v (take to m ++ (w ++ drop from m)) i (to + length w) (judged (take to m ++ (w ++ drop from m)))
       go k =
           let f : drop from m ≡ k .body ++ k .behind = ap (drop from) (k .is) ∙ drop-at (k .ahead) (k .body ++ k .behind) from (k .begins) in
           let g : take to m ≡ k .ahead ++ k .body = ap (take to) (k .is ∙ sym (append-assoc (k .ahead) (k .body) (k .behind))) ∙ take-at (k .ahead ++ k .body) (k .behind) to (k .ends) in
-          rw (f, g) (k .with-two w h)
+          rw (f, g, k .opens v p o) (k .with-two w h)

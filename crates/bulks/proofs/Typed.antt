@@ -66,7 +66,7 @@ module _ (f : Field) {sh : Shape} (i : OneIn f sh) (d : Doc sh) (pr : Proper sh 
   one-or-lacking : length (valuesAt f (said sh d)) + lacking (typesIn (said sh d)) ≡ 1
   one-or-lacking = omega (arith, once-or-lacking (aField f .byField) sh (i .level) (i .once) d pr, weight-field f (said sh d))
 
-  one-place : length (typesIn (said sh d)) ≡ 1
+  pub one-place : length (typesIn (said sh d)) ≡ 1
   one-place = weight-types (said sh d) ∙ (as-often aType sh (i .placed) d pr ∙ i .place)
 
 -- ---- the items of a bulk: what they say of the payment type, and how many of the field they have

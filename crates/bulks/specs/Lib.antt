@@ -1,2 +1,3 @@
 pub mod Bulk
 pub mod Accepted
+pub mod Twice

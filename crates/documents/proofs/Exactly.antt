@@ -36,7 +36,7 @@ module _ {v : Version} (d : Message v (profile v)) (law : Lawful d) (n c : ℕ) 
   accepted-document h k = judged-told d law h ∙ holds-decided (flat (message (whole d))) n c (rw (message-told d law h .says) k)
 
 -- Accepted with a count and a sum of cents: exactly the messages that are the text of a document of the profile, in which every value is of its kind,
--- the codes are listed and LclInstrm is the same in all items, with as many items and as many cents as the header says, within the limits.
+-- the codes are listed, LclInstrm is the same in all items and no TxId stands twice, with as many items and as many cents as the header says, within the limits.
 pub accepted-exactly : (m : List ℕ) (n c : ℕ) → (judged m ≡ accepted n c → Profiled m n c) × (Profiled m n c → judged m ≡ accepted n c)
 accepted-exactly m n c = (profiled, allowed)
   where

@@ -7,8 +7,10 @@ pub mod Sound
 pub mod Messages
 pub mod One
 pub mod Each
+pub mod Apart
 pub mod Often
 pub mod Typed
 pub mod Standing
 pub mod Lists
 pub mod Exactly
+pub mod Twice

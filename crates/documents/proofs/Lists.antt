@@ -17,21 +17,25 @@ use Rattle.money.specs.declared.Range as range
 use Rattle.money.specs.Amount.{amountForm, cents, most, amountGiven}
 use Rattle.profile.specs.declared.Kind.{Kind}
 use Rattle.profile.specs.declared.Kind.the-variants.{Count, Total, Amount, Code}
+use Rattle.profile.specs.declared.Field.{Field}
+use Rattle.profile.specs.declared.Field.the-variants.{TxId}
 use Rattle.profile.specs.Limits.{mostItems}
 use Rattle.profile.specs.Kinds.{sameKind}
+use Rattle.profile.specs.Fields.{sameField}
 use Rattle.profile.specs.Profile.{isType}
 use Rattle.kinds.specs.Given.{kindGiven}
 use Rattle.reading.specs.Trace.{What, itemBegins, itemEnds, there, absent, value, Entry, Trace, met, upTo, fault, message}
 use Rattle.reading.specs.Noted.{Reading, on, stop, onward, Ended, noted}
-use Rattle.reading.specs.Rules.{itemsIn, ofKind, valuesOf, sumOf, centsIn, ofType, typesIn, firstOf, _so_, unlikeFirst, rules, ownKind, fitting, weighed}
+use Rattle.reading.specs.Rules.{itemsIn, ofKind, valuesOf, ofField, valuesAt, sumOf, centsIn, ofType, typesIn, firstOf, standsIn, _so_, unlikeFirst, rules, ownKind, fitting, weighed}
 use Rattle.reading.specs.Verdict.{Judged, accepted, refused}
 use Rattle.reading.specs.Judged.{whats, orRefused, listed, lastOf, onlyOf, placeOf, compared, verdict, judged}
-use Rattle.reading.proofs.Lists.{whats-append, items-append, values-append, types-append, cents-append, alike-itself, alike-same}
+use Rattle.reading.proofs.Lists.{whats-append, items-append, values-append, at-append, types-append, cents-append, alike-itself, alike-same}
 use Rattle.reading.proofs.Flat.{never, flat, Whole, same-end, through, taken, goes-whole}
 use Rattle.documents.specs.Document.{Each}
-use Rattle.documents.specs.Holds.{Passes, AsFirst, Alike, TypeStands, inHeader, inItems, numbers, amounts, Holds}
+use Rattle.documents.specs.Holds.{Passes, AsFirst, Alike, Apart, TypeStands, inHeader, inItems, numbers, amounts, Holds}
 use Rattle.documents.specs.Standing.{OneHeader}
 use Rattle.documents.proofs.Each.{each-both, each-first, each-rest}
+use Rattle.documents.proofs.Apart.{apart-first, apart-more, apart-last}
 
 -- of each of the others what is not said of the first
 abbrev pub Unlike : List Bool → Type 0
@@ -49,11 +53,13 @@ pub record Kept (ws : List What) : Type 0 where
   pub typed : Unlike (typesIn ws)
   -- LclInstrm is the first one's
   pub alike : Alike (valuesOf (Code LclInstrm) ws)
+  -- no TxId stands twice
+  pub apart : Apart (valuesAt TxId ws)
   -- 10,000 items at most
   pub few : itemsIn ws ≤ mostItems
 
 pub kept-none : Kept []
-kept-none = record { kinds = tt; typed = tt; alike = tt; few = omega arith }
+kept-none = record { kinds = tt; typed = tt; alike = tt; apart = tt; few = omega arith }
 
 pub kept-first : (a b : List What) → Kept (a ++ b) → Kept a
 kept-first a b h =
@@ -61,6 +67,7 @@ kept-first a b h =
       kinds = each-first (λ w. Passes (ownKind w)) a b (h .kinds);
       typed = as-first (λ x y. y ≡ not x) (typesIn a) (typesIn b) (rw (types-append a b) at (h .typed));
       alike = as-first (λ v w. w ≡ v) (valuesOf (Code LclInstrm) a) (valuesOf (Code LclInstrm) b) (rw (values-append (Code LclInstrm) a b) at (h .alike));
+      apart = apart-first (valuesAt TxId a) (valuesAt TxId b) (rw (at-append TxId a b) at (h .apart));
       few = omega (arith, h .few, items-append a b);
     }
 
@@ -78,6 +85,11 @@ both-pass (no n) h p = absurd p
 rule-passes : (a : Bool) (i : ℕ) → Passes (inOrder (a else i ∷ []) yes) → a ≡ true
 rule-passes true i p = refl
 rule-passes false i p = absurd p
+
+rules-pass : (a b : Bool) (i j : ℕ) → Passes (inOrder (a else i ∷ b else j ∷ []) yes) → (a ≡ true) × (b ≡ true)
+rules-pass true true i j p = (refl, refl)
+rules-pass true false i j p = absurd p
+rules-pass false b i j p = absurd p
 
 -- the payment type, with one place more where it may stand or none
 unlike-more : (i b : Bool) (l : List Bool) → Unlike l → (i so unlikeFirst b l) ≡ true → Unlike (l ++ pick i (b ∷ []) [])
@@ -117,6 +129,9 @@ module _ (a : List What) where
   pub values-more : (j : Kind) (w : What) → valuesOf j (a ++ (w ∷ [])) ≡ valuesOf j a ++ ofKind j w
   values-more j w = values-append j a (w ∷ []) ∙ ap (λ (l : List (List ℕ)). valuesOf j a ++ l) (append-nil (ofKind j w))
 
+  pub at-more : (g : Field) (w : What) → valuesAt g (a ++ (w ∷ [])) ≡ valuesAt g a ++ ofField g w
+  at-more g w = at-append g a (w ∷ []) ∙ ap (λ (l : List (List ℕ)). valuesAt g a ++ l) (append-nil (ofField g w))
+
   pub sums-more : (w : What) → centsIn (a ++ (w ∷ [])) ≡ centsIn a + sumOf (ofKind Amount w)
   sums-more w = cents-append a (w ∷ []) ∙ ap (λ (l : List (List ℕ)). centsIn a + sumOf l) (append-nil (ofKind Amount w))
 
@@ -128,28 +143,30 @@ module _ (a : List What) where
   untyped w e h = rw (types-more w, e, append-nil (typesIn a)) (h .typed)
 
   -- what is no value and no item's beginning
-  still : (w : What) → ((j : Kind) → ofKind j w ≡ []) → itemsIn (w ∷ []) ≡ 0 → Passes (ownKind w) → Unlike (typesIn (a ++ (w ∷ []))) → Kept a → Kept (a ++ (w ∷ []))
-  still w v i p t h =
+  still : (w : What) → ((j : Kind) → ofKind j w ≡ []) → ((g : Field) → ofField g w ≡ []) → itemsIn (w ∷ []) ≡ 0 → Passes (ownKind w) → Unlike (typesIn (a ++ (w ∷ []))) → Kept a → Kept (a ++ (w ∷ []))
+  still w v u i p t h =
       record {
         kinds = each-both (λ w. Passes (ownKind w)) a (w ∷ []) (h .kinds) (p, tt);
         typed = t;
         alike = rw (values-more (Code LclInstrm) w, v (Code LclInstrm), append-nil (valuesOf (Code LclInstrm) a)) (h .alike);
+        apart = rw (at-more TxId w, u TxId, append-nil (valuesAt TxId a)) (h .apart);
         few = omega (arith, h .few, items-append a (w ∷ []), i);
       }
 
   pub kept-more : (w : What) → Kept a → Passes (weighed a w) → Kept (a ++ (w ∷ []))
-  kept-more itemEnds h p = still itemEnds (λ j. refl) refl tt (untyped itemEnds refl h) h
+  kept-more itemEnds h p = still itemEnds (λ j. refl) (λ g. refl) refl tt (untyped itemEnds refl h) h
   kept-more (there n) h p =
-      still (there n) (λ j. refl) refl tt
+      still (there n) (λ j. refl) (λ g. refl) refl tt
       (rw (types-more (there n)) (unlike-more (isType n) true (typesIn a) (h .typed) (rule-passes (isType n so unlikeFirst true (typesIn a)) 23 p))) h
   kept-more (absent n) h p =
-      still (absent n) (λ j. refl) refl tt
+      still (absent n) (λ j. refl) (λ g. refl) refl tt
       (rw (types-more (absent n)) (unlike-more (isType n) false (typesIn a) (h .typed) (rule-passes (isType n so unlikeFirst false (typesIn a)) 4 p))) h
   kept-more itemBegins h p =
       record {
         kinds = each-both (λ w. Passes (ownKind w)) a (itemBegins ∷ []) (h .kinds) (tt, tt);
         typed = untyped itemBegins refl h;
         alike = rw (values-more (Code LclInstrm) itemBegins, append-nil (valuesOf (Code LclInstrm) a)) (h .alike);
+        apart = rw (at-more TxId itemBegins, append-nil (valuesAt TxId a)) (h .apart);
         few = omega (arith, items-append a (itemBegins ∷ []), below (ltb (itemsIn a) mostItems) refl p);
       }
     where
@@ -158,11 +175,13 @@ module _ (a : List What) where
       below false e p = absurd p
   kept-more (value k f v) h p =
       let b = both-pass (kindGiven k v) (inOrder (rules a (value k f v)) yes) p in
-      let r = rule-passes (sameKind k (Code LclInstrm) so alike (firstOf v (valuesOf (Code LclInstrm) a)) v) 11 (b .1) in
+      let r =
+      rules-pass (sameKind k (Code LclInstrm) so alike (firstOf v (valuesOf (Code LclInstrm) a)) v) (sameField f TxId so not (standsIn v (valuesAt TxId a))) 11 24 (b .1) in
       record {
         kinds = each-both (λ w. Passes (ownKind w)) a (value k f v ∷ []) (h .kinds) (b .0, tt);
         typed = untyped (value k f v) refl h;
-        alike = rw (values-more (Code LclInstrm) (value k f v)) (alike-more (sameKind k (Code LclInstrm)) (valuesOf (Code LclInstrm) a) v (h .alike) r);
+        alike = rw (values-more (Code LclInstrm) (value k f v)) (alike-more (sameKind k (Code LclInstrm)) (valuesOf (Code LclInstrm) a) v (h .alike) (r .0));
+        apart = rw (at-more TxId (value k f v)) (apart-more (sameField f TxId) (valuesAt TxId a) v (h .apart) (r .1));
         few = omega (arith, h .few, items-append a (value k f v ∷ []));
       }
 
@@ -174,7 +193,10 @@ module _ (a : List What) where
   more-kept (value k f v) h =
       passes-both (kindGiven k v) (inOrder (rules a (value k f v)) yes)
       (each-rest (λ w. Passes (ownKind w)) a (value k f v ∷ []) (h .kinds) .0)
-      (rw (alike-last (sameKind k (Code LclInstrm)) (valuesOf (Code LclInstrm) a) v (rw (values-more (Code LclInstrm) (value k f v)) at (h .alike))) tt)
+      (rw (
+        alike-last (sameKind k (Code LclInstrm)) (valuesOf (Code LclInstrm) a) v (rw (values-more (Code LclInstrm) (value k f v)) at (h .alike)),
+        apart-last (sameField f TxId) (valuesAt TxId a) v (rw (at-more TxId (value k f v)) at (h .apart)),
+      ) tt)
 
 -- ---- entries noted one by one, after others
 abbrev pub listedAll : List Entry → List Entry → Reading (List Entry)
@@ -324,7 +346,7 @@ unlike-stands ws n = go (typesIn ws) refl n
 -- ---- the profile holds of a list exactly where its rules are kept and its header says what stands in it
 pub holds-kept : (ws : List What) (n c : ℕ) → Holds ws n c → Kept ws × Compared ws n c
 holds-kept ws n c h = (
-  record { kinds = h .kinds; typed = stands-unlike ws (h .type); alike = h .alike; few = omega (arith, h .items, h .few) },
+  record { kinds = h .kinds; typed = stands-unlike ws (h .type); alike = h .alike; apart = h .apart; few = omega (arith, h .items, h .few) },
   record {
     items = h .items;
     count = once-said decimal numbers refl (λ v l. refl) (valuesOf Count ws) n (h .count);
@@ -339,6 +361,7 @@ kept-holds ws n c o k h =
       kinds = k .kinds;
       type = unlike-stands ws (o .types) (k .typed);
       alike = k .alike;
+      apart = k .apart;
       items = h .items;
       few = omega (arith, k .few, h .items);
       count = said-once decimal numbers refl (λ v l. refl) (valuesOf Count ws) n (o .count) (h .count);

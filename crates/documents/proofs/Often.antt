@@ -188,6 +188,10 @@ aKind j = record { byField = λ k f. pick (sameKind k j) 1 0; anItem = 0; mark =
 abbrev pub aField : Field → Weighing
 aField h = record { byField = λ k f. pick (sameField f h) 1 0; anItem = 0; mark = λ b n. 0 }
 
+-- a value of the field that is of no kind that t allows
+abbrev pub aStranger : Field → (Kind → Bool) → Weighing
+aStranger h t = record { byField = λ k f. pick (sameField f h) (pick (t k) 0 1) 0; anItem = 0; mark = λ b n. 0 }
+
 abbrev pub aType : Weighing
 aType = record { byField = λ k f. 0; anItem = 0; mark = λ b n. pick (isType n) 1 0 }
 

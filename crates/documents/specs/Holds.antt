@@ -9,11 +9,12 @@ use Rattle.answers.specs.Given.{Given, yes, worth, refused}
 use Rattle.codes.specs.declared.Element as code
 use Rattle.money.specs.Amount.{cents}
 use Rattle.profile.specs.declared.Kind.the-variants.{Count, Total, Code}
+use Rattle.profile.specs.declared.Field.the-variants.{TxId}
 use Rattle.profile.specs.declared.Version.{Version}
 use Rattle.profile.specs.Limits.{mostBytes, mostItems}
 use Rattle.profile.specs.Profile.{profile}
 use Rattle.reading.specs.Trace.{What}
-use Rattle.reading.specs.Rules.{itemsIn, valuesOf, centsIn, typesIn, ownKind}
+use Rattle.reading.specs.Rules.{itemsIn, valuesOf, valuesAt, centsIn, typesIn, ownKind}
 use Rattle.documents.specs.Document.{Each}
 use Rattle.documents.specs.Said.{said}
 use Rattle.documents.specs.Message.{Message, whole, Lawful}
@@ -32,6 +33,11 @@ AsFirst R (v ∷ l) = Each (R v) l
 -- each as the first one
 abbrev pub Alike : List (List ℕ) → Type 0
 Alike = AsFirst (λ v w. w ≡ v)
+
+-- no two are equal
+abbrev pub Apart : List (List ℕ) → Type 0
+Apart [] = Unit {0}
+Apart (v ∷ l) = Each (λ w. w ≡ v → ⊥) l × Apart l
 
 -- PmtTpInf stands in the header and in no item; or in every item and not in the header
 pub data TypeStands (ws : List What) : Type 0 where
@@ -55,6 +61,8 @@ pub record Holds (ws : List What) (n c : ℕ) : Type 0 where
   pub type : TypeStands ws
   -- LclInstrm is the same in all items
   pub alike : Alike (valuesOf (Code code.the-variants.LclInstrm) ws)
+  -- no two items have the same TxId
+  pub apart : Apart (valuesAt TxId ws)
   -- so many items stand, 10,000 at most, and the header's one count says as many
   pub items : itemsIn ws ≡ n
   pub few : n ≤ mostItems

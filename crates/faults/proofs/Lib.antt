@@ -6,6 +6,7 @@ pub mod Numbers
 pub mod Lacks
 pub mod Causes
 pub mod Faults
+pub mod Again
 pub mod Fills
 pub mod Made
 pub mod Completes

@@ -36,8 +36,8 @@ use Rattle.kinds.specs.Given.{simpleGiven, kindGiven}
 use Rattle.reading.specs.Trace.{What, itemBegins, itemEnds, there, absent, value}
 use Rattle.reading.specs.Rules.{itemsIn, typesIn, _so_, unlikeFirst, rules, ownKind, fitting, weighed}
 use Rattle.reading.proofs.Flat.{never}
-use Rattle.faults.specs.Refusals.{_among_, ofWhatIsSaid}
-use Rattle.faults.proofs.Numbers.{among-right, not-among}
+use Rattle.faults.specs.Refusals.{_among_, ofAKind, ofWhatIsSaid}
+use Rattle.faults.proofs.Numbers.{among-left, among-right, not-among}
 use Rattle.faults.proofs.Extends.{needs}
 
 -- no refusal, or one of these numbers
@@ -61,10 +61,10 @@ in-order-of ns (r ∷ l) g e h =
     go false n k = n
 
 abbrev Said : Given → Type 0
-Said = SaidIn ofWhatIsSaid
+Said = SaidIn ofAKind
 
-in-order : (l : List Rule) (g : Given) → allSaid ofWhatIsSaid l ≡ true → Said g → Said (inOrder l g)
-in-order = in-order-of ofWhatIsSaid
+in-order : (l : List Rule) (g : Given) → allSaid ofAKind l ≡ true → Said g → Said (inOrder l g)
+in-order = in-order-of ofAKind
 
 -- ---- by the kinds
 simple-said : (s : Simple) (v : List ℕ) → Said (simpleGiven s v)
@@ -92,7 +92,7 @@ place-said i (t ∷ l) v = go (is t v) (place-said (suc i) l v)
     go true h = tt
     go false h = h
 
-kind-said : (k : Kind) (v : List ℕ) → Said (kindGiven k v)
+pub kind-said : (k : Kind) (v : List ℕ) → Said (kindGiven k v)
 unfolding countGiven codeGiven
 kind-said (Plain s) v = simple-said s v
 kind-said Count v = in-order (countForm v else 7 ∷ []) (worth (decimal v)) refl tt
@@ -107,7 +107,7 @@ orFour = 4 ∷ ofWhatIsSaid
 fitting-said : (g h : Given) → Said g → SaidIn orFour h → SaidIn orFour (fitting g h)
 fitting-said yes h a b = b
 fitting-said (worth n) h a b = b
-fitting-said (refused n) h a b = among-right n (4 ∷ []) ofWhatIsSaid a
+fitting-said (refused n) h a b = among-right n (4 ∷ []) ofWhatIsSaid (among-left n ofAKind (11 ∷ 24 ∷ 12 ∷ 23 ∷ []) a)
 
 own-said : (w : What) → Said (ownKind w)
 own-said itemBegins = tt
@@ -151,20 +151,17 @@ weighed-four before (absent n) = go (isType n so unlikeFirst false (typesIn befo
     go : (b : Bool) → inOrder (b else 4 ∷ []) yes ≡ refused 4 → b ≡ false
     go true e = never (cc)
     go false e = refl
-weighed-four before (value k f v) = go (kindGiven k v) (kind-said k v) (inOrder (rules before (value k f v)) yes) (in-order (rules before (value k f v)) yes refl tt)
+weighed-four before (value k f v) = go (kindGiven k v) (kind-said k v) (inOrder (rules before (value k f v)) yes) (in-order-of ofWhatIsSaid (rules before (value k f v)) yes refl tt)
   where
-    four : (n : ℕ) → n among ofWhatIsSaid → refused n ≡ refused 4 → ⊥
-    four n a e = not-among 4 ofWhatIsSaid n refl a (cc)
-
-    own : (h : Given) → Said h → h ≡ refused 4 → ⊥
+    own : (h : Given) → SaidIn ofWhatIsSaid h → h ≡ refused 4 → ⊥
     own yes b e = never (cc)
     own (worth n) b e = never (cc)
-    own (refused n) b e = four n b e
+    own (refused n) b e = not-among 4 ofWhatIsSaid n refl b (cc)
 
-    go : (g : Given) → Said g → (h : Given) → Said h → fitting g h ≡ refused 4 → ⊥
+    go : (g : Given) → Said g → (h : Given) → SaidIn ofWhatIsSaid h → fitting g h ≡ refused 4 → ⊥
     go yes a h b e = own h b e
     go (worth n) a h b e = own h b e
-    go (refused n) a h b e = four n a e
+    go (refused n) a h b e = not-among 4 ofAKind n refl a (cc)
 
 -- an entry that is refused has a byte there
 pub weighed-there : (before : List What) (w : What) (n : ℕ) → weighed before w ≡ refused n → 0 < needs w

@@ -26,9 +26,12 @@ _among_ n l = some (eqb n) l ≡ true
 abbrev pub ofForm : List ℕ
 ofForm = 2 ∷ 3 ∷ 4 ∷ 6 ∷ []
 
--- what is said: a value of its kind, an item, what was said before (and 4, where the payment type is missing in both, header and item)
+-- what is said: a value of its kind; what was said before, an item (and 4, where the payment type is missing in both, header and item)
+abbrev pub ofAKind : List ℕ
+ofAKind = 7 ∷ 19 ∷ 8 ∷ 9 ∷ 10 ∷ []
+
 abbrev pub ofWhatIsSaid : List ℕ
-ofWhatIsSaid = 7 ∷ 19 ∷ 8 ∷ 9 ∷ 10 ∷ 11 ∷ 12 ∷ 23 ∷ []
+ofWhatIsSaid = ofAKind ++ (11 ∷ 24 ∷ 12 ∷ 23 ∷ [])
 
 abbrev pub whileReading : List ℕ
 whileReading = ofForm ++ ofWhatIsSaid

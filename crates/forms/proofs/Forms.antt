@@ -6,7 +6,9 @@ use mathlib.Core.List.{List, []}
 use Prim.Native.Nat.{ℕ, _≤_}
 use native.Mathlib.Omega.{arith}
 use lib.ListN.{length}
+use Rattle.profile.specs.declared.Field.the-variants.{TxId}
 use Rattle.profile.specs.declared.Version.{Version}
+use Rattle.profile.specs.declared.Version.the-variants.{V02, V08}
 use Rattle.profile.specs.Limits.{mostBytes}
 use Rattle.profile.specs.Tree.{Shape}
 use Rattle.profile.specs.Profile.{profile}
@@ -25,11 +27,18 @@ use Rattle.forms.specs.Plain.{plain, plainMessage, PlainForm}
 use Rattle.forms.specs.Agree.{Agreeing, agreeing}
 use Rattle.forms.proofs.Said.{meantAll, plain-said, plain-proper, plain-twice}
 use Rattle.forms.proofs.Holds.{meant-holds}
+use Rattle.forms.proofs.Fields.{isRead, read-meant, held, read-same}
 use Rattle.forms.proofs.Bounded.{Few, form-long}
 use Rattle.forms.proofs.Same.{plain-agree, agree-plain}
 
 pub plain-lawful : {v : Version} {sh : Shape} (d : Message v sh) → Lawful d → Lawful (plainMessage d)
 plain-lawful {sh = sh} d law = record { before = refl; inside = plain-proper sh (d .inside) (law .inside); behind = refl }
+
+-- TxId is as read
+ids-read : (v : Version) → held (λ v. v) isRead read-meant TxId (profile v) ≡ true
+unfolding profile
+ids-read V02 = refl
+ids-read V08 = refl
 
 module _ {m : List ℕ} {n c : ℕ} (k : Profiled m n c) where
   abbrev form : List ℕ
@@ -47,7 +56,7 @@ module _ {m : List ℕ} {n c : ℕ} (k : Profiled m n c) where
     short = form-long (k .message) (k .lawful) few;
     holds =
         subst (λ (ws : List What). Holds ws n c) (sym (plain-said (profile (k .version)) (k .message .inside)))
-        (meant-holds (said (profile (k .version)) (k .message .inside)) n c (k .holds));
+        (meant-holds (said (profile (k .version)) (k .message .inside)) n c (read-same TxId (profile (k .version)) (ids-read (k .version)) (k .message .inside)) (k .holds));
   }
 
 -- Every accepted message has a plain form.

@@ -11,14 +11,15 @@ use Rattle.money.specs.Amount.{cents}
 use Rattle.money.proofs.Plain.{zeros-number, plain-cents}
 use Rattle.profile.specs.declared.Kind.{Kind}
 use Rattle.profile.specs.declared.Kind.the-variants.{Plain, Count, Total, Amount, Code}
+use Rattle.profile.specs.declared.Field.the-variants.{TxId}
 use Rattle.profile.specs.Kinds.{sameKind}
 use Rattle.kinds.specs.Given.{kindGiven}
 use Rattle.kinds.specs.Meant.{asMeant}
 use Rattle.kinds.proofs.Meant.{meant-given}
 use Rattle.reading.specs.Trace.{What, itemBegins, itemEnds, there, absent, value}
-use Rattle.reading.specs.Rules.{begun, itemsIn, ofKind, valuesOf, sumOf, centsIn, ownKind, ofType, typesIn}
+use Rattle.reading.specs.Rules.{begun, itemsIn, ofKind, valuesOf, valuesAt, sumOf, centsIn, ownKind, ofType, typesIn}
 use Rattle.documents.specs.Document.{Each}
-use Rattle.documents.specs.Holds.{Passes, Alike, TypeStands, inHeader, inItems, numbers, amounts, Holds}
+use Rattle.documents.specs.Holds.{Passes, Alike, Apart, TypeStands, inHeader, inItems, numbers, amounts, Holds}
 use Rattle.forms.proofs.Said.{meantIn, meantAll}
 
 -- what passes is not refused
@@ -90,7 +91,7 @@ module _ {A : Type 0} (g : List ℕ → A) where
     each-values (w ∷ l) =
         each-append (ofKind j (meantIn w)) (valuesOf j (meantAll l)) ∙ (rw (each-of w, each-values l) (sym (each-append (ofKind j w) (valuesOf j l))))
 
-each-itself : (l : List (List ℕ)) → each (λ v. v) l ≡ l
+pub each-itself : (l : List (List ℕ)) → each (λ v. v) l ≡ l
 each-itself [] = refl
 each-itself (v ∷ l) = ap (λ (k : List (List ℕ)). v ∷ k) (each-itself l)
 
@@ -154,12 +155,13 @@ sum-each : (l : List (List ℕ)) → sumOf l ≡ sum (each cents l)
 sum-each [] = refl
 sum-each (v ∷ l) = ap (λ (n : ℕ). cents v + n) (sum-each l)
 
--- Of a document of which the profile holds, it holds of the plain form too.
-pub meant-holds : (ws : List What) (n c : ℕ) → Holds ws n c → Holds (meantAll ws) n c
-meant-holds ws n c h = record {
+-- Of a document of which the profile holds, it holds of the plain form too, where TxId is as read.
+pub meant-holds : (ws : List What) (n c : ℕ) → valuesAt TxId (meantAll ws) ≡ valuesAt TxId ws → Holds ws n c → Holds (meantAll ws) n c
+meant-holds ws n c ids h = record {
   kinds = meant-kinds ws (h .kinds);
   type = meant-stands ws (h .type);
   alike = subst Alike (sym (meant-services ws)) (h .alike);
+  apart = subst Apart (sym ids) (h .apart);
   items = meant-items ws ∙ h .items;
   few = h .few;
   count = numbers-each (valuesOf Count (meantAll ws)) ∙ meant-counts ws ∙ sym (numbers-each (valuesOf Count ws)) ∙ h .count;

@@ -1,5 +1,6 @@
 pub mod Said
 pub mod Holds
+pub mod Fields
 pub mod Longest
 pub mod Bounded
 pub mod Same

@@ -1,36 +1,29 @@
 -- "The plain form [..] gives the same records": in any area.
 use mathlib.Core.Path.{_≡_, refl, sym, ap, _∙_, subst}
-use mathlib.Core.Bool.{Bool, true, false}
+use mathlib.Core.Bool.{Bool, true}
 use mathlib.Core.List.{List, [], _∷_, _++_}
 use Prim.Native.Nat.{ℕ}
-use Prim.Native.String.{String}
-use Rattle.text.specs.Truth.{both, pick}
-use Rattle.text.proofs.Truths.{both-true}
 use Rattle.money.specs.Amount.{cents}
 use Rattle.profile.specs.declared.Kind.{Kind}
-use Rattle.profile.specs.declared.Kind.the-variants.{Plain, Count, Total, Amount, Code}
-use Rattle.profile.specs.declared.Simple.{Simple}
-use Rattle.profile.specs.declared.Simple.the-variants.{Reference, EndToEnd, Text70, Text140, Date, Time, Bic, Bicfi, Iban, Identifier}
+use Rattle.profile.specs.declared.Kind.the-variants.{Amount}
 use Rattle.profile.specs.declared.Field.{Field}
 use Rattle.profile.specs.declared.Field.the-variants.{TxId, EndToEndId, MndtId, DbtrIban, CdtrIban, DbtrBic, ReqdColltnDt, SeqTp, CdtrId, CdtrBic, InstrId, LclInstrm, DtOfSgntr}
-use Rattle.profile.specs.Fields.{sameField}
 use Rattle.profile.specs.declared.Version.{Version}
 use Rattle.profile.specs.declared.Version.the-variants.{V02, V08}
-use Rattle.profile.specs.Tree.{Occ, once, optional, many, more, Shape, end, leaf, group}
+use Rattle.profile.specs.Tree.{many, Shape}
 use Rattle.profile.specs.Profile.{inHeader, inItem, profile}
 use Rattle.words.specs.Collapsed.{collapsed}
-use Rattle.words.proofs.Collapsed.{collapsed-twice}
-use Rattle.kinds.specs.Meant.{simplyMeant, asMeant}
-use Rattle.reading.specs.Trace.{What, itemBegins, itemEnds, there, absent, value}
-use Rattle.reading.specs.Rules.{ofField, valuesAt, valuesOf, _so_}
+use Rattle.kinds.specs.Meant.{asMeant}
+use Rattle.reading.specs.Trace.{What}
+use Rattle.reading.specs.Rules.{valuesAt, valuesOf}
 use Rattle.reading.specs.Judged.{judged, lastOf}
 use Rattle.reading.specs.Verdict.{accepted}
 use Rattle.reading.specs.Items.{theItems}
 use Rattle.reading.proofs.Each.{AllIn}
 use Rattle.postings.specs.Record.{recordWith, valueFor, centsFor, recordFor}
 use Rattle.postings.specs.Area.{recordsFor, recorded}
-use Rattle.documents.specs.Document.{Led, Doc, texts, Each}
-use Rattle.documents.specs.Said.{one, each, none, said}
+use Rattle.documents.specs.Document.{Led, Doc, texts}
+use Rattle.documents.specs.Said.{said}
 use Rattle.documents.specs.Message.{Message, whole, Lawful}
 use Rattle.documents.proofs.Each.{each-both}
 use Rattle.bulks.specs.Bulk.{tree, profile-tree, DocItem, Bulk, message, itemRecord}
@@ -39,7 +32,8 @@ use Rattle.bulks.proofs.Trees.{document-bulk}
 use Rattle.bulks.proofs.Posted.{accepted-records}
 use Rattle.forms.specs.Plain.{bare, plain, plainMessage, PlainForm}
 use Rattle.forms.proofs.Said.{meantIn, meantAll, plain-said}
-use Rattle.forms.proofs.Holds.{each as of, each-append, meant-amounts}
+use Rattle.forms.proofs.Holds.{each as of, meant-amounts}
+use Rattle.forms.proofs.Fields.{isRead, read-meant, isWords, words-meant, held, Same, said-same, values-same}
 use Rattle.forms.proofs.Forms.{plain-lawful, form-accepted}
 
 -- ---- the last of some, and what is asked of it
@@ -51,129 +45,14 @@ last-of : {A : Type 0} (h : List ℕ → A) (v : List ℕ) (l : List (List ℕ))
 last-of h v [] = refl
 last-of h v (w ∷ l) = last-of h w l
 
--- ---- what a record holds of a value is the same of the value as it is meant: of a kind that is as read, the value; of any that is no number, the collapsed value
-abbrev isReadSimple : Simple → Bool
-isReadSimple Reference = true
-isReadSimple EndToEnd = false
-isReadSimple Text70 = false
-isReadSimple Text140 = false
-isReadSimple Date = true
-isReadSimple Time = true
-isReadSimple Bic = true
-isReadSimple Bicfi = true
-isReadSimple Iban = true
-isReadSimple Identifier = true
-
-abbrev isRead : Kind → Bool
-isRead (Plain s) = isReadSimple s
-isRead Count = false
-isRead Total = false
-isRead Amount = false
-isRead (Code e) = true
-
-read-simply : (s : Simple) → isReadSimple s ≡ true → (v : List ℕ) → simplyMeant s v ≡ v
-read-simply Reference e v = refl
-read-simply EndToEnd e v = cc
-read-simply Text70 e v = cc
-read-simply Text140 e v = cc
-read-simply Date e v = refl
-read-simply Time e v = refl
-read-simply Bic e v = refl
-read-simply Bicfi e v = refl
-read-simply Iban e v = refl
-read-simply Identifier e v = refl
-
-read-meant : (k : Kind) → isRead k ≡ true → (v : List ℕ) → asMeant k v ≡ v
-read-meant (Plain s) e v = read-simply s e v
-read-meant Count e v = cc
-read-meant Total e v = cc
-read-meant Amount e v = cc
-read-meant (Code c) e v = refl
-
-abbrev isWords : Kind → Bool
-isWords (Plain s) = true
-isWords Count = false
-isWords Total = false
-isWords Amount = false
-isWords (Code e) = true
-
-words-simply : (s : Simple) (v : List ℕ) → collapsed (simplyMeant s v) ≡ collapsed v
-words-simply Reference v = refl
-words-simply EndToEnd v = collapsed-twice v
-words-simply Text70 v = collapsed-twice v
-words-simply Text140 v = collapsed-twice v
-words-simply Date v = refl
-words-simply Time v = refl
-words-simply Bic v = refl
-words-simply Bicfi v = refl
-words-simply Iban v = refl
-words-simply Identifier v = refl
-
-words-meant : (k : Kind) → isWords k ≡ true → (v : List ℕ) → collapsed (asMeant k v) ≡ collapsed v
-words-meant (Plain s) e v = words-simply s v
-words-meant Count e v = cc
-words-meant Total e v = cc
-words-meant Amount e v = cc
-words-meant (Code c) e v = refl
-
--- h is what the record holds of a field's value, and t tells the kinds of which it is the same as meant
+-- ---- h is what the record holds of a field's value, and t tells the kinds of which it is the same as meant
 module _ (h : List ℕ → List ℕ) (t : Kind → Bool) (same : (k : Kind) → t k ≡ true → (v : List ℕ) → h (asMeant k v) ≡ h v) (g : Field) where
-  abbrev held : Shape → Bool
-  held (end n) = true
-  held (leaf o n k f rest) = both (sameField f g so t k) (held rest)
-  held (group o n inner rest) = both (held inner) (held rest)
-
-  abbrev Same : What → Type 0
-  Same w = of h (ofField g (meantIn w)) ≡ of h (ofField g w)
-
-  value-same : (k : Kind) (f : Field) (v : List ℕ) → (sameField f g so t k) ≡ true → Same (value k f v)
-  value-same k f v e = go (sameField f g) e
-    where
-      go : (b : Bool) → (b so t k) ≡ true → of h (pick b (asMeant k v ∷ []) []) ≡ of h (pick b (v ∷ []) [])
-      go true e = ap (λ (x : List ℕ). x ∷ []) (same k e v)
-      go false e = refl
-
-  module _ {A : Type 0} (n : String) (x : A → List What) (all : (a : A) → Each Same (x a)) where
-    one-same : (o : Occ) (e : Led A) → Each Same (one o n x e)
-    one-same once e = all (e .held)
-    one-same optional e = (refl, all (e .held))
-    one-same many e = (refl, each-both Same (x (e .held)) (itemEnds ∷ []) (all (e .held)) (refl, tt))
-    one-same more e = (refl, each-both Same (x (e .held)) (itemEnds ∷ []) (all (e .held)) (refl, tt))
-
-    each-same : (o : Occ) (l : List (Led A)) → Each Same (each o n x l)
-    each-same o [] = tt
-    each-same o (e ∷ l) = each-both Same (one o n x e) (each o n x l) (one-same o e) (each-same o l)
-
-    none-same : (o : Occ) (l : List (Led A)) → Each Same (none o n l)
-    none-same once l = tt
-    none-same optional [] = (refl, tt)
-    none-same optional (e ∷ l) = tt
-    none-same many l = tt
-    none-same more l = tt
-
-    row-same : (o : Occ) (l : List (Led A)) (r : List What) → Each Same r → Each Same (none o n l ++ (each o n x l ++ r))
-    row-same o l r k = each-both Same (none o n l) (each o n x l ++ r) (none-same o l) (each-both Same (each o n x l) r (each-same o l) k)
-
-  said-same : (sh : Shape) → held sh ≡ true → (d : Doc sh) → Each Same (said sh d)
-  said-same (end n) e d = tt
-  said-same (leaf o n k f rest) e d =
-      let b = both-true (sameField f g so t k) (held rest) e in
-      row-same n (λ v. value k f v ∷ []) (λ v. (value-same k f v (b .0), tt)) o (d .all) (said rest (d .others)) (said-same rest (b .1) (d .others))
-  said-same (group o n inner rest) e d =
-      let b = both-true (held inner) (held rest) e in
-      row-same n (said inner) (said-same inner (b .0)) o (d .all) (said rest (d .others)) (said-same rest (b .1) (d .others))
-
-  values-same : (ws : List What) → Each Same ws → of h (valuesAt g (meantAll ws)) ≡ of h (valuesAt g ws)
-  values-same [] k = refl
-  values-same (w ∷ l) k =
-      each-append h (ofField g (meantIn w)) (valuesAt g (meantAll l)) ∙ (rw (k .0, values-same l (k .1)) (sym (each-append h (ofField g w) (valuesAt g l))))
-
-  value-is : (sh : Shape) → held sh ≡ true → (th : Shape) → held th ≡ true → (c : Doc sh) (d : Doc th)
+  value-is : (sh : Shape) → held h t same g sh ≡ true → (th : Shape) → held h t same g th ≡ true → (c : Doc sh) (d : Doc th)
       → h (valueFor (meantAll (said sh c ++ said th d)) g) ≡ h (valueFor (said sh c ++ said th d) g)
   value-is sh e th f c d =
       let ws = said sh c ++ said th d in
       sym (last-of h [] (valuesAt g (meantAll ws)))
-      ∙ (ap (lastIn (h [])) (values-same ws (each-both Same (said sh c) (said th d) (said-same sh e c) (said-same th f d))) ∙ last-of h [] (valuesAt g ws))
+      ∙ (ap (lastIn (h [])) (values-same h t same g ws (each-both (Same h t same g) (said sh c) (said th d) (said-same h t same g sh e c) (said-same h t same g th f d))) ∙ last-of h [] (valuesAt g ws))
 
 -- ---- an item's cents
 cents-is : (ws : List What) → centsFor (meantAll ws) ≡ centsFor ws

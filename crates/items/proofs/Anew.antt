@@ -1,26 +1,28 @@
 -- What goes on after something was read goes on with nothing read before, where the payment type may stand once in it: the rules ask no more of less.
 use mathlib.Core.Path.{_≡_, refl, ap, _∙_}
-use mathlib.Core.Bool.{Bool, true, false}
+use mathlib.Core.Bool.{Bool, true, false, not}
 use mathlib.Core.List.{List, [], _∷_, _++_, append-nil, append-assoc}
 use Prim.Native.Nat.{ℕ, _+_, _≤_}
 use native.Mathlib.Omega.{arith}
 use borrow.Author.Tests.{ltb-true, lt-ltb}
 use lib.Dec.{ltb}
 use lib.ListN.{length, length-append}
-use Rattle.text.specs.Truth.{pick}
+use Rattle.text.specs.Truth.{either, pick}
 use Rattle.text.specs.Quoted.{alike}
 use Rattle.answers.specs.Given.{Given, yes, worth, refused as no, _else_, inOrder}
 use Rattle.codes.specs.declared.Element.the-variants.{LclInstrm}
 use Rattle.profile.specs.declared.Kind.the-variants.{Code}
+use Rattle.profile.specs.declared.Field.the-variants.{TxId}
 use Rattle.profile.specs.Limits.{mostItems}
 use Rattle.profile.specs.Kinds.{sameKind}
+use Rattle.profile.specs.Fields.{sameField}
 use Rattle.profile.specs.Profile.{isType}
 use Rattle.kinds.specs.Given.{kindGiven}
 use Rattle.reading.specs.Trace.{What, itemBegins, itemEnds, there, absent, value, Entry, Trace, met, upTo, fault}
 use Rattle.reading.specs.Noted.{on, Ended, noted}
-use Rattle.reading.specs.Rules.{itemsIn, ofKind, valuesOf, ofType, typesIn, firstOf, _so_, unlikeFirst, fitting, weighed}
+use Rattle.reading.specs.Rules.{itemsIn, ofKind, valuesOf, valuesAt, ofType, typesIn, firstOf, standsIn, _so_, unlikeFirst, fitting, weighed}
 use Rattle.reading.specs.Judged.{whats, orRefused, listed}
-use Rattle.reading.proofs.Lists.{whats-append, items-append, values-append, types-append, alike-itself, alike-same}
+use Rattle.reading.proofs.Lists.{whats-append, items-append, values-append, at-append, types-append, alike-itself, alike-same}
 use Rattle.reading.proofs.Flat.{never, flat, Goes, goes-flat, through, taken}
 
 -- ---- an answer that lets pass
@@ -39,13 +41,16 @@ of-fine yes p s h = refl
 of-fine (worth n) p s h = refl
 of-fine (no n) p s h = absurd h
 
--- a rule that is as strict
-stricter : (g : Given) (a c : Bool) → (a ≡ true → c ≡ true) → Fine (fitting g (inOrder (a else 11 ∷ []) yes)) → Fine (fitting g (inOrder (c else 11 ∷ []) yes)) × (a ≡ true)
-stricter (no n) a c h e = absurd e
-stricter yes false c h e = absurd e
-stricter yes true c h e = (rw (h refl) tt, refl)
-stricter (worth n) false c h e = absurd e
-stricter (worth n) true c h e = (rw (h refl) tt, refl)
+-- two rules that are as strict
+stricter : (g : Given) (a b c d : Bool) → (a ≡ true → c ≡ true) → (b ≡ true → d ≡ true)
+    → Fine (fitting g (inOrder (a else 11 ∷ b else 24 ∷ []) yes)) → Fine (fitting g (inOrder (c else 11 ∷ d else 24 ∷ []) yes)) × (a ≡ true)
+stricter (no n) a b c d h k e = absurd e
+stricter yes false b c d h k e = absurd e
+stricter yes true false c d h k e = absurd e
+stricter yes true true c d h k e = (rw (h refl, k refl) tt, refl)
+stricter (worth n) false b c d h k e = absurd e
+stricter (worth n) true false c d h k e = absurd e
+stricter (worth n) true true c d h k e = (rw (h refl, k refl) tt, refl)
 
 so-also : (c x y : Bool) → (x ≡ true → y ≡ true) → (c so x) ≡ true → (c so y) ≡ true
 so-also true x y h e = h e
@@ -62,6 +67,15 @@ lets-more (x ∷ l) (y ∷ k) w g h = λ v e. g v e
 
 abbrev services : List What → List (List ℕ)
 services ws = valuesOf (Code LclInstrm) ws
+
+-- ---- TxId: what stands nowhere in both lists stands nowhere in the second
+stands-less : (v : List ℕ) (ps ss : List (List ℕ)) → not (standsIn v (ps ++ ss)) ≡ true → not (standsIn v ss) ≡ true
+stands-less v [] ss e = e
+stands-less v (w ∷ ps) ss e = go (alike w v) e (stands-less v ps ss)
+  where
+    go : (b : Bool) → not (either b (standsIn v (ps ++ ss))) ≡ true → (not (standsIn v (ps ++ ss)) ≡ true → not (standsIn v ss) ≡ true) → not (standsIn v ss) ≡ true
+    go true e k = never (cc)
+    go false e k = k e
 
 -- ---- the payment type: where it may stand once, nothing was said of it before
 type-alone : (i b : Bool) (l : List Bool) → length l + length (pick i (b ∷ []) []) ≤ 1 → (i so unlikeFirst b l) ≡ true
@@ -98,8 +112,12 @@ module _ (pre ws : List What) (g : Lets (services pre) (services ws)) where
       x =
           stricter (kindGiven k v)
           (sameKind k (Code LclInstrm) so alike (firstOf v (services (pre ++ ws))) v)
+          (sameField f TxId so not (standsIn v (valuesAt TxId (pre ++ ws))))
           (sameKind k (Code LclInstrm) so alike (firstOf v (services ws)) v)
+          (sameField f TxId so not (standsIn v (valuesAt TxId ws)))
           (so-also (sameKind k (Code LclInstrm)) (alike (firstOf v (services (pre ++ ws))) v) (alike (firstOf v (services ws)) v) (λ e. g v (rw joined at e)))
+          (so-also (sameField f TxId) (not (standsIn v (valuesAt TxId (pre ++ ws)))) (not (standsIn v (valuesAt TxId ws)))
+          (λ e. stands-less v (valuesAt TxId pre) (valuesAt TxId ws) (rw (at-append TxId pre ws) at e)))
           h
 
       served : (i : Bool) → (i so alike (firstOf v (services (pre ++ ws))) v) ≡ true → Lets (services pre) (services ws ++ pick i (v ∷ []) [])

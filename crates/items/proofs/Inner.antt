@@ -43,7 +43,7 @@ single optional e = tt
 single many e = never (cc)
 single more e = never (cc)
 
-all-single : (sh : Shape) → singles sh ≡ true → Comes Single (λ k n. Unit {0}) sh
+all-single : (sh : Shape) → singles sh ≡ true → Comes Single (λ k f n. Unit {0}) sh
 all-single (end n) e = tt
 all-single (leaf o n k f rest) e =
     let h = both-true (singly o) (singles rest) e in
@@ -81,7 +81,7 @@ module _ (m : List ℕ) where
   lying (fault n q) h = tt
 
   all-lie : (sh : Shape) → singles sh ≡ true → (p : ℕ) → AllLie m (flat (trace sh m p))
-  all-lie sh e p = lying (trace sh m p) (trace-all m Lying Single (λ k n. Unit {0}) (λ n k f b p q e w h. (refl, behind-tag (isAmount k) n p q e)) begin (λ n q. tt) finish sh (all-single sh e) p)
+  all-lie sh e p = lying (trace sh m p) (trace-all m Lying Single (λ k f n. Unit {0}) (λ n k f b p q e w h. (refl, behind-tag (isAmount k) n p q e)) begin (λ n q. tt) finish sh (all-single sh e) p)
 
   item-singles : (v : Version) → singles (inItem v) ≡ true
   unfolding inItem

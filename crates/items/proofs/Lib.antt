@@ -7,3 +7,4 @@ pub mod Accepted
 pub mod Places
 pub mod Room
 pub mod Sums
+pub mod Ids

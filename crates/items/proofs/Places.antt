@@ -55,17 +55,17 @@ module _ {v : Version} {m : List ℕ} {p : ℕ} {x : Item} (s : Stands v m p x) 
 
 -- ---- an entry that is no value, or whose value lies at its place, behind a tag
 module _ (m : List ℕ) where
-  abbrev LiesIn : What → ℕ → Type 0
+  abbrev pub LiesIn : What → ℕ → Type 0
   LiesIn itemBegins p = Unit {0}
   LiesIn itemEnds p = Unit {0}
   LiesIn (there n) p = Unit {0}
   LiesIn (absent n) p = Unit {0}
   LiesIn (value k f v) p = (valueAt m p ≡ v) × (1 ≤ p)
 
-  abbrev Lying : Entry → Type 0
+  abbrev pub Lying : Entry → Type 0
   Lying e = LiesIn (e .what) (e .place)
 
-  comes : (sh : Shape) → Comes (λ o. Unit {0}) (λ k n. Unit {0}) sh
+  comes : (sh : Shape) → Comes (λ o. Unit {0}) (λ k f n. Unit {0}) sh
   comes (end n) = tt
   comes (leaf o n k f rest) = (tt, tt, comes rest)
   comes (group o n inner rest) = (tt, comes inner, comes rest)
@@ -83,10 +83,10 @@ module _ (m : List ℕ) where
   finish more a q = (tt, tt)
 
   -- whatever tree it is read by
-  all-lying : (sh : Shape) (p : ℕ) → AllIn Lying (flat (trace sh m p))
+  pub all-lying : (sh : Shape) (p : ℕ) → AllIn Lying (flat (trace sh m p))
   all-lying sh p =
       all-flat Lying (trace sh m p)
-      (trace-all m Lying (λ o. Unit {0}) (λ k n. Unit {0}) (λ n k f b p q e w h. (refl, behind-tag (isAmount k) n p q e)) begin (λ n q. tt) finish sh (comes sh) p)
+      (trace-all m Lying (λ o. Unit {0}) (λ k f n. Unit {0}) (λ n k f b p q e w h. (refl, behind-tag (isAmount k) n p q e)) begin (λ n q. tt) finish sh (comes sh) p)
 
   within : (es : List Entry) → AllLie m es → AllIn Lying es
   within [] h = tt

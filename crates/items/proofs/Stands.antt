@@ -46,7 +46,7 @@ module _ (v : Version) (m : List ℕ) where
       let z : s .mid ≡ q = s .then in
       ap (λ (l : List Entry). (itemBegins at a) ∷ l) (s .entries ∙ rw z)
 
-  as-alone : (p : ℕ) → look itemTag (drop (skipped m p) m) ≡ Lies → alone v m p ≡ itemBody v m (skipped m p)
+  pub as-alone : (p : ℕ) → look itemTag (drop (skipped m p) m) ≡ Lies → alone v m p ≡ itemBody v m (skipped m p)
   unfolding alone
   as-alone p w = rw w (then-none (itemBody v m (skipped m p)))
 

@@ -28,8 +28,8 @@ use Rattle.reading.proofs.Lists.{whats-append, items-append}
 use Rattle.reading.proofs.Flat.{through, taken}
 use Rattle.documents.specs.Holds.{Passes}
 use Rattle.documents.proofs.Lists.{Kept, kept-none, kept-more, both-pass, sums-more, on-listed, compared-is, in-range}
-use Rattle.items.specs.Sums.{mostSum, SoFar, here, past}
-use Rattle.items.proofs.Room.{profile-fair, profile-none, paid, Room, Leaves, within, leaves-then, leaves-trace}
+use Rattle.items.specs.Sums.{mostSum, SoFar, here, past, anAmount}
+use Rattle.items.proofs.Room.{profile-fair, profile-none, paid, Leaves, within, message-leaves}
 
 is-amount : (k : Kind) → sameKind k Amount ≡ true → k ≡ Amount
 is-amount Amount e = refl
@@ -51,21 +51,21 @@ module _ (e : Entry) (es us : List Entry) (q : listed e es ≡ on us) where
   kept-on : Kept (whats es) → Kept (whats us)
   kept-on h = rw one-more (kept-more (whats es) (e .what) h (on-listed e es us q))
 
-  step : (centsIn (whats us) ≤ centsIn (whats es) + paid (e .what) * most anItem) × (itemsIn (whats us) ≡ itemsIn (whats es) + begun (e .what))
+  step : (centsIn (whats us) ≤ centsIn (whats es) + paid anAmount (e .what) * most anItem) × (itemsIn (whats us) ≡ itemsIn (whats es) + begun (e .what))
   step = rw one-more (go (e .what) (on-listed e es us q))
     where
       amount : (k : Kind) (v : List ℕ) (b : Bool) → sameKind k Amount ≡ b → Passes (kindGiven k v) → sumOf (pick b (v ∷ []) []) ≤ pick b 1 0 * most anItem
       amount k v true z p = omega (arith, in-range anItem v (rw (is-amount k z) at p))
       amount k v false z p = omega arith
 
-      own : (w : What) → Passes (weighed (whats es) w) → sumOf (ofKind Amount w) ≤ paid w * most anItem
+      own : (w : What) → Passes (weighed (whats es) w) → sumOf (ofKind Amount w) ≤ paid anAmount w * most anItem
       own itemBegins p = omega arith
       own itemEnds p = omega arith
       own (there n) p = omega arith
       own (absent n) p = omega arith
       own (value k f v) p = amount k v (sameKind k Amount) refl (both-pass (kindGiven k v) (inOrder (rules (whats es) (value k f v)) yes) p .0)
 
-      go : (w : What) → Passes (weighed (whats es) w) → (centsIn (whats es ++ (w ∷ [])) ≤ centsIn (whats es) + paid w * most anItem) × (itemsIn (whats es ++ (w ∷ [])) ≡ itemsIn (whats es) + begun w)
+      go : (w : What) → Passes (weighed (whats es) w) → (centsIn (whats es ++ (w ∷ [])) ≤ centsIn (whats es) + paid anAmount w * most anItem) × (itemsIn (whats es ++ (w ∷ [])) ≡ itemsIn (whats es) + begun w)
       go w p = (omega (arith, sums-more (whats es) w, own w p), omega (arith, items-append (whats es) (w ∷ [])))
 
 -- ---- all along a message
@@ -76,28 +76,13 @@ abbrev count : List Entry → ℕ
 count es = itemsIn (whats es)
 
 abbrev Within : Trace → List Entry → Type 0
-Within = Leaves listed sum count step 0
+Within = Leaves anAmount listed sum count step 0
 
 message-within : (m : List ℕ) → Within (message m) []
-unfolding message behindAll
-message-within m = go (ltb mostBytes (length m)) (opened m)
-  where
-    behind : (p : ℕ) (es : List Entry) → Room listed sum count step 0 es → Within (pick (ltb (skipped m p) (length m)) (fault 16 (skipped m p)) (upTo (skipped m p))) es
-    behind p es r = end (ltb (skipped m p) (length m))
-      where
-        end : (b : Bool) → Within (pick b (fault 16 (skipped m p)) (upTo (skipped m p))) es
-        end true = r
-        end false = r
-
-    go : (b : Bool) (o : Opened) → Within (pick b (fault 1 0) (inside m o)) []
-    go true o = omega arith
-    go false (faulty n q) = omega arith
-    go false (from v p) =
-        leaves-then listed sum count step 0 0 (trace (profile v) m p) (behindAll m) []
-        (leaves-trace listed sum count step m (profile v) (profile-fair v) 0 p [] (omega (arith, profile-none v))) behind
+message-within m = message-leaves anAmount listed sum count step m profile-fair profile-none [] (omega arith)
 
 so-far : (t : Trace) (es now : List Entry) → Within t es → Kept (whats es) → SoFar t es now → centsIn (whats now) ≤ mostSum
-so-far t es now h k here = omega (arith, within listed sum count step 0 t es h, k .few)
+so-far t es now h k here = omega (arith, within anAmount listed sum count step 0 t es h, k .few)
 so-far (met e t) es now h k (past {us = us} q r) = so-far t us now (h .1 us q) (kept-on e es us q k) r
 
 -- **The running sum of any message, read so far, is at most 999,999,999,990,000 cents**, accepted or not.

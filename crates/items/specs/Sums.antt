@@ -7,6 +7,7 @@ use Rattle.money.specs.declared.Range.the-variants.{Item as anItem}
 use Rattle.money.specs.Amount.{most}
 use Rattle.profile.specs.declared.Kind.{Kind}
 use Rattle.profile.specs.declared.Kind.the-variants.{Amount}
+use Rattle.profile.specs.declared.Field.{Field}
 use Rattle.profile.specs.Limits.{mostItems}
 use Rattle.profile.specs.Kinds.{sameKind}
 use Rattle.profile.specs.Tree.{Occ, once, optional, many, more, Shape, end, leaf, group}
@@ -33,7 +34,14 @@ ofOthers optional x = x
 ofOthers many x = 0
 ofOthers more x = 0
 
+-- of a tree, where each value counts as it is given
+abbrev pub countedIn : (Kind → Field → ℕ) → Shape → ℕ
+countedIn own (end n) = 0
+countedIn own (leaf o n k f rest) = ofOthers o (own k f) + countedIn own rest
+countedIn own (group o n inner rest) = ofOthers o (countedIn own inner) + countedIn own rest
+
+abbrev pub anAmount : Kind → Field → ℕ
+anAmount k f = ofAmount k
+
 abbrev pub amountsIn : Shape → ℕ
-amountsIn (end n) = 0
-amountsIn (leaf o n k f rest) = ofOthers o (ofAmount k) + amountsIn rest
-amountsIn (group o n inner rest) = ofOthers o (amountsIn inner) + amountsIn rest
+amountsIn = countedIn anAmount

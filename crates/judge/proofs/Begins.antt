@@ -20,9 +20,9 @@ use Rattle.reading.specs.Trace.{Opened, from, faulty, rooted, opened}
 use Rattle.reading.specs.Noted.{Reading, stop, Ended}
 use Rattle.notes.specs.declared.Notes.{Notes}
 use Rattle.notes.specs.Steps.{Fine}
-use Rattle.reader.specs.Reader.{messageAt}
+use Rattle.reader.specs.Reader.{messageAt, placesAt}
 use Rattle.judge.specs.Verdict.{versionIn, versionOf}
-use Rattle.judge.specs.Engine.{Within, rootOr, throughIn}
+use Rattle.judge.specs.Engine.{Within, rootOr, throughIn, filedIn}
 
 -- how many bytes the root tag has, in every version
 abbrev pub rootLength : ℕ
@@ -103,6 +103,15 @@ module _ (m : List ℕ) where
     through-from v p f x g =
         let h : p ≤ length m = rw (sym f) at w in
         g ∙ rw (← e, ← f, le-leb (length m) mostBytes small, le-leb p (length m) h)
+
+    pub filed-from : (v : Version) (p : ℕ) → from v p ≡ o → (l y : List ℕ) → y ≡ placesAt v m p l → y ≡ filedIn m (opened m) l
+    unfolding placesAt
+    filed-from v p f l y g =
+        let h : p ≤ length m = rw (sym f) at w in
+        g ∙ rw (← e, ← f, le-leb (length m) mostBytes small, le-leb p (length m) h)
+
+    pub filed-faulty : (n q : ℕ) → faulty n q ≡ o → (l : List ℕ) → l ≡ filedIn m (opened m) l
+    filed-faulty n q f l = rw (← e, ← f)
 
     pub through-faulty : (n q : ℕ) → faulty n q ≡ o → (x : Reading (Ended Notes)) → x ≡ stop n q → (x ≡ throughIn m (opened m)) × Fine m 0 x
     through-faulty n q f x g =

@@ -1,4 +1,4 @@
--- What the engine finds is what the list says, on every message.
+-- What the engine finds is what the list says, on every message, but for the rule of 24.
 use mathlib.Core.Path.{_≡_, refl, sym, ap, _∙_}
 use mathlib.Core.Bool.{Bool, true, false}
 use mathlib.Core.List.{List, [], _∷_}
@@ -26,6 +26,7 @@ use Rattle.reading.specs.Rules.{itemsIn, centsIn, valuesOf, firstOf}
 use Rattle.reading.specs.Judged.{whats, listed, onlyOf, placeOf, compared}
 use Rattle.reading.specs.Items.{notesOf}
 use Rattle.reading.proofs.Flat.{never, same-end, noted-then}
+use Rattle.reading.proofs.More.{lenient}
 use Rattle.reading.proofs.Simulates.{Alike, going, stopped, Beside, simulates}
 use Rattle.items.specs.Alone.{firstIn}
 use Rattle.notes.specs.declared.Notes.{Notes}
@@ -36,7 +37,7 @@ use Rattle.judge.specs.declared.Verdict.the-variants.{Accepted, Refused}
 use Rattle.judge.specs.declared.Finding.{Finding}
 use Rattle.judge.specs.Found.{Found, foundAs, denied, foundIn, foundBy, found}
 use Rattle.judge.specs.Survey.{placeFromOne, serviceNumber, placesOf, places, without, surveyedIf, surveyed, surveyBy, survey}
-use Rattle.judge.specs.Engine.{throughIn, comparedIn, finishedIn, concludedIn}
+use Rattle.judge.specs.Engine.{throughIn, comparedIn, finishedIn, concludedIn, foundBut, surveyBut, filedIn, filedOf}
 
 compares : (es : List Entry) (n : Notes) → Summed es n → foundIn (compared es) es ≡ comparedIn n
 unfolding compared comparedIn
@@ -96,75 +97,84 @@ places-are es n r = along-all (n .starts) manyFields 0 (r .long) ∙ go fields
     go (f ∷ l) = rw (r .starts f, go l)
 
 module _ (m : List ℕ) where
-  finishes : (es : List Entry) (n : Notes) (p : ℕ) → Summed es n → foundBy (noted listed (behindAll m p) es) ≡ finishedIn m (record { at = p; notes = n })
+  finishes : (es : List Entry) (n : Notes) (p : ℕ) → Summed es n → foundBy (noted lenient (behindAll m p) es) ≡ finishedIn m (record { at = p; notes = n })
   unfolding behindAll finishedIn
   finishes es n p r = go (ltb (skipped m p) (length m))
     where
-      go : (b : Bool) → foundBy (noted listed (pick b (fault 16 (skipped m p)) (upTo (skipped m p))) es) ≡ pick b (denied 16 (skipped m p)) (comparedIn n)
+      go : (b : Bool) → foundBy (noted lenient (pick b (fault 16 (skipped m p)) (upTo (skipped m p))) es) ≡ pick b (denied 16 (skipped m p)) (comparedIn n)
       go true = refl
       go false = compares es n r
 
   concludes : (x : Reading (Ended (List Entry))) (y : Reading (Ended Notes)) → Alike (Beside Summed) x y
-      → foundBy (onward x (λ r. noted listed (behindAll m (r .at)) (r .notes))) ≡ concludedIn m y
+      → foundBy (onward x (λ r. noted lenient (behindAll m (r .at)) (r .notes))) ≡ concludedIn m y
   concludes x y (going {s = a} {t = b} h) = rw (h .at) (finishes (a .notes) (b .notes) (b .at) (h .notes))
   concludes x y stopped = refl
 
-  inside-found : (o : Opened) → foundBy (noted listed (inside m o) []) ≡ concludedIn m (throughIn m o)
+  inside-found : (o : Opened) → foundBy (noted lenient (inside m o) []) ≡ concludedIn m (throughIn m o)
   inside-found (faulty n q) = refl
   inside-found (from v p) =
-      ap foundBy (noted-then listed (trace (profile v) m p) (behindAll m) [])
-      ∙ concludes (noted listed (trace (profile v) m p) []) (reads (trace (profile v) m p) fresh)
-      (simulates Summed listed inNotes sums (trace (profile v) m p) [] fresh summed-fresh)
+      ap foundBy (noted-then lenient (trace (profile v) m p) (behindAll m) [])
+      ∙ concludes (noted lenient (trace (profile v) m p) []) (reads (trace (profile v) m p) fresh)
+      (simulates Summed lenient inNotes sums (trace (profile v) m p) [] fresh summed-fresh)
 
   -- a message that is too long, and any other
-  pub found-long : ltb mostBytes (length m) ≡ true → denied 1 0 ≡ found m
-  unfolding found message
+  pub found-long : ltb mostBytes (length m) ≡ true → denied 1 0 ≡ foundBut m
+  unfolding foundBut message
   found-long e = rw e
 
-  pub found-in : ltb mostBytes (length m) ≡ false → concludedIn m (throughIn m (opened m)) ≡ found m
-  unfolding found message
+  pub found-in : ltb mostBytes (length m) ≡ false → concludedIn m (throughIn m (opened m)) ≡ foundBut m
+  unfolding foundBut message
   found-in e = rw e (sym (inside-found (opened m)))
 
   -- ---- and what was noted
   finishes-noted : (es : List Entry) (n : Notes) (p : ℕ) → Summed es n
-      → surveyed (foundBy (noted listed (behindAll m p) es)) (n .service) (n .starts) ≡ surveyBy (noted listed (behindAll m p) es)
+      → surveyed (foundBy (noted lenient (behindAll m p) es)) (n .service) (n .starts) ≡ surveyBy (noted lenient (behindAll m p) es)
   unfolding behindAll
   finishes-noted es n p r = rw (service-is es n r, places-are es n r) (go (ltb (skipped m p) (length m)))
     where
       end : Bool → Reading (Ended (List Entry))
-      end b = noted listed (pick b (fault 16 (skipped m p)) (upTo (skipped m p))) es
+      end b = noted lenient (pick b (fault 16 (skipped m p)) (upTo (skipped m p))) es
 
       go : (b : Bool) → surveyed (foundBy (end b)) (serviceNumber (whats es)) (places es) ≡ surveyBy (end b)
       go true = refl
       go false = refl
 
   concludes-noted : (x : Reading (Ended (List Entry))) (y : Reading (Ended Notes)) → Alike (Beside Summed) x y → (s : Ended Notes) → y ≡ on s
-      → surveyed (foundBy (onward x (λ r. noted listed (behindAll m (r .at)) (r .notes)))) (s .notes .service) (s .notes .starts)
-      ≡ surveyBy (onward x (λ r. noted listed (behindAll m (r .at)) (r .notes)))
+      → surveyed (foundBy (onward x (λ r. noted lenient (behindAll m (r .at)) (r .notes)))) (s .notes .service) (s .notes .starts)
+      ≡ surveyBy (onward x (λ r. noted lenient (behindAll m (r .at)) (r .notes)))
   concludes-noted x y (going {s = a} {t = b} h) s e =
       let z : b ≡ s = same-end b s e in
       rw (← z) (finishes-noted (a .notes) (b .notes) (a .at) (h .notes))
   concludes-noted x y stopped s e = never (cc)
 
   inside-noted : (o : Opened) (s : Ended Notes) → throughIn m o ≡ on s
-      → surveyed (foundBy (noted listed (inside m o) [])) (s .notes .service) (s .notes .starts) ≡ surveyBy (noted listed (inside m o) [])
+      → surveyed (foundBy (noted lenient (inside m o) [])) (s .notes .service) (s .notes .starts) ≡ surveyBy (noted lenient (inside m o) [])
   inside-noted (faulty n q) s e = never (cc)
   inside-noted (from v p) s e =
-      rw (noted-then listed (trace (profile v) m p) (behindAll m) [])
-      (concludes-noted (noted listed (trace (profile v) m p) []) (reads (trace (profile v) m p) fresh)
-      (simulates Summed listed inNotes sums (trace (profile v) m p) [] fresh summed-fresh) s e)
+      rw (noted-then lenient (trace (profile v) m p) (behindAll m) [])
+      (concludes-noted (noted lenient (trace (profile v) m p) []) (reads (trace (profile v) m p) fresh)
+      (simulates Summed lenient inNotes sums (trace (profile v) m p) [] fresh summed-fresh) s e)
 
   -- a message that is refused, and one that was read to its end
-  pub noted-none : (n p : ℕ) (f : Found) → f ≡ denied n p → denied n p ≡ found m → without f ≡ survey m
-  unfolding found survey
+  pub noted-none : (n p : ℕ) (f : Found) → f ≡ denied n p → denied n p ≡ foundBut m → without f ≡ surveyBut m
+  unfolding foundBut surveyBut
   noted-none n p f d e = rw (d, ← e)
 
   pub noted-in : ltb mostBytes (length m) ≡ false → (s : Ended Notes) → on s ≡ throughIn m (opened m) → (f : Found) → f ≡ finishedIn m s
-      → surveyed f (s .notes .service) (s .notes .starts) ≡ survey m
-  unfolding found survey message
+      → surveyed f (s .notes .service) (s .notes .starts) ≡ surveyBut m
+  unfolding foundBut surveyBut message
   noted-in e s g f d =
       let h = inside-found (opened m) in
       rw (e, d) (ap (λ (x : Found). surveyed x (s .notes .service) (s .notes .starts)) (ap (concludedIn m) g ∙ sym h) ∙ inside-noted (opened m) s (sym g))
+
+  -- where TxIds begin
+  pub filed-long : ltb mostBytes (length m) ≡ true → (l : List ℕ) → l ≡ filedOf m l
+  unfolding filedOf
+  filed-long e l = rw e
+
+  pub filed-read : ltb mostBytes (length m) ≡ false → (l : List ℕ) → filedIn m (opened m) l ≡ filedOf m l
+  unfolding filedOf
+  filed-read e l = rw e
 
   pub survey-found : survey m .found ≡ found m
   unfolding found survey

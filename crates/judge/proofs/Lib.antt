@@ -1,3 +1,5 @@
+pub mod Ids
+pub mod Index
 pub mod One
 pub mod Judges
 pub mod Begins

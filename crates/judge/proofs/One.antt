@@ -4,11 +4,16 @@ use Rattle.judge.specs.declared.Verdict.{Verdict}
 use Rattle.judge.specs.declared.Verdict.the-variants.{Accepted, Refused}
 use Rattle.judge.specs.declared.Extent.{Extent}
 use Rattle.judge.specs.declared.Extent.the-variants.{Lies, NotThere}
-use Prim.Native.Nat.{ℕ}
+use Prim.Native.Nat.{ℕ, _≤_}
+use lib.ListN.{length}
 use mathlib.Core.List.{List}
 use Rattle.reading.specs.Verdict.{Judged, accepted, refused, Located, lies, notThere}
 use Rattle.judge.specs.declared.Finding.{Finding}
+use Rattle.reading.specs.Judged.{judged}
+use Rattle.twice.specs.Twice.{leastIndex}
 use Rattle.judge.specs.Verdict.{meant, located}
+use Rattle.judge.specs.Index.{judgedWith}
+use Rattle.judge.proofs.Index.{has-room}
 use Rattle.judge.specs.declared.Survey.{Survey}
 use Rattle.judge.specs.Found.{Found, foundAs}
 use Rattle.judge.specs.Survey.{Surveyed, surveyedAs}
@@ -53,3 +58,8 @@ one-survey a b s d e =
     ap (λ (g : Finding). record { finding = g; service = a .service; starts = a .starts }) f
     ∙ ap (λ (k : ℕ). record { finding = b .finding; service = k; starts = a .starts }) n
     ∙ ap (λ (p : List ℕ). record { finding = b .finding; service = b .service; starts = p }) l
+
+-- **The two ways answer the same on every message where 25 is not given**: by the index, and by the plain search.
+pub same-ways : (index m : List ℕ) (v w : Verdict) → leastIndex ≤ length index → meant v ≡ judgedWith index m → meant w ≡ judged m → v ≡ w
+unfolding leastIndex
+same-ways index m v w h e f = one-verdict v w (judged m) (e ∙ sym (has-room index (refused 25 0) (judged m) h)) f

@@ -4,7 +4,9 @@ use mathlib.Core.Bool.{Bool, true, false}
 use mathlib.Core.List.{List, []}
 use Prim.Native.Nat.{ℕ, zero, suc, _-_, _≤_, _<_}
 use native.Mathlib.Omega.{arith}
+use lib.Dec.{ltb}
 use lib.ListN.{length}
+use Rattle.text.specs.Truth.{pick}
 use Rattle.text.proofs.Truths.{never}
 use Rattle.tags.specs.Tags.{skipped}
 use Rattle.profile.specs.declared.Version.{Version}
@@ -19,8 +21,12 @@ use Rattle.items.specs.Chain.{Chained, none, next, Itemized}
 use Rattle.items.proofs.Accepted.{accepted-chained, item-asked, item-past}
 use Rattle.notes.specs.declared.Notes.{Notes}
 use Rattle.reader.specs.Reader.{itemAt}
-use Rattle.judge.specs.Verdict.{versionOf}
-use Rattle.judge.specs.Found.{Found, foundIn, foundBy, found}
+use Rattle.twice.specs.Twice.{leastIndex}
+use Rattle.judge.specs.declared.Verdict.the-variants.{Accepted, Refused}
+use Rattle.judge.specs.declared.Finding.{Finding}
+use Rattle.judge.specs.Verdict.{meant, versionOf}
+use Rattle.judge.specs.Found.{Found, foundAs, denied, foundIn, foundBy, found}
+use Rattle.judge.specs.Index.{orShort, itemWith, foundWith}
 use Rattle.judge.specs.Engine.{behindIn, walkedIn}
 use Rattle.judge.proofs.Alone.{stands-again}
 
@@ -99,3 +105,37 @@ module _ (m : List ℕ) (n c : ℕ) (e : judged m ≡ accepted n c) where
 pub item-refused : (m : List ℕ) (n p i : ℕ) → judged m ≡ refused n p → notThere n p ≡ item i m
 unfolding item
 item-refused m n p i e = rw e
+
+-- ---- with an index: one that is too short is 25; an accepted message had one with room
+module _ (index m : List ℕ) (f : Finding) (e : foundAs f ≡ foundWith index m) where
+  pub refused-with : (n p i : ℕ) → f .verdict ≡ Refused n p → notThere n p ≡ itemWith index i m
+  unfolding orShort
+  refused-with n p i z = go (ltb (length index) leastIndex) e
+    where
+      go : (b : Bool) → foundAs f ≡ pick b (denied 25 0) (found m) → notThere n p ≡ pick b (notThere 25 0) (item i m)
+      go true y =
+          let d : refused n p ≡ refused 25 0 = ap meant (sym z) ∙ ap (λ (x : Found). x .verdict) y in
+          cc
+      go false y = item-refused m n p i (sym (found-verdict m) ∙ (ap (λ (x : Found). x .verdict) (sym y) ∙ ap meant z))
+
+  module _ (n c : ℕ) (z : f .verdict ≡ Accepted n c) where
+    with-room : (foundAs f ≡ found m) × (ltb (length index) leastIndex ≡ false)
+    unfolding orShort
+    with-room = go (ltb (length index) leastIndex) refl e
+      where
+        go : (b : Bool) → ltb (length index) leastIndex ≡ b → foundAs f ≡ pick b (denied 25 0) (found m) → (foundAs f ≡ found m) × (ltb (length index) leastIndex ≡ false)
+        go true x y =
+            let d : accepted n c ≡ refused 25 0 = ap meant (sym z) ∙ ap (λ (x : Found). x .verdict) y in
+            never (cc)
+        go false x y = (y, x)
+
+    pub accepted-with : judged m ≡ accepted n c
+    accepted-with = sym (found-verdict m) ∙ (ap (λ (x : Found). x .verdict) (sym (with-room .0)) ∙ ap meant z)
+
+    pub first-with : f .first ≡ found m .first
+    first-with = ap (λ (x : Found). x .first) (with-room .0)
+
+    -- so whatever is asked is as it is asked without one
+    pub asked-with : {A : Type 0} (a b : A) → b ≡ orShort index a b
+    unfolding orShort
+    asked-with a b = rw (with-room .1)

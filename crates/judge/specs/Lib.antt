@@ -1,4 +1,5 @@
 pub mod Verdict
 pub mod Found
 pub mod Survey
+pub mod Index
 pub mod Engine

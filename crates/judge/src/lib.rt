@@ -15,12 +15,13 @@ ghost use Rattle.profile.specs.Version.{versions};
 ghost use Rattle.profile.specs.Limits.{mostBytes};
 ghost use Rattle.reading.specs.Trace.{rooted, opened};
 ghost use Rattle.reading.specs.Judged.{judged};
-ghost use Rattle.reading.specs.Items.{item as itemOf};
 ghost use Rattle.notes.specs.Steps.{stated, stepped, Fine};
 ghost use Rattle.judge.specs.Verdict.{meant, located, openedAs, versionOf};
-ghost use Rattle.judge.specs.Found.{foundAs, denied, found};
+ghost use Rattle.judge.specs.Found.{foundAs, denied};
 ghost use Rattle.judge.specs.Survey.{surveyedAs, without, surveyed, survey};
-ghost use Rattle.judge.specs.Engine.{Within, rootOr, throughIn, comparedIn, finishedIn, walkedIn};
+ghost use Rattle.judge.specs.Index.{judgedWith, itemWith, foundWith, surveyWith};
+ghost use Rattle.twice.specs.Twice.{cleared};
+ghost use Rattle.judge.specs.Engine.{Within, rootOr, throughIn, comparedIn, finishedIn, walkedIn, surveyBut, filedIn, filedOf, unlessSecond};
 
 pub enum Verdict {
     // The count, and the total in cents.
@@ -54,6 +55,9 @@ pub struct Survey {
     pub service: u64,
     pub starts: [u32; profile::FIELDS],
 }
+
+// How many numbers the list of TxIds' places has: how many there are, and where each begins.
+const PLACES: usize = 10_001;
 
 // Past a version's root tag, which may lie at a place; where it does not, what is given.
 fn root_or(v: Version, m: &[u8], at: usize, other: Opened) -> Opened
@@ -91,13 +95,13 @@ fn open_message(m: &[u8]) -> Opened
     }
 }
 
-// A whole message, read up to the end of its root.
-fn read_through(m: &[u8]) -> Step
+// A whole message, read up to the end of its root; where its TxIds begin is lent back.
+fn read_through(m: &[u8], places: &mut [u32]) -> Step
     requires { ⌜ length (now m) ≤ mostBytes ⌝ }
-    ensures { λ s. ⌜ (stepped s ≡ throughIn (now (m .entry)) (opened (now (m .entry)))) × Fine (now (m .entry)) 0 (stepped s) ⌝ }
+    ensures { λ s. ⌜ (stepped s ≡ throughIn (now (m .entry)) (opened (now (m .entry)))) × Fine (now (m .entry)) 0 (stepped s) × (now (places .exit) ≡ filedIn (now (m .entry)) (opened (now (m .entry))) (now (places .entry))) ⌝ }
 {
     match open_message(m) {
-        Opened::From(v, p) => reader::message(m, p, v),
+        Opened::From(v, p) => reader::message(m, p, v, places),
         Opened::Faulty(number, place) => State::new(0).refuse(number, place),
     }
 }
@@ -188,14 +192,14 @@ fn with_notes(f: Finding, n: Notes) -> Survey
     }
 }
 
-// What a message of any bytes is found to be, and what was noted of it.
-pub fn read(m: &[u8]) -> Survey
-    ensures { λ r. ⌜ surveyedAs r ≡ survey (now (m .entry)) ⌝ }
+// What a message of any bytes is found to be without the rule of 24, and what was noted of it; where its TxIds begin is lent back.
+fn read_but(m: &[u8], places: &mut [u32]) -> Survey
+    ensures { λ r. ⌜ (surveyedAs r ≡ surveyBut (now (m .entry))) × (now (places .exit) ≡ filedOf (now (m .entry)) (now (places .entry))) ⌝ }
 {
     if profile::MOST_BYTES < m.len() {
         return bare(deny(1, 0));
     }
-    let r = read_through(m);
+    let r = read_through(m, places);
     let met = r.met;
     let st = r.state;
     match met {
@@ -207,22 +211,63 @@ pub fn read(m: &[u8]) -> Survey
     }
 }
 
-// What a message of any bytes is found to be.
-pub fn find(m: &[u8]) -> Finding
-    ensures { λ r. ⌜ foundAs r ≡ found (now (m .entry)) ⌝ }
+// 24 where the earliest second TxId begins; a place 0 says that there is none.
+fn unless_second(s: Survey, second: usize) -> Survey
+    ensures { λ r. ⌜ surveyedAs r ≡ unlessSecond second (surveyedAs s) ⌝ }
 {
-    let s = read(m);
+    if second == 0 {
+        return s;
+    }
+    bare(deny(24, second))
+}
+
+// What a message of any bytes is found to be, and what was noted of it; 25 where the index has too few numbers. The index is cleared, whatever it held.
+pub fn read(m: &[u8], index: &mut [u32]) -> Survey
+    ensures { λ r. ⌜ (surveyedAs r ≡ surveyWith (now (index .entry)) (now (m .entry))) × (now (index .exit) ≡ cleared (now (index .entry))) ⌝ }
+{
+    if index.len() < twice::LEAST_INDEX {
+        return bare(deny(25, 0));
+    }
+    let mut places = [0; PLACES];
+    let s = read_but(m, &mut places);
+    unless_second(s, twice::quickly(m, &places[1..], index))
+}
+
+// The same without an index, by the plain search.
+pub fn read_plainly(m: &[u8]) -> Survey
+    ensures { λ r. ⌜ surveyedAs r ≡ survey (now (m .entry)) ⌝ }
+{
+    let mut places = [0; PLACES];
+    let s = read_but(m, &mut places);
+    unless_second(s, twice::plainly(m, &places[1..]))
+}
+
+// What a message of any bytes is found to be.
+pub fn find(m: &[u8], index: &mut [u32]) -> Finding
+    ensures { λ r. ⌜ (foundAs r ≡ foundWith (now (index .entry)) (now (m .entry))) × (now (index .exit) ≡ cleared (now (index .entry))) ⌝ }
+{
+    let s = read(m, index);
     let f = s.finding;
     f
 }
 
 // A message of any bytes: accepted with its count and cents, or its first fault.
-pub fn judge(m: &[u8]) -> Verdict
-    ensures { λ r. ⌜ meant r ≡ judged (now (m .entry)) ⌝ }
+pub fn judge(m: &[u8], index: &mut [u32]) -> Verdict
+    ensures { λ r. ⌜ (meant r ≡ judgedWith (now (index .entry)) (now (m .entry))) × (now (index .exit) ≡ cleared (now (index .entry))) ⌝ }
 {
-    let f = find(m);
+    let f = find(m, index);
     let answer = f.verdict;
     answer
+}
+
+// The same without an index, by the plain search.
+pub fn judge_plainly(m: &[u8]) -> Verdict
+    ensures { λ r. ⌜ meant r ≡ judged (now (m .entry)) ⌝ }
+{
+    let s = read_plainly(m);
+    let f = s.finding;
+    let verdict = f.verdict;
+    verdict
 }
 
 // Where what stands at a place begins, after white space.
@@ -260,10 +305,10 @@ fn walk(v: Version, m: &[u8], i: u64, first: usize) -> Extent
 }
 
 // Where item i lies, counted from 0; the judge's own refusal first, and 18 where it is not there.
-pub fn item(m: &[u8], i: u64) -> Extent
-    ensures { λ r. ⌜ located r ≡ itemOf i (now (m .entry)) ⌝ }
+pub fn item(m: &[u8], i: u64, index: &mut [u32]) -> Extent
+    ensures { λ r. ⌜ (located r ≡ itemWith (now (index .entry)) i (now (m .entry))) × (now (index .exit) ≡ cleared (now (index .entry))) ⌝ }
 {
-    let f = find(m);
+    let f = find(m, index);
     let v = f.verdict;
     let first = f.first;
     match v {

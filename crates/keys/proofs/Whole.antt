@@ -1,6 +1,7 @@
 -- What the code answers, from what the judge noted, is the message's key.
 use mathlib.Core.Path.{_≡_, refl, sym, ap, _∙_}
 use mathlib.Core.Bool.{Bool, true, false}
+use mathlib.Core.Option.{Option, none, some}
 use mathlib.Core.List.{List, [], _∷_}
 use Prim.Native.Nat.{ℕ, suc}
 use lib.ListN.{replicate}
@@ -21,6 +22,7 @@ use Rattle.reading.specs.Rules.{valuesOf, firstOf}
 use Rattle.reading.specs.Judged.{whats, listed, judged}
 use Rattle.reading.specs.Items.{notesOf}
 use Rattle.reading.proofs.Lists.{alike-same}
+use Rattle.reading.proofs.More.{lenient, readOn, idsOf, secondIn, twiceOr, twice-or}
 use Rattle.reading.proofs.Simulates.{Alike, going, stopped, Beside, simulates}
 use Rattle.items.specs.Sure.{sure}
 use Rattle.items.proofs.Places.{accepted-there}
@@ -32,8 +34,11 @@ use Rattle.judge.specs.declared.Verdict.{Verdict}
 use Rattle.judge.specs.declared.Verdict.the-variants.{Accepted, Refused}
 use Rattle.judge.specs.declared.Survey.{Survey}
 use Rattle.judge.specs.Verdict.{meant}
-use Rattle.judge.specs.Found.{Found, foundIn, foundBy, found}
-use Rattle.judge.specs.Survey.{Surveyed, surveyedAs, placeFromOne, serviceNumber, places, surveyedIf, surveyed, survey}
+use Rattle.judge.specs.Index.{surveyWith}
+use Rattle.judge.proofs.Index.{Indexed, short, roomy, indexed, in-short, in-room, survey-verdict, survey-room}
+use Rattle.keys.specs.Indexed.{unkeyed, keyedWith}
+use Rattle.judge.specs.Found.{denied, Found, foundIn, foundBy, found}
+use Rattle.judge.specs.Survey.{without, Surveyed, surveyedAs, placeFromOne, serviceNumber, places, surveyedIf, surveyed, survey}
 use Rattle.judge.proofs.Judges.{survey-found}
 use Rattle.judge.proofs.Walks.{found-verdict}
 use Rattle.keys.specs.declared.Keyed.{Keyed}
@@ -74,18 +79,25 @@ unfolding codeGiven
 served-text [] n h = refl
 served-text (w ∷ l) n h = ap (λ (g : Given). serviceText (placeFromOne g)) (h .1) ∙ code-text w (h .0) (h .1)
 
+-- of a reading
+abbrev Texts : Reading (Ended (List Entry)) → Type 0
+Texts x = serviceText (placeFromOne (codeGiven LclInstrm (serviceOf (whats (notesOf x))))) ≡ serviceOf (whats (notesOf x))
+
 module _ (m : List ℕ) where
   abbrev es : List Entry
   es = notesOf (noted listed (message m) [])
 
   service-text : serviceText (serviceNumber (whats es)) ≡ serviceOf (whats es)
   unfolding serviceNumber codeGiven
-  service-text = go (noted listed (message m) []) (noted inNotes (message m) fresh) (simulates Summed listed inNotes sums (message m) [] fresh summed-fresh)
+  service-text = rw (twice-or (message m)) (either (secondIn [] (idsOf (readOn (message m) []))))
     where
-      go : (x : Reading (Ended (List Entry))) (y : Reading (Ended Notes)) → Alike (Beside Summed) x y
-          → serviceText (placeFromOne (codeGiven LclInstrm (serviceOf (whats (notesOf x))))) ≡ serviceOf (whats (notesOf x))
+      go : (x : Reading (Ended (List Entry))) (y : Reading (Ended Notes)) → Alike (Beside Summed) x y → Texts x
       go x y (going {s = a} {t = b} r) = served-text (valuesOf (Code LclInstrm) (whats (a .notes))) (b .notes .service) (r .notes .service)
       go x y stopped = refl
+
+      either : (o : Option ℕ) → Texts (twiceOr o (noted lenient (message m) []))
+      either none = go (noted lenient (message m) []) (noted inNotes (message m) fresh) (simulates Summed lenient inNotes sums (message m) [] fresh summed-fresh)
+      either (some p) = refl
 
   -- ---- the whole key of an accepted message
   key-is : (n c : ℕ) → judged m ≡ accepted n c → keyFrom m (serviceNumber (whats es)) (places es) ≡ keyOf (whats es)
@@ -119,3 +131,20 @@ module _ (m : List ℕ) where
           let a : s .service ≡ serviceNumber (whats es) = ap (λ (x : Surveyed). x .service) (e ∙ noted-is) in
           let b : s .starts ≡ places es = ap (λ (x : Surveyed). x .places) (e ∙ noted-is) in
           rw (accepted-is, verdict-is, accepted-is) (ap (λ (l : List ℕ). record { verdict = accepted n c; key = l }) (g ∙ rw (a, b) (key-is n c accepted-is)))
+
+-- ---- with an index
+module _ (index m : List ℕ) (s : Survey) (e : surveyedAs s ≡ surveyWith index m) where
+  pub no-key-with : (n p : ℕ) → s .finding .verdict ≡ Refused n p → record { verdict = meant (s .finding .verdict); key = replicate keyLength 32 } ≡ keyedWith index m
+  no-key-with n p f = go (indexed index)
+    where
+      go : Indexed index → record { verdict = meant (s .finding .verdict); key = replicate keyLength 32 } ≡ keyedWith index m
+      go (short h) =
+          let d : meant (s .finding .verdict) ≡ refused 25 0 = survey-verdict index m s e ∙ in-short index (refused 25 0) (survey m .found .verdict) h in
+          ap (λ (j : Judged). record { verdict = j; key = replicate keyLength 32 }) d ∙ sym (in-short index (unkeyed 25 0) (keyed m) h)
+      go (roomy h) = no-key m s (e ∙ in-room index (without (denied 25 0)) (survey m) h) n p f ∙ sym (in-room index (unkeyed 25 0) (keyed m) h)
+
+  pub the-key-with : (n c : ℕ) → s .finding .verdict ≡ Accepted n c → (k : List ℕ) → k ≡ keyFrom m (s .service) (s .starts)
+      → record { verdict = meant (s .finding .verdict); key = k } ≡ keyedWith index m
+  the-key-with n c f k g =
+      let h = survey-room index m s e n c f in
+      the-key m s (e ∙ in-room index (without (denied 25 0)) (survey m) h) n c f k g ∙ sym (in-room index (unkeyed 25 0) (keyed m) h)

@@ -8,7 +8,8 @@ ghost use lib.ListN.{length, getD, replicate};
 ghost use Rattle.tags.specs.Values.{valueAt};
 ghost use Rattle.profile.specs.Fields.{fieldNumber};
 ghost use Rattle.postings.specs.Record.{padded};
-ghost use Rattle.naming.specs.Key.{keyed};
+ghost use Rattle.twice.specs.Twice.{cleared};
+ghost use Rattle.keys.specs.Indexed.{keyedWith};
 ghost use Rattle.keys.specs.Engine.{keyedAs, serviceText, keyFrom};
 
 // How many bytes a key has: service 4, MsgId 35, instructing BIC 11, settlement date 10.
@@ -96,11 +97,11 @@ fn make_key(m: &[u8], service: u64, starts: [u32; profile::FIELDS]) -> [u8; LENG
     key
 }
 
-// What the judge says of a message, and its key.
-pub fn key(m: &[u8]) -> Keyed
-    ensures { λ r. ⌜ keyedAs r ≡ keyed (now (m .entry)) ⌝ }
+// What the judge says of a message, and its key. The index is cleared.
+pub fn key(m: &[u8], index: &mut [u32]) -> Keyed
+    ensures { λ r. ⌜ (keyedAs r ≡ keyedWith (now (index .entry)) (now (m .entry))) × (now (index .exit) ≡ cleared (now (index .entry))) ⌝ }
 {
-    let s = judge::read(m);
+    let s = judge::read(m, index);
     let f = s.finding;
     let verdict = f.verdict;
     match verdict {

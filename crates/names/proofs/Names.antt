@@ -4,6 +4,7 @@ use mathlib.Core.Bool.{Bool, true, false}
 use mathlib.Core.List.{List, [], _++_, append-nil}
 use Prim.Native.Nat.{ℕ}
 use Prim.Native.String.{String}
+use native.Mathlib.Omega.{arith}
 use lib.ListN.{length, drop}
 use Rattle.text.specs.Truth.{both}
 use Rattle.text.specs.Quoted.{bytes, among}
@@ -19,6 +20,7 @@ use Rattle.tags.proofs.Looks.{look-text, exactly-length}
 use Rattle.profile.specs.declared.Kind.{Kind}
 use Rattle.profile.specs.declared.Kind.the-variants.{Plain, Count, Total, Amount, Code}
 use Rattle.profile.specs.declared.Field.{Field}
+use Rattle.profile.specs.declared.Field.the-variants.{TxId}
 use Rattle.profile.specs.declared.Version.{Version}
 use Rattle.profile.specs.declared.Version.the-variants.{V02, V08}
 use Rattle.profile.specs.Profile.{profile}
@@ -35,10 +37,10 @@ use Rattle.reading.proofs.Simulates as sim
 use Rattle.postings.specs.Area.{outcome, recorded}
 use Rattle.replaced.proofs.Beside.{Beside}
 use Rattle.replaced.proofs.Tests.{clear, sameTag, apart, opening, read-beside}
-use Rattle.replaced.proofs.Near.{Near, none, Unlike, Passing, near-items, near-place, near-values, noted-near}
+use Rattle.replaced.proofs.Near.{Near, none, Unlike, Other, Passing, near-items, near-place, near-values, noted-near}
 use Rattle.names.specs.Named.{tagName, named}
 use Rattle.names.proofs.Legal.{isText, legal-tagless, kind-given, unasked}
-use Rattle.names.proofs.Same.{recordedFields, noneOf, near-item, above-alike, near-records}
+use Rattle.names.proofs.Same.{recordedFields, noneOf, none-at, near-item, above-alike, near-records}
 
 -- ---- the tags beside `<Nm>` and `<Ustrd>`: their own elements are texts that no record holds, and every other tag is clear of them
 abbrev fit : text.Field → Kind → Field → Bool
@@ -76,6 +78,12 @@ module _ (f : text.Field) (x v w y : List ℕ) (legal : textGiven f v ≡ yes) (
   unlike : (j : Kind) → sameKind (Plain Text70) j ≡ false → Unlike Fit v w j
   unlike j h k g e = unasked f k (text-kind k g e) j h
 
+  unrecorded : (k : Kind) (g : Field) → Fit k g → noneOf recordedFields g ≡ true
+  unrecorded k g e = both-true (isText f k) (noneOf recordedFields g) e .1
+
+  no-id : Other Fit v w TxId
+  no-id k g e = none-at recordedFields g (unrecorded k g e) 0 (omega arith)
+
   passing : (k : Kind) (g : Field) → Fit k g → Passing (kindGiven k v) × Passing (kindGiven k w)
   passing k g e = let z = kind-given f k (text-kind k g e) in (rw (z v, legal), rw (z w, legal′))
 
@@ -84,7 +92,7 @@ module _ (f : text.Field) (x v w y : List ℕ) (legal : textGiven f v ≡ yes) (
   notes u = noted listed (message (named f x u y)) []
 
   both-noted : sim.Alike (sim.Beside (Near Fit v w)) (notes v) (notes w)
-  both-noted = noted-near Fit v w (unlike (Code code.the-variants.LclInstrm) refl) passing beside [] [] none
+  both-noted = noted-near Fit v w (unlike (Code code.the-variants.LclInstrm) refl) no-id passing beside [] [] none
 
   compared-same : (l l′ : List Entry) → Near Fit v w l l′ → compared l ≡ compared l′
   unfolding compared
@@ -113,9 +121,6 @@ module _ (f : text.Field) (x v w y : List ℕ) (legal : textGiven f v ≡ yes) (
       go : (a b : Reading (Ended (List Entry))) → sim.Alike (sim.Beside (Near Fit v w)) a b → Near Fit v w (notesOf a) (notesOf b)
       go a b (sim.going r) = r .notes
       go a b sim.stopped = none
-
-  unrecorded : (k : Kind) (g : Field) → Fit k g → noneOf recordedFields g ≡ true
-  unrecorded k g e = both-true (isText f k) (noneOf recordedFields g) e .1
 
   -- Every item asked for lies at the same places, or is refused with the same number at the same place.
   pub same-item : (i : ℕ) → item i (named f x v y) ≡ item i (named f x w y)

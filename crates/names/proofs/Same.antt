@@ -31,7 +31,7 @@ abbrev pub noneOf : List Field → Field → Bool
 noneOf [] f = true
 noneOf (g ∷ l) f = both (not (sameField f g)) (noneOf l f)
 
-none-at : (l : List Field) (f : Field) → noneOf l f ≡ true → (i : ℕ) → i < length l → sameField f (getD l i TxId) ≡ false
+pub none-at : (l : List Field) (f : Field) → noneOf l f ≡ true → (i : ℕ) → i < length l → sameField f (getD l i TxId) ≡ false
 none-at [] f e i h = never (omega arith)
 none-at (g ∷ l) f e zero h = not-true (sameField f g) (both-true (not (sameField f g)) (noneOf l f) e .0)
 none-at (g ∷ l) f e (suc i) h = none-at l f (both-true (not (sameField f g)) (noneOf l f) e .1) i (omega arith)

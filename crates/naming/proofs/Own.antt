@@ -30,7 +30,7 @@ use Rattle.documents.specs.Document.{Doc, Proper, Each}
 use Rattle.documents.specs.Said.{said}
 use Rattle.documents.specs.Message.{Message, whole, Lawful}
 use Rattle.documents.specs.Holds.{Passes, Alike, TypeStands, inHeader, inItems, Holds}
-use Rattle.documents.proofs.Often.{fixed, times, even, balance, as-often, anyItem, aField, weight-items, weight-kind, weight-field}
+use Rattle.documents.proofs.Often.{fixed, times, even, balance, as-often, anyItem, aField, aStranger, weight-items, weight-kind, weight-field}
 use Rattle.documents.proofs.Typed.{InType, once-above, once-each}
 use Rattle.documents.proofs.Lists.{lone}
 use Rattle.documents.proofs.Messages.{Documented, message-found}
@@ -41,7 +41,7 @@ use Rattle.items.specs.Chain.{Itemized}
 use Rattle.items.proofs.Parts.{surely}
 use Rattle.items.proofs.Accepted.{accepted-chained}
 use Rattle.padding.proofs.Padded.{padded-one, first-field}
-use Rattle.padding.proofs.Legal.{Written, aStranger, each-legal, each-of, service-fits, aPlain, Fits, plain-fits, aBic, bic-fits}
+use Rattle.padding.proofs.Legal.{Written, each-legal, each-of, service-fits, aPlain, Fits, plain-fits, aBic, bic-fits}
 use Rattle.naming.specs.Key.{keyWith, keyOf, readIn, keyed}
 use Rattle.naming.specs.Own.{Four, keyFor, Names, Named}
 

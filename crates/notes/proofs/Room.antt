@@ -21,7 +21,7 @@ use Rattle.kinds.specs.Given.{kindGiven}
 use Rattle.reading.specs.Trace.{What, itemBegins, itemEnds, there, absent, value, Entry}
 use Rattle.reading.specs.Noted.{Reading, on, stop, onward}
 use Rattle.reading.specs.Rules.{begun}
-use Rattle.items.specs.Sums.{mostSum, ofAmount}
+use Rattle.items.specs.Sums.{mostSum, ofAmount, anAmount}
 use Rattle.items.proofs.Room.{paid}
 use Rattle.notes.specs.declared.Notes.{Notes}
 use Rattle.notes.specs.Notes.{withItem, typeNumber, withType, withCents, withService, withStart}
@@ -105,10 +105,10 @@ value-within k f v p n u few r q =
     omega (arith, d .0, r, few)
 
 -- a sum of amounts, each in its range, and a count of the items
-pub adds : (e : Entry) (n u : Notes) → inNotes e n ≡ on u → (u .sum ≤ n .sum + paid (e .what) * most anItem) × (u .count ≡ n .count + begun (e .what))
+pub adds : (e : Entry) (n u : Notes) → inNotes e n ≡ on u → (u .sum ≤ n .sum + paid anAmount (e .what) * most anItem) × (u .count ≡ n .count + begun (e .what))
 adds e n u q = rw q at (go (e .what))
   where
-    go : (w : What) → Adds n (paid w) (begun w) (whatNoted w (e .place) n)
+    go : (w : What) → Adds n (paid anAmount w) (begun w) (whatNoted w (e .place) n)
     go itemBegins = item-adds n (e .place)
     go itemEnds = nothing n 0 n refl refl
     go (there s) = type-adds n (e .place) true (isType s)

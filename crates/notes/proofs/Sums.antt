@@ -1,4 +1,4 @@
--- The code's notes are the sum of the list: noting an entry in the one and in the other goes alike.
+-- The code's notes are the sum of the list: noting an entry in the one and in the other goes alike, but for the rule of 24, which the notes do not ask.
 use mathlib.Core.Path.{_≡_, refl, sym, ap, subst, _∙_}
 use mathlib.Core.Bool.{Bool, true, false}
 use mathlib.Core.List.{List, [], _∷_, _++_, append-nil}
@@ -32,9 +32,10 @@ use Rattle.kinds.specs.Given.{simpleGiven, kindGiven}
 use Rattle.reading.specs.Trace.{What, itemBegins, itemEnds, there, absent, value, Entry, _at_}
 use Rattle.reading.specs.Noted.{Reading, on, stop, onward}
 use Rattle.reading.specs.Rules.{begun as one, itemsIn, ofKind, valuesOf, ofField, sumOf, centsIn, ofType, typesIn, firstOf, _so_, unlikeFirst, fitting}
-use Rattle.reading.specs.Judged.{whats, orRefused, listed, lastOf, onlyOf, placeIn, placeFrom, placeOf}
+use Rattle.reading.specs.Judged.{whats, orRefused, lastOf, onlyOf, placeIn, placeFrom, placeOf}
 use Rattle.reading.proofs.Lists.{whats-append, items-append, values-append, types-append, sum-append, place-append, last-more, alike-itself, alike-same}
 use Rattle.reading.proofs.Flat.{never}
+use Rattle.reading.proofs.More.{lenient}
 use Rattle.reading.proofs.Simulates.{Alike, going, stopped, Keeps}
 use Rattle.items.specs.Alone.{beginOr, firstIn}
 use Rattle.items.specs.Places.{fieldFrom, fieldPlace}
@@ -189,7 +190,7 @@ first-other [] e h = go (e .what) h
 first-other (x ∷ l) e h = ap (beginOr (x .what) (x .place)) (first-other l e h)
 
 module _ (es : List Entry) (n : Notes) (r : Summed es n) where
-  item-keeps : (p : ℕ) → Alike Summed (listed (itemBegins at p) es) (inNotes (itemBegins at p) n)
+  item-keeps : (p : ℕ) → Alike Summed (lenient (itemBegins at p) es) (inNotes (itemBegins at p) n)
   unfolding itemNoted
   item-keeps p = rw (← r .count) (go (ltb (n .count) mostItems))
     where
@@ -299,7 +300,7 @@ module _ (es : List Entry) (n : Notes) (r : Summed es n) where
             getD-set-other (n .starts) (fieldNumber f) (fieldNumber g) p 0 (λ z. eqb-false (fieldNumber f) (fieldNumber g) e (sym z)) ∙ r .starts g
 
     abbrev Keeping : Kind → Type 0
-    Keeping k = Alike Summed (listed (entry k) es) (inNotes (entry k) n)
+    Keeping k = Alike Summed (lenient (entry k) es) (inNotes (entry k) n)
 
     -- all but what the kind decides stays
     module _ (k : Kind) where
@@ -443,11 +444,11 @@ module _ (es : List Entry) (n : Notes) (r : Summed es n) where
     value-keeps (Code ChrgBr) = plain-keeps (Code ChrgBr) (codeGiven ChrgBr v) (plain-summed (Code ChrgBr) refl refl refl refl)
     value-keeps (Code Prtry) = plain-keeps (Code Prtry) (codeGiven Prtry v) (plain-summed (Code Prtry) refl refl refl refl)
 
-pub sums : Keeps Summed listed inNotes
+pub sums : Keeps Summed lenient inNotes
 unfolding typeNoted
 sums e es n r = go (e .what)
   where
-    go : (w : What) → Alike Summed (listed (w at e .place) es) (inNotes (w at e .place) n)
+    go : (w : What) → Alike Summed (lenient (w at e .place) es) (inNotes (w at e .place) n)
     go itemBegins = item-keeps es n r (e .place)
     go itemEnds = going (ended-keeps es n r (e .place))
     go (there s) = type-keeps es n r s (e .place) true

@@ -45,8 +45,7 @@ use Rattle.reading.specs.Rules.{valuesAt, valuesOf, ownKind}
 use Rattle.reading.proofs.Lists.{alike-same}
 use Rattle.documents.specs.Document.{Each}
 use Rattle.documents.specs.Holds.{Passes}
-use Rattle.documents.proofs.Often.{Weighing, weight}
-use Rattle.documents.proofs.Typed.{values}
+use Rattle.documents.proofs.Often.{weight, aStranger}
 use Rattle.padding.proofs.Padded.{Held}
 
 -- a value that stands in a field of n bytes
@@ -172,10 +171,6 @@ amount-few v h =
     between-true 1 (most Item) (cents v) (p .0) .1
 
 -- ---- by field: the tree gives each of them its kind
--- a value of the field that is of no kind that t allows
-abbrev pub aStranger : Field → (Kind → Bool) → Weighing
-aStranger h t = values (λ k f. pick (sameField f h) (pick (t k) 0 1) 0)
-
 pub each-legal : (h : Field) (t : Kind → Bool) (P : List ℕ → Type 0) → ((k : Kind) (v : List ℕ) → t k ≡ true → Passes (kindGiven k v) → P v)
     → (ws : List What) → weight (aStranger h t) ws ≡ 0 → Each (λ w. Passes (ownKind w)) ws → Each P (valuesAt h ws)
 each-legal h t P g [] e p = tt

@@ -26,7 +26,7 @@ use Rattle.reading.proofs.Lists.{at-append, values-append}
 use Rattle.documents.specs.Document.{Doc, Each, LedBy, Proper}
 use Rattle.documents.specs.Said.{said}
 use Rattle.documents.specs.Holds.{Passes}
-use Rattle.documents.proofs.Often.{Weighing, weight, heavy, weight-append, weight-field, aKind, aField, times, fixed, as-often}
+use Rattle.documents.proofs.Often.{Weighing, weight, heavy, weight-append, weight-field, aKind, aField, aStranger, times, fixed, as-often}
 use Rattle.documents.proofs.Each.{each-both, each-first, each-rest}
 use Rattle.documents.proofs.Standing.{OnceAt, one-at, one-of, item-amounts}
 use Rattle.bulks.specs.Bulk.{DocItem, itemText, front, itemsFrom}
@@ -36,7 +36,7 @@ use Rattle.bulks.proofs.Parts.{itemsSaid, said-parts}
 use Rattle.bulks.proofs.Items.{bulk-holds, items-proper, header-proper, its-judgement, accepted-items, accepted-header}
 use Rattle.bulks.proofs.Typed.{InEach, one-wherever, none-above, no-kind-above}
 use Rattle.padding.specs.Agree.{AcceptedItem, says}
-use Rattle.padding.proofs.Legal.{aStranger, each-legal, each-of, amount-fits}
+use Rattle.padding.proofs.Legal.{each-legal, each-of, amount-fits}
 
 -- what the tree shows: none of these in a header or an item
 abbrev None : Weighing → Shape → Type 0

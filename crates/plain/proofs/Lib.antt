@@ -4,3 +4,4 @@ pub mod Values
 pub mod Pieces
 pub mod Documents
 pub mod Answers
+pub mod Once

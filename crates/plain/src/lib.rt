@@ -11,9 +11,10 @@ ghost use Rattle.tags.specs.Tags.{declaration};
 ghost use Rattle.profile.specs.Limits.{mostBytes};
 ghost use Rattle.money.specs.Amount.{asTwoDigits};
 ghost use Rattle.money.specs.Plain.{plainAmount};
-ghost use Rattle.forms.specs.Written.{Wrote};
+ghost use Rattle.twice.specs.Twice.{cleared};
 ghost use Rattle.plain.specs.Engine.{tagOf, closes, quoted, spelled, spellingBy, pieceIn, pieceOf, pieces, declaredLength, bodyOf};
 ghost use Rattle.plain.specs.Answer.{answered};
+ghost use Rattle.plain.specs.Indexed.{WroteWith};
 
 pub enum Written {
     // How many bytes the plain form has.
@@ -279,11 +280,11 @@ fn put(s: &[u8], area: &mut [u8])
     fill(s, &mut area[tags::DECLARATION..]);
 }
 
-// The plain form of a message: how many bytes of it were written; the judge's refusal; or 17, where the area is too short.
-pub fn write(m: &[u8], area: &mut [u8]) -> Written
-    ensures { λ r. ⌜ Wrote (now (m .entry)) (now (area .entry)) (record { answer = answered r; area = now (area .exit) }) ⌝ }
+// The plain form of a message: how many bytes of it were written; the judge's refusal; or 17, where the area is too short. The index is cleared.
+pub fn write(m: &[u8], area: &mut [u8], index: &mut [u32]) -> Written
+    ensures { λ r. ⌜ WroteWith (now (index .entry)) (now (m .entry)) (now (area .entry)) (record { answer = answered r; area = now (area .exit) }) × (now (index .exit) ≡ cleared (now (index .entry))) ⌝ }
 {
-    let v = judge::judge(m);
+    let v = judge::judge(m, index);
     match v {
         Verdict::Refused(number, place) => Written::Refused(number, place),
         Verdict::Accepted(_, _) => {

@@ -1,3 +1,4 @@
+pub mod Placed
 pub mod Steps
 pub mod Turns
 pub mod Rows

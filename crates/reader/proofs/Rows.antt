@@ -25,8 +25,9 @@ use Rattle.table.proofs.Tied.{Tied}
 use Rattle.notes.specs.declared.Notes.{Notes}
 use Rattle.notes.specs.Notes.{inNotes}
 use Rattle.notes.specs.Steps.{reads}
-use Rattle.reader.specs.Reader.{closedBy, entered, valuedBy, elementIn}
+use Rattle.reader.specs.Reader.{closedBy, entered, valuedBy, elementIn, orElse, placed}
 use Rattle.reader.proofs.Steps.{enter-fits, reads-begins}
+use Rattle.reader.proofs.Placed.{then-placed, begins-placed, ends-placed, priced-placed}
 use Rattle.reader.proofs.Turns.{from, closed-by, Tells, deep, deepIn}
 
 abbrev Found : Type 0
@@ -97,6 +98,54 @@ module _ (v : Version) (k : ℕ) (r : Row) where
     group-reads o a inner rest t =
         body-reads o a (markName (r .mark)) (sym (t .name)) (upTo (p + length (plainTag a))) (trace inner m)
         ∙ rw (t .first, t .width, t .amount, t .occ)
+
+    -- ---- and where the TxIds begin that stand in it
+    module _ (l : List ℕ) where
+      body-placed : (o : Occ) (s a : String) → isType s ≡ isType a → (first : Trace) (then : ℕ → Trace) → ((u : Notes) → placed first u l ≡ l)
+          → placed (begins o s p (andThen (andThen first then) (ends o))) n l ≡ orElse (reads (begins o a p first) n) (λ u. placed (then (u .at)) (u .notes) l) l
+      body-placed o s a e first then h =
+          begins-placed o s a e p (andThen (andThen first then) (ends o)) n l
+          ∙ (alike (reads (begins o a p (upTo p)) n) ∙ ap (λ (x : Found). orElse x (λ u. placed (then (u .at)) (u .notes) l) l) (sym (reads-begins o a a refl p first n)))
+        where
+          alike : (x : Found) → orElse x (λ s. placed (andThen (andThen first then) (ends o)) (s .notes) l) l
+              ≡ orElse (onward x (λ s. reads first (s .notes))) (λ u. placed (then (u .at)) (u .notes) l) l
+          alike (on s) = ends-placed o (andThen first then) (s .notes) l ∙ (then-placed first then (s .notes) l ∙ rw (h (s .notes)))
+          alike (stop i q) = refl
+
+      leaf-placed : (o : Occ) (a : String) (kd : Kind) (f : Field) (rest : Shape) → Tied v k (leaf o a kd f rest) r
+          → placed (leafBody o a kd f m p) n l ≡ orElse In (λ u. placed (valuedBy (closesBy (tags v) r) (kindOf (r .kind)) (fieldOf (r .field)) m (u .at)) (u .notes) l) l
+      leaf-placed o a kd f rest t =
+          body-placed o a (markName (r .mark)) (sym (t .name)) (priced (isAmount kd) m (p + length (startTag (isAmount kd) a))) (valued a kd f m)
+          (λ u. priced-placed m (isAmount kd) (p + length (startTag (isAmount kd) a)) u l)
+          ∙ rw (t .width, t .amount, t .occ) (alike (reads (entered o (markName (r .mark)) (isAmount kd) (length (startTag (isAmount kd) a)) m p) n))
+        where
+          alike : (x : Found) → orElse x (λ u. placed (valued a kd f m (u .at)) (u .notes) l) l
+              ≡ orElse x (λ u. placed (valuedBy (closesBy (tags v) r) (kindOf (r .kind)) (fieldOf (r .field)) m (u .at)) (u .notes) l) l
+          alike (on s) = ap (λ (t : Trace). placed t (s .notes) l) (value-by o a kd f rest t (s .at))
+          alike (stop i q) = refl
+
+      group-placed : (o : Occ) (a : String) (inner rest : Shape) → Tied v k (group o a inner rest) r
+          → placed (groupBody o a (trace inner m) p) n l ≡ orElse In (λ u. placed (trace (due v (k + 1)) m (u .at)) (u .notes) l) l
+      group-placed o a inner rest t =
+          body-placed o a (markName (r .mark)) (sym (t .name)) (upTo (p + length (plainTag a))) (trace inner m) (λ u. refl)
+          ∙ rw (t .first, t .width, t .amount, t .occ)
+
+      pub element-stops-placed : (sh : Shape) → Tied v k sh r → Element sh → (i q : ℕ) → stop i q ≡ In → l ≡ placed (elementIn sh m p) n l
+      element-stops-placed (end a) t x i q c = absurd x
+      element-stops-placed (leaf o a kd f rest) t x i q c = sym (leaf-placed o a kd f rest t ∙ rw (← c))
+      element-stops-placed (group o a inner rest) t x i q c = sym (group-placed o a inner rest t ∙ rw (← c))
+
+      module _ (u : Ended Notes) (c : on u ≡ In) where
+        pub element-group-placed : (sh : Shape) → Tied v k sh r → Element sh → r .kind ≡ 1 → placed (trace (due v (k + 1)) m (u .at)) (u .notes) l ≡ placed (elementIn sh m p) n l
+        element-group-placed (end a) t x z = absurd x
+        element-group-placed (leaf o a kd f rest) t x z = absurd (omega arith)
+        element-group-placed (group o a inner rest) t x z = sym (group-placed o a inner rest t ∙ rw (← c))
+
+        pub element-value-placed : (names : List ℕ) → names ≡ tags v → (sh : Shape) → Tied v k sh r → Element sh → (r .kind ≡ 1 → ⊥)
+            → placed (valuedBy (closesBy names r) (kindOf (r .kind)) (fieldOf (r .field)) m (u .at)) (u .notes) l ≡ placed (elementIn sh m p) n l
+        element-value-placed names lent (end a) t x z = absurd x
+        element-value-placed names lent (leaf o a kd f rest) t x z = rw lent (sym (leaf-placed o a kd f rest t ∙ rw (← c)))
+        element-value-placed names lent (group o a inner rest) t x z = absurd (z (t .kind))
 
     pub element-stops : (sh : Shape) → Tied v k sh r → Element sh → (i q : ℕ) → stop i q ≡ In → stop i q ≡ reads (elementIn sh m p) n
     element-stops (end a) t x i q c = absurd x

@@ -33,7 +33,8 @@ use Rattle.notes.specs.Steps.{stated, metIn, staying, reads, Good, Room, Fine}
 use Rattle.notes.proofs.Notings.{here}
 use Rattle.notes.proofs.Stays.{later, good-at, added-good, value-fine, begun-fine, type-fine}
 use Rattle.notes.proofs.Room.{value-within}
-use Rattle.reader.specs.Reader.{stops, closedBy, entered, valuedBy}
+use Rattle.reader.specs.Reader.{stops, closedBy, entered, valuedBy, filedBy, orElse, placed}
+use Rattle.reader.proofs.Placed.{valued-placed}
 
 abbrev Found : Type 0
 Found = Reading (Ended Notes)
@@ -280,6 +281,10 @@ module _ (m : List ℕ) (p : ℕ) (ns : Notes) (g : Good m (here p ns)) (t : Lis
   abbrev pub Values : Found → Type 0
   Values x = (x ≡ reads (valuedBy t k f m p) ns) × Fine m p x
 
+  -- and of where TxIds begin
+  pub none-placed : p + n ≡ length m → (l : List ℕ) → l ≡ placed (valuedBy t k f m p) ns l
+  none-placed h l = sym (valued-placed m t k f p ns l ∙ rw (← found, h, le-ltb (length m) (length m) (omega arith)))
+
   pub value-none : p + n ≡ length m → (x : Found) → x ≡ stop 3 (p + n) → Values x
   unfolding valuedBy
   value-none h x w =
@@ -300,6 +305,23 @@ module _ (m : List ℕ) (p : ℕ) (ns : Notes) (g : Good m (here p ns)) (t : Lis
     goes-on : (r : Found) → r ≡ staying p Noted → onward r (λ u. reads (closedBy t m (p + n)) (addedUp k (u .notes))) ≡ reads (valuedBy t k f m p) ns
     unfolding valuedBy
     goes-on r w = rw (w, lent-is, ← found, lt-ltb (p + n) (length m) value-there) (sym (added-on (p + n) (valueNoted k f (take n (drop p m)) p ns)))
+
+    noted-placed : (l : List ℕ) (x : Found) → x ≡ staying p Noted → orElse x (λ u. filedBy f p l) l ≡ placed (valuedBy t k f m p) ns l
+    noted-placed l x w =
+        rw w (sym (valued-placed m t k f p ns l ∙ rw (← found, lt-ltb (p + n) (length m) value-there) (ap (λ (v : List ℕ). orElse (valueNoted k f v p ns) (λ u. filedBy f p l) l) (sym lent-here) ∙ at-place Noted)))
+      where
+        lent-here : lent ≡ take n (drop p m)
+        lent-here = lent-is ∙ ap (λ (i : ℕ). take i (drop p m)) (sym found)
+
+        at-place : (x : Reading Notes) → orElse x (λ u. filedBy f p l) l ≡ orElse (staying p x) (λ u. filedBy f p l) l
+        at-place (on u) = refl
+        at-place (stop i q) = refl
+
+    pub stops-placed : (c q : ℕ) → stop c q ≡ staying p Noted → (l : List ℕ) → l ≡ placed (valuedBy t k f m p) ns l
+    stops-placed c q w l = noted-placed l (stop c q) w
+
+    pub value-placed : (s : Ended Notes) → on s ≡ staying p Noted → (l : List ℕ) → filedBy f p l ≡ placed (valuedBy t k f m p) ns l
+    value-placed s w l = noted-placed l (on s) w
 
     pub value-stops : (c q : ℕ) → stop c q ≡ staying p Noted → (x : Found) → x ≡ stop c q → Values x
     value-stops c q w x z = passed-on m p x (stop c q) (reads (valuedBy t k f m p) ns) z (goes-on (stop c q) w) (fine-stop m p (staying p Noted) c q w (value-fine m p ns g k f lent))

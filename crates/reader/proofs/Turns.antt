@@ -24,8 +24,9 @@ use Rattle.table.specs.Table.{occOf, markName, opensBy, width, tags, due, Eleme
 use Rattle.notes.specs.declared.Notes.{Notes}
 use Rattle.notes.specs.Notes.{inNotes}
 use Rattle.notes.specs.Steps.{reads}
-use Rattle.reader.specs.Reader.{closedBy, occIn, nameIn, tagIn, elementIn, restIn}
+use Rattle.reader.specs.Reader.{closedBy, occIn, nameIn, tagIn, elementIn, restIn, orElse, placed}
 use Rattle.reader.proofs.Steps.{reads-missing}
+use Rattle.reader.proofs.Placed.{turn-placed}
 
 abbrev Found : Type 0
 Found = Reading (Ended Notes)
@@ -119,6 +120,40 @@ module _ (m : List ℕ) (v : Version) (k : ℕ) (sh : Shape) (r : Row) (t : Tell
       ap (λ (t : Trace). reads t x) (here m sh (t .element) i seen p)
       ∙ (turn-reads m (pick seen more (occIn sh)) (nameIn sh) (markName (r .mark)) (sym (t .name)) (tagIn sh) (elementIn sh m) (following m (pick seen more (occIn sh)) i sh) (trace (restIn sh) m) p x
       ∙ rw (← is-now, ← t .start, ← e))
+
+  -- and where TxIds begin
+  module _ (l : List ℕ) where
+    abbrev Placed : List ℕ
+    Placed = placed (elementIn sh m q) x l
+
+    turned-placed : (w : Look) → Says w
+        → placed (from m i seen sh p) x l
+        ≡ onLook w (orElse (reads (elementIn sh m q) x) (λ s. placed (following m (occOf occ) i sh (s .at)) (s .notes) Placed) Placed)
+        l (orElse Missed (λ s. placed (trace (restIn sh) m (s .at)) (s .notes) l) l)
+    turned-placed w e =
+        ap (λ (t : Trace). placed t x l) (here m sh (t .element) i seen p)
+        ∙ (turn-placed m (pick seen more (occIn sh)) (nameIn sh) (markName (r .mark)) (sym (t .name)) (tagIn sh) (elementIn sh m) (following m (pick seen more (occIn sh)) i sh) (trace (restIn sh) m) p x l
+        ∙ rw (← is-now, ← t .start, ← e))
+
+    pub cut-placed : Says Cut → placed (from m i seen sh p) x l ≡ l
+    cut-placed e = turned-placed Cut e
+
+    pub missed-placed : Says Other → (n y : ℕ) → stop n y ≡ Missed → placed (from m i seen sh p) x l ≡ l
+    missed-placed e n y c = turned-placed Other e ∙ rw (← c)
+
+    pub passed-placed : Says Other → (u : Ended Notes) → on u ≡ Missed → placed (from m i seen sh p) x l ≡ placed (trace (due v (r .next)) m (u .at)) (u .notes) l
+    passed-placed e u c = turned-placed Other e ∙ rw (← c, t .next)
+
+    module _ (e : Says Whole) where
+      pub failed-placed : (n y : ℕ) → stop n y ≡ reads (elementIn sh m q) x → placed (from m i seen sh p) x l ≡ Placed
+      failed-placed n y c = turned-placed Whole e ∙ rw (← c)
+
+      module _ (s : Ended Notes) (c : on s ≡ reads (elementIn sh m q) x) where
+        pub gone-on-placed : occ < 2 → placed (from m i seen sh p) x l ≡ placed (trace (due v (r .next)) m (s .at)) (s .notes) Placed
+        gone-on-placed h = turned-placed Whole e ∙ rw (← c, t .next, follow-rest m sh i occ h)
+
+        pub repeated-placed : 2 ≤ occ → (j : ℕ) → i ≡ suc j → placed (from m i seen sh p) x l ≡ placed (from m j true sh (s .at)) (s .notes) Placed
+        repeated-placed h j f = turned-placed Whole e ∙ rw (← c, follow-again m sh i occ h, f, here m sh (t .element) j true (s .at))
 
   pub cut : Says Cut → reads (from m i seen sh p) x ≡ stop 3 (length m)
   cut e = turned Cut e

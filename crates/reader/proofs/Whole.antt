@@ -26,7 +26,7 @@ use Rattle.notes.specs.Notes.{fresh}
 use Rattle.notes.specs.Steps.{reads, Good, Fine}
 use Rattle.notes.proofs.Notings.{here}
 use Rattle.notes.proofs.Stays.{later}
-use Rattle.reader.specs.Reader.{elementIn, fits, messageAt, itemAt}
+use Rattle.reader.specs.Reader.{elementIn, placed, fits, messageAt, placesAt, itemAt}
 use Rattle.reader.proofs.Steps.{passed-on, enter-fits}
 
 abbrev Found : Type 0
@@ -51,6 +51,15 @@ module _ (v : Version) (m : List ℕ) (p : ℕ) where
   unfolding messageAt
   message-far h g x e = passed-on m 0 x (stop 1 0) (messageAt v m p) e (rw (far h g)) (omega arith)
 
+  -- and of where TxIds begin
+  pub places-long : mostBytes < length m → (l : List ℕ) → l ≡ placesAt v m p l
+  unfolding placesAt
+  places-long h l = rw (long h)
+
+  pub places-far : length m ≤ mostBytes → length m < p → (l : List ℕ) → l ≡ placesAt v m p l
+  unfolding placesAt
+  places-far h g l = rw (far h g)
+
   pub item-long : mostBytes < length m → (x : Found) → x ≡ stop 1 0 → Told itemAt x
   unfolding itemAt
   item-long h x e = passed-on m 0 x (stop 1 0) (itemAt v m p) e (rw (long h)) (omega arith)
@@ -69,6 +78,10 @@ module _ (v : Version) (m : List ℕ) (p : ℕ) where
     pub message-is : (x : Found) → x ≡ reads (trace (due v 0) m (s .at)) (s .notes) → Fine m (s .at) x → Told messageAt x
     unfolding messageAt
     message-is x w f = (w ∙ rw (near, e, due-first v), later m 0 (s .at) (omega arith) x f)
+
+    pub places-are : (l y : List ℕ) → y ≡ placed (trace (due v 0) m (s .at)) (s .notes) l → y ≡ placesAt v m p l
+    unfolding placesAt
+    places-are l y w = w ∙ rw (near, e, due-first v)
 
     -- ---- an item, whose start tag is due after white space
     module _ (q : Ended Notes) (at : q ≡ here (skipped m (s .at)) (s .notes)) (good : Good m q) (w : Look) (lies : w ≡ look itemTag (drop (q .at) m)) where

@@ -2,6 +2,7 @@
 use notes::Met;
 use notes::State;
 use notes::Step;
+use profile::Field;
 use profile::Kind;
 use profile::Version;
 use table::Row;
@@ -18,7 +19,13 @@ ghost use Rattle.table.specs.Table.{tags, table, manyRows, rowIn, kindOf, field
 ghost use Rattle.items.specs.Sums.{mostSum, ofAmount, amountsIn};
 ghost use Rattle.notes.specs.Notes.{addedUp};
 ghost use Rattle.notes.specs.Steps.{stated, stepped, reads, Good, Room, Fine};
-ghost use Rattle.reader.specs.Reader.{stops, closedBy, entered, valuedBy, elementIn, amountsOf, messageAt, itemAt};
+ghost use Rattle.reader.specs.Reader.{stops, closedBy, entered, valuedBy, elementIn, amountsOf, filedBy, placed, messageAt, placesAt, itemAt};
+
+// The number of the field that a TxId is.
+const TX_ID: usize = 9;
+
+// How many items there are at most.
+const MOST: u32 = 10_000;
 
 // On past white space.
 fn skip(m: &[u8], st: State) -> State
@@ -132,10 +139,31 @@ fn add_up(k: Kind, st: State) -> State
     }
 }
 
+// Where a TxId begins, behind those that were read before it; the first number says how many there are.
+fn file(f: Field, at: u32, places: &mut [u32])
+    ensures { λ _. ⌜ now (places .exit) ≡ filedBy f at (now (places .entry)) ⌝ }
+{
+    if profile::number_of(f) != TX_ID {
+        return;
+    }
+    if places.len() == 0 {
+        return;
+    }
+    let many = places[0];
+    if MOST <= many {
+        return;
+    }
+    let next = many as usize + 1;
+    if next < places.len() {
+        places[0] = many + 1;
+        places[next] = at;
+    }
+}
+
 // The value at the state's place, and its end tag.
-fn value(m: &[u8], names: &[u8], r: Row, st: State) -> Step
+fn value(m: &[u8], names: &[u8], r: Row, st: State, places: &mut [u32]) -> Step
     requires { ⌜ Good (now m) (stated st) × (r .finish ≡ length (closesBy (now names) r)) × Room (ofAmount (kindOf (r .kind))) (st .notes) ⌝ }
-    ensures { λ s. ⌜ (stepped s ≡ reads (valuedBy (closesBy (now (names .entry)) r) (kindOf (r .kind)) (fieldOf (r .field)) (now (m .entry)) (st .at)) (st .notes)) × Fine (now (m .entry)) (st .at) (stepped s) ⌝ }
+    ensures { λ s. ⌜ (stepped s ≡ reads (valuedBy (closesBy (now (names .entry)) r) (kindOf (r .kind)) (fieldOf (r .field)) (now (m .entry)) (st .at)) (st .notes)) × Fine (now (m .entry)) (st .at) (stepped s) × (now (places .exit) ≡ placed (valuedBy (closesBy (now (names .entry)) r) (kindOf (r .kind)) (fieldOf (r .field)) (now (m .entry)) (st .at)) (st .notes) (now (places .entry))) ⌝ }
 {
     let at = st.at as usize;
     let e = at + tags::upto(&m[at..]);
@@ -143,12 +171,16 @@ fn value(m: &[u8], names: &[u8], r: Row, st: State) -> Step
         return st.refuse(3, e);
     }
     let k = table::kind_of(r.kind);
-    let n = notes::note(k, table::field_of(r.field), &m[at..e], st);
+    let f = table::field_of(r.field);
+    let n = notes::note(k, f, &m[at..e], st);
     let met = n.met;
     let s = n.state;
     match met {
         Met::Stopped(number, place) => s.refuse(number, place),
-        Met::On => close(m, names, r, add_up(k, s).at_place(e as u32)),
+        Met::On => {
+            file(f, at as u32, places);
+            close(m, names, r, add_up(k, s).at_place(e as u32))
+        }
     }
 }
 
@@ -178,9 +210,10 @@ fn group(
     first: usize,
     start: State,
     v: Version,
+    places: &mut [u32],
 ) -> Step
     requires { ⌜ Good (now m) (stated start) × (first < manyRows v) × (now names ≡ tags v) × (now rows ≡ table v) × Room (amountsIn (due v first)) (start .notes) ⌝ }
-    ensures { λ s. ⌜ (stepped s ≡ reads (trace (due v first) (now (m .entry)) (start .at)) (start .notes)) × Fine (now (m .entry)) (start .at) (stepped s) ⌝ }
+    ensures { λ s. ⌜ (stepped s ≡ reads (trace (due v first) (now (m .entry)) (start .at)) (start .notes)) × Fine (now (m .entry)) (start .at) (stepped s) × (now (places .exit) ≡ placed (trace (due v first) (now (m .entry)) (start .at)) (start .notes) (now (places .entry))) ⌝ }
 {
     let mut k = first;
     let mut seen = false;
@@ -204,7 +237,7 @@ fn group(
                 k = r.next as usize;
             }
             Look::Whole => {
-                let t = element(m, names, rows, k, st, v);
+                let t = element(m, names, rows, k, st, v, places);
                 if is_stopped(t) {
                     return t;
                 }
@@ -227,9 +260,10 @@ fn element(
     k: usize,
     st: State,
     v: Version,
+    places: &mut [u32],
 ) -> Step
     requires { ⌜ Good (now m) (stated st) × (k < manyRows v) × Element (due v k) × (st .at + width (rowIn (table v) k) ≤ length (now m)) × (now names ≡ tags v) × (now rows ≡ table v) × Room (amountsOf (due v k)) (st .notes) ⌝ }
-    ensures { λ s. ⌜ (stepped s ≡ reads (elementIn (due v k) (now (m .entry)) (st .at)) (st .notes)) × Fine (now (m .entry)) (st .at + 1) (stepped s) ⌝ }
+    ensures { λ s. ⌜ (stepped s ≡ reads (elementIn (due v k) (now (m .entry)) (st .at)) (st .notes)) × Fine (now (m .entry)) (st .at + 1) (stepped s) × (now (places .exit) ≡ placed (elementIn (due v k) (now (m .entry)) (st .at)) (st .notes) (now (places .entry))) ⌝ }
 {
     let r = table::row_at(rows, k);
     let e = enter(m, r, st);
@@ -239,16 +273,16 @@ fn element(
         Met::Stopped(number, place) => s.refuse(number, place),
         Met::On => {
             if r.kind == 1 {
-                return group(m, names, rows, k + 1, s, v);
+                return group(m, names, rows, k + 1, s, v, places);
             }
-            value(m, names, r, s)
+            value(m, names, r, s, places)
         }
     }
 }
 
-// What stands from a place on is read by the whole profile of a version, with nothing noted yet. Rule 1 comes first.
-pub fn message(m: &[u8], at: usize, v: Version) -> Step
-    ensures { λ s. ⌜ (stepped s ≡ messageAt v (now (m .entry)) at) × Fine (now (m .entry)) 0 (stepped s) ⌝ }
+// What stands from a place on is read by the whole profile of a version, with nothing noted yet. Rule 1 comes first. Where TxIds begin is lent back.
+pub fn message(m: &[u8], at: usize, v: Version, places: &mut [u32]) -> Step
+    ensures { λ s. ⌜ (stepped s ≡ messageAt v (now (m .entry)) at) × Fine (now (m .entry)) 0 (stepped s) × (now (places .exit) ≡ placesAt v (now (m .entry)) at (now (places .entry))) ⌝ }
 {
     if profile::MOST_BYTES < m.len() {
         return State::new(0).refuse(1, 0);
@@ -259,7 +293,7 @@ pub fn message(m: &[u8], at: usize, v: Version) -> Step
     let st = State::new(at as u32);
     let names = table::tags_of(v);
     let rows = table::rows_of(v);
-    group(m, &names, &rows, 0, st, v)
+    group(m, &names, &rows, 0, st, v, places)
 }
 
 // The item that stands at a place, after white space, with nothing noted before it.
@@ -275,10 +309,11 @@ pub fn item(m: &[u8], at: usize, v: Version) -> Step
     let st = State::new(at as u32);
     let names = table::tags_of(v);
     let rows = table::rows_of(v);
+    let mut none = [0; 1];
     let q = skip(m, st);
     let k = table::item_row();
     match start_at(m, &names, table::row_at(&rows, k), q.at as usize) {
-        Look::Whole => element(m, &names, &rows, k, q, v),
+        Look::Whole => element(m, &names, &rows, k, q, v, &mut none),
         Look::Cut => q.refuse(3, m.len()),
         Look::Other => q.refuse_here(4),
     }

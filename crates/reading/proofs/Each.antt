@@ -38,15 +38,15 @@ all-then P (met e t) g h k = (h .0, all-then P t g (h .1) k)
 all-then P (upTo p) g h k = k p
 all-then P (fault n q) g h k = tt
 
--- every element may come as often as A says, and one of a value has a kind and a name as B says
-abbrev pub Comes : (Occ → Type 0) → (Kind → String → Type 0) → Shape → Type 0
+-- every element may come as often as A says, and one of a value has a kind, a field and a name as B says
+abbrev pub Comes : (Occ → Type 0) → (Kind → Field → String → Type 0) → Shape → Type 0
 Comes A B (end n) = Unit {0}
-Comes A B (leaf o n k f rest) = A o × B k n × Comes A B rest
+Comes A B (leaf o n k f rest) = A o × B k f n × Comes A B rest
 Comes A B (group o n inner rest) = A o × Comes A B inner × Comes A B rest
 
 -- a value is met behind its start tag, and before a `<`
-module _ (m : List ℕ) (P : Entry → Type 0) (A : Occ → Type 0) (B : Kind → String → Type 0)
-    (a-value : (n : String) (k : Kind) (f : Field) → B k n → (p q : ℕ) → q ≡ p + length (startTag (isAmount k) n) → look (startTag (isAmount k) n) (drop p m) ≡ Whole
+module _ (m : List ℕ) (P : Entry → Type 0) (A : Occ → Type 0) (B : Kind → Field → String → Type 0)
+    (a-value : (n : String) (k : Kind) (f : Field) → B k f n → (p q : ℕ) → q ≡ p + length (startTag (isAmount k) n) → look (startTag (isAmount k) n) (drop p m) ≡ Whole
     → behindValue m q < length m → P (value k f (valueAt m q) at q))
     (a-begin : (o : Occ) → A o → (n : String) (p : ℕ) (t : Trace) → All P t → All P (begins o n p t))
     (an-absent : (n : String) (p : ℕ) → P (absent n at p))
@@ -60,7 +60,7 @@ module _ (m : List ℕ) (P : Entry → Type 0) (A : Occ → Type 0) (B : Kind �
       go Cut = tt
       go Other = tt
 
-  valued-all : (n : String) (k : Kind) (f : Field) → B k n → (p q : ℕ) → q ≡ p + length (startTag (isAmount k) n) → look (startTag (isAmount k) n) (drop p m) ≡ Whole
+  valued-all : (n : String) (k : Kind) (f : Field) → B k f n → (p q : ℕ) → q ≡ p + length (startTag (isAmount k) n) → look (startTag (isAmount k) n) (drop p m) ≡ Whole
       → All P (andThen (priced (isAmount k) m q) (valued n k f m))
   unfolding valued
   valued-all n k f h p q e w = first (isAmount k)

@@ -2,3 +2,4 @@ pub mod Lists
 pub mod Flat
 pub mod Simulates
 pub mod Each
+pub mod More

@@ -3,7 +3,7 @@ use Prim.Native.Nat.{ℕ, suc, _+_}
 use mathlib.Core.Bool.{Bool, true, false, not}
 use mathlib.Core.List.{List, [], _∷_, _++_}
 use lib.Dec.{ltb}
-use Rattle.text.specs.Truth.{pick}
+use Rattle.text.specs.Truth.{either, pick}
 use Rattle.text.specs.Quoted.{alike}
 use Rattle.answers.specs.Given.{Given, yes, worth, refused, Rule, _else_, inOrder}
 use Rattle.codes.specs.declared.Element as code
@@ -11,6 +11,7 @@ use Rattle.money.specs.Amount.{cents}
 use Rattle.profile.specs.declared.Kind.{Kind}
 use Rattle.profile.specs.declared.Kind.the-variants.{Amount, Code}
 use Rattle.profile.specs.declared.Field.{Field}
+use Rattle.profile.specs.declared.Field.the-variants.{TxId}
 use Rattle.profile.specs.Limits.{mostItems}
 use Rattle.profile.specs.Kinds.{sameKind}
 use Rattle.profile.specs.Fields.{sameField}
@@ -84,6 +85,11 @@ abbrev pub firstOf : List ℕ → List (List ℕ) → List ℕ
 firstOf v [] = v
 firstOf v (w ∷ l) = w
 
+-- whether a value stands among some
+abbrev pub standsIn : List ℕ → List (List ℕ) → Bool
+standsIn v [] = false
+standsIn v (w ∷ l) = either (alike w v) (standsIn v l)
+
 -- ---- the rules of what is met, after what was read before
 infix 82 _so_
 abbrev pub _so_ : Bool → Bool → Bool
@@ -112,6 +118,8 @@ rules before (absent n) =
 rules before (value k f v) =
     -- "LclInstrm differs from the first item's"
     (sameKind k (Code code.the-variants.LclInstrm) so alike (firstOf v (valuesOf (Code code.the-variants.LclInstrm) before)) v) else 11
+    -- "two items have equal TxId bytes [..], at the earliest second one": after its 7
+    ∷ (sameField f TxId so not (standsIn v (valuesAt TxId before))) else 24
     ∷ []
 
 -- "Then its kind is judged (7, then 8, then 9; codes 10 [..])"

@@ -17,7 +17,10 @@ use Rattle.reading.specs.Judged.{whats, listed, judged}
 use Rattle.reading.specs.Items.{Item, notesOf, theHeader, theItems}
 use Rattle.reading.proofs.Flat.{never, same-end}
 use Rattle.postings.specs.Record.{recordLength, recordFor}
-use Rattle.postings.specs.Area.{recordsFor, recorded}
+use Rattle.judge.specs.Index.{surveyWith}
+use Rattle.judge.proofs.Index.{Indexed, short as few, roomy, indexed, in-short, in-room, survey-verdict, survey-room}
+use Rattle.records.specs.Indexed.{recordedWith}
+use Rattle.postings.specs.Area.{asLent, recordsFor, recorded}
 use Rattle.postings.proofs.Long.{length-record, length-records}
 use Rattle.items.specs.Chain.{Chained, none, next}
 use Rattle.items.specs.Places.{fieldPlace}
@@ -27,8 +30,8 @@ use Rattle.reader.specs.Reader.{itemAt}
 use Rattle.judge.specs.declared.Verdict.the-variants.{Accepted, Refused}
 use Rattle.judge.specs.declared.Survey.{Survey}
 use Rattle.judge.specs.Verdict.{meant, versionOf}
-use Rattle.judge.specs.Found.{Found, foundBy, found}
-use Rattle.judge.specs.Survey.{Surveyed, surveyedAs, serviceNumber, places, surveyed, survey}
+use Rattle.judge.specs.Found.{denied, Found, foundBy, found}
+use Rattle.judge.specs.Survey.{without, Surveyed, surveyedAs, serviceNumber, places, surveyed, survey}
 use Rattle.judge.proofs.Alone.{stands-again}
 use Rattle.judge.proofs.Judges.{survey-found}
 use Rattle.judge.proofs.Walks.{found-verdict, found-chained, short}
@@ -200,3 +203,27 @@ module _ (m area : List ℕ) where
       pub filled-up : count ≤ length area / recordLength → (a : List ℕ) → a ≡ recordsFor (theHeader m) (theItems m) ++ drop (recordLength * count) area → Answered (accepted count cents) a
       unfolding recorded
       filled-up h a g = rw (accepted-is, le-ltb (length area) (recordLength * count) (omega arith)) (refl, g)
+
+-- ---- with an index
+module _ (index m area : List ℕ) where
+  abbrev pub AnsweredWith : Judged → List ℕ → Type 0
+  AnsweredWith r a = (r ≡ recordedWith index m area .verdict) × (a ≡ recordedWith index m area .area)
+
+  module _ (s : Survey) (e : surveyedAs s ≡ surveyWith index m) where
+    pub refused-with : (n p : ℕ) → s .finding .verdict ≡ Refused n p → AnsweredWith (refused n p) area
+    refused-with n p f = go (indexed index)
+      where
+        go : Indexed index → AnsweredWith (refused n p) area
+        go (few h) =
+            let d : refused n p ≡ refused 25 0 = ap meant (sym f) ∙ (survey-verdict index m s e ∙ in-short index (refused 25 0) (survey m .found .verdict) h) in
+            rw (in-short index (asLent 25 0 area) (recorded m area) h) (d, refl)
+        go (roomy h) =
+            rw (in-room index (asLent 25 0 area) (recorded m area) h) (not-accepted m area s (e ∙ in-room index (without (denied 25 0)) (survey m) h) n p f)
+
+    module _ (n c : ℕ) (f : s .finding .verdict ≡ Accepted n c) where
+      -- an accepted message had one with room
+      pub surveyed-with : surveyedAs s ≡ survey m
+      surveyed-with = e ∙ in-room index (without (denied 25 0)) (survey m) (survey-room index m s e n c f)
+
+      pub answered-with : (r : Judged) (a : List ℕ) → Answered m area r a → AnsweredWith r a
+      answered-with r a h = rw (in-room index (asLent 25 0 area) (recorded m area) (survey-room index m s e n c f)) h

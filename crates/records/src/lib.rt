@@ -12,9 +12,11 @@ ghost use Rattle.text.specs.Truth.{either};
 ghost use Rattle.reading.specs.Items.{theHeader, theItems};
 ghost use Rattle.words.specs.Collapsed.{collapsed};
 ghost use Rattle.postings.specs.Record.{recordLength, padded, digits};
-ghost use Rattle.postings.specs.Area.{recordsFor, recorded};
+ghost use Rattle.postings.specs.Area.{recordsFor};
+ghost use Rattle.twice.specs.Twice.{cleared};
 ghost use Rattle.items.specs.Places.{heldAt};
 ghost use Rattle.judge.specs.Verdict.{meant};
+ghost use Rattle.records.specs.Indexed.{recordedWith};
 ghost use Rattle.records.specs.Engine.{startOf, ownOr, recordOf, laid, Room};
 
 // How many bytes a record has.
@@ -185,11 +187,12 @@ fn fill(m: &[u8], count: usize, first: usize, above: [u32; profile::FIELDS], are
     }
 }
 
-// The verdict on a message; where it is accepted and the area has room, a record for each of its items, in order.
-pub fn records(m: &[u8], area: &mut [u8]) -> Verdict
-    ensures { λ r. ⌜ (meant r ≡ recorded (now (m .entry)) (now (area .entry)) .verdict) × (now (area .exit) ≡ recorded (now (m .entry)) (now (area .entry)) .area) ⌝ }
+// The verdict on a message; where it is accepted and the area has room, a record for each of its items, in order. The index is cleared.
+pub fn records(m: &[u8], area: &mut [u8], index: &mut [u32]) -> Verdict
+    ensures { λ r. ⌜ (meant r ≡ recordedWith (now (index .entry)) (now (m .entry)) (now (area .entry)) .verdict)
+        × (now (area .exit) ≡ recordedWith (now (index .entry)) (now (m .entry)) (now (area .entry)) .area) × (now (index .exit) ≡ cleared (now (index .entry))) ⌝ }
 {
-    let r = judge::read(m);
+    let r = judge::read(m, index);
     let f = r.finding;
     let v = f.verdict;
     let first = f.first;

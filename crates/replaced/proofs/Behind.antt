@@ -63,11 +63,11 @@ module _ (B : Kind → String → Type 0) (m : List ℕ) where
 
   -- every element of a value has a name as B says
   abbrev pub Named : Shape → Type 0
-  Named = Comes (λ o. Unit {0}) B
+  Named = Comes (λ o. Unit {0}) (λ k f n. B k n)
 
   pub trace-placed : (sh : Shape) → Named sh → (p : ℕ) → AllPlaced (trace sh m p)
   trace-placed =
-      trace-all m (λ e. Placed (e .place) (e .what)) (λ o. Unit {0}) B
+      trace-all m (λ e. Placed (e .place) (e .what)) (λ o. Unit {0}) (λ k f n. B k n)
       (λ n k f good p q e w h. record { name = n; good = good; start = p; tag = w; place = e; bytes = refl; ends = h })
       (λ o a. begins-placed o) (λ n p. tt) (λ o a. ends-placed o)
 

@@ -9,11 +9,13 @@ use Rattle.codes.specs.declared.Element as code
 use Rattle.profile.specs.declared.Kind.{Kind}
 use Rattle.profile.specs.declared.Kind.the-variants.{Code}
 use Rattle.profile.specs.declared.Field.{Field}
+use Rattle.profile.specs.declared.Field.the-variants.{TxId}
 use Rattle.profile.specs.Kinds.{sameKind}
+use Rattle.profile.specs.Fields.{sameField}
 use Rattle.kinds.specs.Given.{kindGiven}
 use Rattle.reading.specs.Trace.{What, itemBegins, itemEnds, there, absent, value, Entry, _at_, Trace}
 use Rattle.reading.specs.Noted.{Reading, onward, noted}
-use Rattle.reading.specs.Rules.{begun, itemsIn, ofKind, valuesOf, ofType, typesIn, fitting, weighed}
+use Rattle.reading.specs.Rules.{begun, itemsIn, ofKind, valuesOf, ofField, valuesAt, ofType, typesIn, fitting, weighed}
 use Rattle.reading.specs.Judged.{whats, orRefused, listed, placeIn, placeFrom}
 use Rattle.reading.proofs.Simulates as sim
 use Rattle.reading.proofs.Simulates.{Alike, going, stopped, simulates}
@@ -68,14 +70,23 @@ module _ (Fit : Kind → Field → Type 0) (v w : List ℕ) where
   near-values j u (like e n) = ap (λ (x : List (List ℕ)). ofKind j (e .what) ++ x) (near-values j u n)
   near-values j u (changed {k = k} {f = f} x n) = rw (u k f x) (near-values j u n)
 
-  -- ---- noting
-  module _ (services : Unlike (Code code.the-variants.LclInstrm)) where
+  -- and none of a field
+  abbrev pub Other : Field → Type 0
+  Other g = (k : Kind) (f : Field) → Fit k f → sameField f g ≡ false
+
+  pub near-at : (g : Field) → Other g → {l l′ : List Entry} → Near l l′ → valuesAt g (whats l) ≡ valuesAt g (whats l′)
+  near-at g u none = refl
+  near-at g u (like e n) = ap (λ (x : List (List ℕ)). ofField g (e .what) ++ x) (near-at g u n)
+  near-at g u (changed {k = k} {f = f} x n) = rw (u k f x) (near-at g u n)
+
+  -- ---- noting, where no such value is a LclInstrm or a TxId
+  module _ (services : Unlike (Code code.the-variants.LclInstrm)) (ids : Other TxId) where
     near-weighed : {l l′ : List Entry} → Near l l′ → (x : What) → weighed (whats l) x ≡ weighed (whats l′) x
     near-weighed n itemBegins = rw (near-items n)
     near-weighed n itemEnds = refl
     near-weighed n (there i) = rw (near-types n)
     near-weighed n (absent i) = rw (near-types n)
-    near-weighed n (value k f u) = rw (near-values (Code code.the-variants.LclInstrm) services n)
+    near-weighed n (value k f u) = rw (near-values (Code code.the-variants.LclInstrm) services n, near-at TxId ids n)
 
     or-refused : (g : Given) (p : ℕ) {l l′ : List Entry} → Near l l′ → Alike Near (orRefused g p l) (orRefused g p l′)
     or-refused yes p n = going n
@@ -87,7 +98,7 @@ module _ (Fit : Kind → Field → Type 0) (v w : List ℕ) where
 
     -- such a value passes where its kind does
     pub passing : (k : Kind) (f : Field) → Fit k f → (u : List ℕ) → Passing (kindGiven k u) → (ws : List What) → weighed ws (value k f u) ≡ yes
-    passing k f x u p ws = rw (services k f x) p
+    passing k f x u p ws = rw (services k f x, ids k f x) p
 
     pub noted-near : ((k : Kind) (f : Field) → Fit k f → Passing (kindGiven k v) × Passing (kindGiven k w))
         → {t t′ : Trace} → Beside Fit v w t t′ → (l l′ : List Entry) → Near l l′ → Alike (sim.Beside Near) (noted listed t l) (noted listed t′ l′)

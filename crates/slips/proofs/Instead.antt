@@ -1,7 +1,7 @@
 -- A value of an accepted message with another put in its place, as long: what is read is the same but for it, and how the message is then judged.
 use mathlib.Core.Path.{_≡_, refl, sym, ap, _∙_}
 use mathlib.Core.Logic.{inl, inr}
-use mathlib.Core.Bool.{true}
+use mathlib.Core.Bool.{true, false}
 use mathlib.Core.List.{List, [], _∷_, _++_, append-assoc}
 use Prim.Native.Nat.{ℕ, suc, _+_, _<_}
 use native.Mathlib.Omega.{arith}
@@ -15,6 +15,8 @@ use Rattle.profile.specs.declared.Kind.{Kind}
 use Rattle.profile.specs.declared.Kind.the-variants.{Plain, Total}
 use Rattle.profile.specs.declared.Simple.{Simple}
 use Rattle.profile.specs.declared.Field.{Field}
+use Rattle.profile.specs.declared.Field.the-variants.{TxId}
+use Rattle.profile.specs.Fields.{sameField}
 use Rattle.profile.specs.Profile.{profile}
 use Rattle.kinds.specs.Given.{kindGiven}
 use Rattle.reading.specs.Trace.{What, value, Entry, _at_, message}
@@ -28,7 +30,7 @@ use Rattle.documents.specs.Document.{Each}
 use Rattle.documents.specs.Said.{said}
 use Rattle.documents.specs.Holds.{Passes}
 use Rattle.documents.proofs.Messages.{message-told}
-use Rattle.documents.proofs.Standing.{one-header}
+use Rattle.documents.proofs.Standing.{one-header, isReference, ids-references}
 use Rattle.documents.proofs.Lists.{holds-kept, judged-listed, ReadThrough, accepted-through, decided, listedAll}
 use Rattle.documents.proofs.Exactly.{accepted-exactly}
 use Rattle.replaced.proofs.Beside.{Beside}
@@ -36,7 +38,7 @@ use Rattle.replaced.proofs.Behind.{OfVersion, Placed}
 use Rattle.replaced.proofs.Values.{Fine, Stood, values-placed, tagless, before-long, is-itself, value-there, value-beside}
 use Rattle.slips.specs.Slip.{In, entries, StandsAt, totalPlace}
 use Rattle.slips.proofs.Changed.{all-in, parted, Changed, beside-whole, beside-changed}
-use Rattle.slips.proofs.Lists.{Sound, place-is, with, refused-own, plain-passes}
+use Rattle.slips.proofs.Lists.{Sound, place-is, with, refused-own, no-id, plain-passes}
 use Rattle.slips.proofs.Values.{Fitting}
 
 each-in : (P : What → Type 0) (e : Entry) (l : List Entry) → Each P (whats l) → In e l → P (e .what)
@@ -69,6 +71,7 @@ sound m n c e =
       kept = rw z (h .0);
       compared = rw z (h .1);
       one = rw z (one-header (p .version) (p .message .inside) (p .lawful .inside));
+      ids = rw z (ids-references (p .version) (p .message .inside) (p .lawful .inside));
     }
 
 -- two neighbours exchanged, behind what stands before them
@@ -113,6 +116,12 @@ module _ (m : List ℕ) (n c : ℕ) (a : judged m ≡ accepted n c) (k : Kind) (
 
   pub no-tag : every inValue v ≡ true
   no-tag = tagless m k q v stood
+
+  -- it is no TxId, where it is no reference
+  pub no-tx-id : isReference k ≡ false → sameField (s .field) TxId ≡ false
+  no-tx-id e =
+      let r = parted (entry v) (flat (message m)) in-flat in
+      no-id k (s .field) q v v (r .front) (r .back) n c (rw (r .is) at (sound m n c a)) e
 
   -- it passes
   pub passed : Passes (kindGiven k v)
@@ -196,9 +205,9 @@ module _ (m : List ℕ) (n c : ℕ) (a : judged m ≡ accepted n c) (k : Kind) (
         ∙ exchanged-there (take q m ++ take i v) (drop (suc (suc i)) v ++ drop (q + length v) m) (byteAt v i) (byteAt v (suc i)) (q + i) (before-all i fore)
         ∙ simp append-assoc
 
--- A plain value that passes in the place of another: the message is accepted, with the same count and total.
+-- A plain value that passes in the place of another, and is no TxId: the message is accepted, with the same count and total.
 pub value-accepted : (m : List ℕ) (n c : ℕ) (a : judged m ≡ accepted n c) (j : Simple) (q : ℕ) (v : List ℕ) (s : StandsAt m (Plain j) q v) (w : List ℕ) → Fitting v w
-    → Passes (kindGiven (Plain j) w) → judged (take q m ++ (w ++ drop (q + length v) m)) ≡ accepted n c
-value-accepted m n c a j q v s w l g =
+    → sameField (s .field) TxId ≡ false → Passes (kindGiven (Plain j) w) → judged (take q m ++ (w ++ drop (q + length v) m)) ≡ accepted n c
+value-accepted m n c a j q v s w l id g =
     let x = swapped m n c a (Plain j) q v s w l in
-    x .is ∙ plain-passes j (s .field) q v w (x .front) (x .back) n c (x .sound) g
+    x .is ∙ plain-passes j (s .field) q v w (x .front) (x .back) n c (x .sound) id g

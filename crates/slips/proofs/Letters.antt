@@ -20,6 +20,8 @@ use Rattle.accounts.specs.Letters.{DigitAndLetter, excepted, LetterRefused}
 use Rattle.accounts.proofs.Letters.{iban-letter-replaced-at, iban-letters-exchanged-at, iban-digit-letter-exchanged-at, iban-digit-letter-early-at, iban-excepted-at}
 use Rattle.tags.specs.Values.{inValue}
 use Rattle.profile.specs.declared.Kind.the-variants.{Plain}
+use Rattle.profile.specs.declared.Field.the-variants.{TxId}
+use Rattle.profile.specs.Fields.{sameField}
 use Rattle.profile.specs.declared.Simple.{Simple}
 use Rattle.profile.specs.declared.Simple.the-variants.{Iban}
 use Rattle.kinds.specs.Given.{simpleGiven}
@@ -29,9 +31,9 @@ use Rattle.documents.specs.Holds.{Passes}
 use Rattle.replaced.proofs.Beside.{Solid}
 use Rattle.slips.specs.Slip.{StandsAt}
 use Rattle.slips.proofs.Values.{iban-yes, iban-solid, Shown, digit-shown, capital-shown, Begun, Fitting, fitting-replaced, fitting-exchanged}
-use Rattle.slips.proofs.Instead.{no-tag, passed, value-refused, value-accepted, same-byte, replaced-here, pair, left-byte, right-byte, exchanged-here}
+use Rattle.slips.proofs.Instead.{no-tag, no-tx-id, passed, value-refused, value-accepted, same-byte, replaced-here, pair, left-byte, right-byte, exchanged-here}
 
--- ---- a plain value that begins with no white space, as an IBAN and an identifier do
+-- ---- a plain value that begins with no white space, as an IBAN and an identifier do. (It is still accepted where it is no TxId: and it is none where it is no reference, by `no-tx-id`.)
 module _ (m : List ℕ) (n c : ℕ) (a : judged m ≡ accepted n c) (j : Simple) (q : ℕ) (v : List ℕ) (s : StandsAt m (Plain j) q v) (solid : Solid v) where
   -- one of its bytes replaced by a letter or a digit
   module _ (i : ℕ) (in-it : i < length v) (x : ℕ) (hx : Shown x) (ne : byteAt v i ≢ x) where
@@ -49,10 +51,10 @@ module _ (m : List ℕ) (n c : ℕ) (a : judged m ≡ accepted n c) (j : Simple)
         ap judged (replaced-here m n c a (Plain j) q v s i in-it x)
         ∙ value-refused m n c a (Plain j) q v s one one-fits k (ap (simpleGiven j) (sym (set-split v i x in-it)) ∙ e)
 
-    pub replaced-accepted : simpleGiven j (set v i x) ≡ yes → judged (set m (q + i) x) ≡ accepted n c
-    replaced-accepted e =
+    pub replaced-accepted : sameField (s .field) TxId ≡ false → simpleGiven j (set v i x) ≡ yes → judged (set m (q + i) x) ≡ accepted n c
+    replaced-accepted id e =
         ap judged (replaced-here m n c a (Plain j) q v s i in-it x)
-        ∙ value-accepted m n c a j q v s one one-fits (rw (← set-split v i x in-it, e) tt)
+        ∙ value-accepted m n c a j q v s one one-fits id (rw (← set-split v i x in-it, e) tt)
 
   -- two unequal neighbours exchanged
   module _ (i : ℕ) (in-it : suc i < length v) (begun : Begun i (byteAt v (suc i))) (ne : byteAt v i ≢ byteAt v (suc i)) where
@@ -73,9 +75,9 @@ module _ (m : List ℕ) (n c : ℕ) (a : judged m ≡ accepted n c) (j : Simple)
     exchanged-refused k e =
         ap judged (exchanged-here m n c a (Plain j) q v s i in-it) ∙ value-refused m n c a (Plain j) q v s two two-fits k (ap (simpleGiven j) two-is ∙ e)
 
-    pub exchanged-accepted : simpleGiven j (exchangedAt v i) ≡ yes → judged (exchangedAt m (q + i)) ≡ accepted n c
-    exchanged-accepted e =
-        ap judged (exchanged-here m n c a (Plain j) q v s i in-it) ∙ value-accepted m n c a j q v s two two-fits (rw (two-is, e) tt)
+    pub exchanged-accepted : sameField (s .field) TxId ≡ false → simpleGiven j (exchangedAt v i) ≡ yes → judged (exchangedAt m (q + i)) ≡ accepted n c
+    exchanged-accepted id e =
+        ap judged (exchanged-here m n c a (Plain j) q v s i in-it) ∙ value-accepted m n c a j q v s two two-fits id (rw (two-is, e) tt)
 
 -- ---- "For an accepted IBAN", in a message
 with-each : {R S : ℕ → Type 0} (i : ℕ) → ((k : ℕ) → R k → S k) → LetterRefused R i → LetterRefused S i
@@ -158,4 +160,4 @@ module _ (m : List ℕ) (n c : ℕ) (a : judged m ≡ accepted n c) (q : ℕ) (v
       pub excepted-accepted : 4 ≤ i → excepted (byteAt m (q + i)) (byteAt m (suc (q + i))) ≡ true → judged (exchangedAt m (q + i)) ≡ accepted n c
       unfolding simpleGiven
       excepted-accepted g e =
-          exchanged-accepted m n c a Iban q v s (iban-solid v checked) i in-it begun apart (iban-excepted-at v i in-it both-there g (rw (left, right) at e) it-is)
+          exchanged-accepted m n c a Iban q v s (iban-solid v checked) i in-it begun apart (no-tx-id m n c a (Plain Iban) q v s refl) (iban-excepted-at v i in-it both-there g (rw (left, right) at e) it-is)

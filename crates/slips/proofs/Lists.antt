@@ -1,7 +1,7 @@
 -- A list of what was read that is noted through and accepted, and the same list with a slip in one value: how the other is refused.
 use mathlib.Core.Path.{_≡_, refl, sym, ap, _∙_}
 use mathlib.Core.Logic.{_≢_, _⊎_, inl, inr}
-use mathlib.Core.Bool.{true, false}
+use mathlib.Core.Bool.{Bool, true, false}
 use mathlib.Core.List.{List, [], _∷_, _++_}
 use Prim.Native.Nat.{ℕ, _+_}
 use native.Mathlib.Omega.{arith}
@@ -17,7 +17,9 @@ use Rattle.profile.specs.declared.Kind.{Kind}
 use Rattle.profile.specs.declared.Kind.the-variants.{Plain, Count, Total, Amount, Code}
 use Rattle.profile.specs.declared.Simple.{Simple}
 use Rattle.profile.specs.declared.Field.{Field}
+use Rattle.profile.specs.declared.Field.the-variants.{TxId}
 use Rattle.profile.specs.Kinds.{sameKind}
+use Rattle.profile.specs.Fields.{sameField}
 use Rattle.kinds.specs.Given.{kindGiven}
 use Rattle.reading.specs.Trace.{value, Entry, _at_}
 use Rattle.reading.specs.Rules.{itemsIn, ofKind, valuesOf, sumOf, centsIn, ownKind}
@@ -29,8 +31,10 @@ use Rattle.documents.specs.Document.{Each}
 use Rattle.documents.specs.Holds.{Passes}
 use Rattle.documents.specs.Standing.{OneHeader}
 use Rattle.documents.proofs.Each.{each-both, each-first, each-rest}
+use Rattle.documents.proofs.Often.{weight, weight-append}
+use Rattle.documents.proofs.Standing.{isReference, strayIds}
 use Rattle.documents.proofs.Lists.{Kept, kept-first, kept-listed, listed-stops, listedAll, Compared, is-compared, decided}
-use Rattle.replaced.proofs.Near.{Near, changed, Unlike, near-append, near-itself, near-items, near-types, near-place, near-values}
+use Rattle.replaced.proofs.Near.{Near, changed, Unlike, near-append, near-itself, near-items, near-types, near-place, near-values, near-at}
 use Rattle.slips.specs.Slip.{Slip, Refused}
 use Rattle.slips.proofs.Values.{plain-slip, count-slip, amount-slip, unwatched}
 
@@ -62,6 +66,7 @@ pub record Sound (l : List Entry) (n c : ℕ) : Type 0 where
   pub kept : Kept (whats l)
   pub compared : Compared (whats l) n c
   pub one : OneHeader (whats l)
+  pub ids : weight strayIds (whats l) ≡ 0
 
 module _ (k : Kind) (f : Field) (q : ℕ) (v w : List ℕ) (xs ys : List Entry) (n c : ℕ) where
   -- the list with a value u there
@@ -75,13 +80,13 @@ module _ (k : Kind) (f : Field) (q : ℕ) (v w : List ℕ) (xs ys : List Entry) 
   values-with j u = ap (valuesOf j) (whats-with u) ∙ values-append j (whats xs) (value k f u ∷ whats ys)
 
   abbrev This : Kind → Field → Type 0
-  This j g = j ≡ k
+  This j g = (j ≡ k) × (g ≡ f)
 
   near : Near This v w (with v) (with w)
-  near = near-append This v w (near-itself This v w xs) (changed refl (near-itself This v w ys))
+  near = near-append This v w (near-itself This v w xs) (changed (refl, refl) (near-itself This v w ys))
 
   unlike : (j : Kind) → sameKind k j ≡ false → Unlike This v w j
-  unlike j h i g e = rw e h
+  unlike j h i g e = rw (e .0) h
 
   -- the only value of its kind
   module _ (j : Kind) (is : sameKind k j ≡ true) (once : length (valuesOf j (whats (with v))) ≡ 1) where
@@ -106,8 +111,17 @@ module _ (k : Kind) (f : Field) (q : ℕ) (v w : List ℕ) (xs ys : List Entry) 
     refused-own i e =
         ap decided (listed-stops xs (value k f w at q) ys i (kept-first (whats xs) (value k f v ∷ whats ys) (rw (whats-with v) at (s .kept))) (rw e))
 
-    -- it passes, and the others do too
-    module _ (fits : Passes (kindGiven k w)) (service : sameKind k (Code LclInstrm) ≡ false) where
+    -- only a reference is a TxId
+    pub no-id : isReference k ≡ false → sameField f TxId ≡ false
+    no-id e = go (sameField f TxId) (isReference k) e (omega (arith, ap (weight strayIds) (sym (whats-with v)) ∙ s .ids, weight-append strayIds (whats xs) (value k f v ∷ whats ys)))
+      where
+        go : (a b : Bool) → b ≡ false → _≡_ {A = ℕ} (pick a (pick b 0 1) 0) 0 → a ≡ false
+        go false b e h = refl
+        go true true e h = never (cc)
+        go true false e h = never (omega (arith, h))
+
+    -- it passes, and the others do too, where it is no LclInstrm and no TxId
+    module _ (fits : Passes (kindGiven k w)) (service : sameKind k (Code LclInstrm) ≡ false) (id : sameField f TxId ≡ false) where
       kinds-too : Each (λ x. Passes (ownKind x)) (whats (with w))
       kinds-too =
           rw (whats-with w)
@@ -123,6 +137,7 @@ module _ (k : Kind) (f : Field) (q : ℕ) (v w : List ℕ) (xs ys : List Entry) 
             kinds = kinds-too;
             typed = rw (near-types This v w near) at (s .kept .typed);
             alike = rw (near-values This v w (Code LclInstrm) (unlike (Code LclInstrm) service) near) at (s .kept .alike);
+            apart = rw (near-at This v w TxId (λ i g e. rw (e .1) id) near) at (s .kept .apart);
             few = omega (arith, near-items This v w near, s .kept .few);
           }
 
@@ -136,16 +151,16 @@ module _ (k : Kind) (f : Field) (q : ℕ) (v w : List ℕ) (xs ys : List Entry) 
       count-right : sameKind k Count ≡ false → decimal (onlyOf Count (with w)) ≡ itemsIn (whats (with w))
       count-right h = ap decimal (same-only Count h) ∙ s .compared .count ∙ sym items-too
 
--- A plain value that passes in the place of another: the list is accepted as it was.
+-- A plain value that passes in the place of another, and is no TxId: the list is accepted as it was.
 pub plain-passes : (j : Simple) (f : Field) (q : ℕ) (v w : List ℕ) (xs ys : List Entry) (n c : ℕ) → Sound (with (Plain j) f q v w xs ys n c v) n c
-    → Passes (kindGiven (Plain j) w) → decided (listedAll (with (Plain j) f q v w xs ys n c w) []) ≡ accepted n c
-plain-passes j f q v w xs ys n c s fits =
-    let only = same-only (Plain j) f q v w xs ys n c s fits refl in
+    → sameField f TxId ≡ false → Passes (kindGiven (Plain j) w) → decided (listedAll (with (Plain j) f q v w xs ys n c w) []) ≡ accepted n c
+plain-passes j f q v w xs ys n c s id fits =
+    let only = same-only (Plain j) f q v w xs ys n c s fits refl id in
     let sums = ap sumOf (near-values (This (Plain j) f q v w xs ys n c) v w Amount (unlike (Plain j) f q v w xs ys n c Amount refl) (near (Plain j) f q v w xs ys n c)) in
-    goes-on (Plain j) f q v w xs ys n c s fits refl
+    goes-on (Plain j) f q v w xs ys n c s fits refl id
     ∙ is-compared (with (Plain j) f q v w xs ys n c w) n c
     (record {
-      items = items-too (Plain j) f q v w xs ys n c s fits refl;
+      items = items-too (Plain j) f q v w xs ys n c s fits refl id;
       count = ap decimal (only Count refl) ∙ s .compared .count;
       sum = sym sums ∙ s .compared .sum;
       total = ap cents (only Total refl) ∙ s .compared .total;
@@ -158,9 +173,9 @@ slip-told (Plain j) f q v w xs ys n c s l = refused-own (Plain j) f q v w xs ys 
 slip-told Count f q v w xs ys n c s l =
     let r = count-slip v w l (passed Count f q v w xs ys n c s) in
     let only = only-is Count f q v w xs ys n c Count refl (s .one .count) in
-    goes-on Count f q v w xs ys n c s (r .0) refl
+    goes-on Count f q v w xs ys n c s (r .0) refl (no-id Count f q v w xs ys n c s refl)
     ∙ count-told (with Count f q v w xs ys n c w)
-    (λ e. r .1 (ap decimal (sym (only v)) ∙ s .compared .count ∙ sym (items-too Count f q v w xs ys n c s (r .0) refl) ∙ sym e ∙ ap decimal (only w)))
+    (λ e. r .1 (ap decimal (sym (only v)) ∙ s .compared .count ∙ sym (items-too Count f q v w xs ys n c s (r .0) refl (no-id Count f q v w xs ys n c s refl)) ∙ sym e ∙ ap decimal (only w)))
     ∙ ap (refused 14) (place-is Count f q v w xs ys n c Count refl (s .one .count))
 slip-told Total f q v w xs ys n c s l = go (r .0)
   where
@@ -173,8 +188,8 @@ slip-told Total f q v w xs ys n c s l = go (r .0)
         let only = only-is Total f q v w xs ys n c Total refl (s .one .total) in
         let sums = ap sumOf (near-values (This Total f q v w xs ys n c) v w Amount (unlike Total f q v w xs ys n c Amount refl) (near Total f q v w xs ys n c)) in
         inr (
-        goes-on Total f q v w xs ys n c s fits refl
-        ∙ total-told (with Total f q v w xs ys n c w) (count-right Total f q v w xs ys n c s fits refl refl)
+        goes-on Total f q v w xs ys n c s fits refl (no-id Total f q v w xs ys n c s refl)
+        ∙ total-told (with Total f q v w xs ys n c w) (count-right Total f q v w xs ys n c s fits refl (no-id Total f q v w xs ys n c s refl) refl)
         (λ e. r .1 (ap cents (sym (only v)) ∙ s .compared .total ∙ sym (s .compared .sum) ∙ sums ∙ sym e ∙ ap cents (only w)))
         ∙ ap (refused 15) (place-is Total f q v w xs ys n c Total refl (s .one .total)))
 slip-told Amount f q v w xs ys n c s l = go (r .0)
@@ -190,8 +205,8 @@ slip-told Amount f q v w xs ys n c s l = go (r .0)
     go (inl e) = inl (refused-own Amount f q v w xs ys n c s 9 e)
     go (inr fits) =
         inr (
-        goes-on Amount f q v w xs ys n c s fits refl
-        ∙ total-told (with Amount f q v w xs ys n c w) (count-right Amount f q v w xs ys n c s fits refl refl)
-        (λ e. r .1 (omega (arith, e, ap cents (same-only Amount f q v w xs ys n c s fits refl Total refl), s .compared .total, s .compared .sum, sum-with v, sum-with w)))
+        goes-on Amount f q v w xs ys n c s fits refl (no-id Amount f q v w xs ys n c s refl)
+        ∙ total-told (with Amount f q v w xs ys n c w) (count-right Amount f q v w xs ys n c s fits refl (no-id Amount f q v w xs ys n c s refl) refl)
+        (λ e. r .1 (omega (arith, e, ap cents (same-only Amount f q v w xs ys n c s fits refl (no-id Amount f q v w xs ys n c s refl) Total refl), s .compared .total, s .compared .sum, sum-with v, sum-with w)))
         ∙ ap (refused 15) (sym (near-place (This Amount f q v w xs ys n c) v w Total 0 (near Amount f q v w xs ys n c))))
 slip-told (Code e) f q v w xs ys n c s l = unwatched (λ x h. h) l

@@ -73,7 +73,8 @@ fn answer(input: &[u8]) -> bool {
     if 65_536 < input.len() {
         return print(b"too long\n");
     }
-    print_verdict(judge::judge(input))
+    let mut index = [0; twice::LEAST_INDEX];
+    print_verdict(judge::judge(input, &mut index))
 }
 
 // What went wrong, on standard error.

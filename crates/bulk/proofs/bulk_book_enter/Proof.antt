@@ -9,14 +9,16 @@ use Rattle.daybook.proofs.Walk.{join, keep, later, let-go, move, pick, qed, raw
 use Rattle.daybook.proofs.Walk.{forget, from, hop, init, land, load, look, no-more, of-opd, params1, pass0, pass1, returns, stop, unit-lit}
 use denote.Struct.Laws as LL
 use denote.Array.{Array, array-makes, array-typed}
-use denote.Builtin.{u8, u64}
-use mir.Syntax.{tyArray, w8}
+use denote.Builtin.{u8, u32, u64}
+use mir.Syntax.{tyArray, w8, w32}
+use types.Kit.{use3}
 use Rattle.book.specs.declared.Entry.{Entry}
 use Rattle.daybook.proofs.Frames.{Slots, allocs-all, frees-all}
 use Rattle.daybook.proofs.Calls.{calls-plain}
 use denote.Ref.{MutRef, ptr-vals, mut-tells}
 use denote.Triple.Walked.{gave-ref, goes-gave-ref}
-use Rattle.naming.specs.Key.{keyed}
+use Rattle.twice.specs.Twice.{cleared}
+use Rattle.keys.specs.Indexed.{keyedWith}
 use Rattle.book.specs.declared.Call.{Call}
 use Rattle.book.specs.declared.Answer.{Answer}
 use Rattle.book.specs.Calls as Asked
@@ -56,11 +58,21 @@ abbrev wty : Ty
 wty = tyArray (tyInt w64) 3
 
 abbrev stayed : Stays (f.ended .signature .params) (f.ended .kept)
-stayed = (gave-slice (0 ∷ []) tt (plain (λ _. R)), (stay-none (λ _. usize) yes, (stay-none-slice (0 ∷ []) tt (plain (λ _. u8)) yes, (gave-ref (0 ∷ []) tt (plain (λ _. AW)), tt))))
+stayed = (
+  gave-slice (0 ∷ []) tt (plain (λ _. R)),
+  (
+    stay-none (λ _. usize) yes,
+    (
+      stay-none-slice (0 ∷ []) tt (plain (λ _. u8)) yes,
+      (gave-slice (0 ∷ []) tt (plain (λ _. u32)), (gave-ref (0 ∷ []) tt (plain (λ _. AW)), tt)),
+    ),
+  ),
+)
 
 abbrev slots : Slots
 slots = (tyUnit, valueLocal) ∷ (sliceTy (tyRef (named 0) mut (pointee (R .written))), valueLocal) ∷ (word, valueLocal) ∷ (sliceTy (tyRef (named 0) imm (tyInt w8)), valueLocal)
-    ∷ (tyRef (named 0) mut wty, valueLocal) ∷ (L′.mir, valueLocal) ∷ (N′.mir, valueLocal) ∷ (tyRef erased mut (pointee (R .written)), valueLocal)
+    ∷ (sliceTy (tyRef (named 0) mut (tyInt w32)), valueLocal) ∷ (tyRef (named 0) mut wty, valueLocal) ∷ (L′.mir, valueLocal) ∷ (N′.mir, valueLocal)
+    ∷ (tyRef erased mut (tyInt w32), valueLocal) ∷ (sliceTy (tyRef erased mut (tyInt w32)), valueLocal) ∷ (tyRef erased mut (pointee (R .written)), valueLocal)
     ∷ (sliceTy (tyRef erased mut (pointee (R .written))), valueLocal) ∷ (tyUnit, valueLocal) ∷ (tyRef erased mut wty, valueLocal) ∷ []
 
 module _ {M : Type 1} (𝓤 : URA M) (H : Heap 𝓤) (A : Atoms 𝓤) (mem : Memory → SProp 𝓤) (run : Routine → Fun 𝓤) where
@@ -80,8 +92,8 @@ module _ {M : Type 1} (𝓤 : URA M) (H : Heap 𝓤) (A : Atoms 𝓤) (mem : Mem
     pub to-te : Triple 𝓤 (𝓣 .C #te) Tell
 
 module _ {M : Type 1} (𝓤 : URA M) (H : Heap 𝓤) (A : Atoms 𝓤) (W : Given 𝓤 H A) (mem : Memory → SProp 𝓤) (run : Routine
-    → Fun 𝓤) (κ : Lft) (q : Share) (b₁ o₁ : ℕ) (γ₁ : GName) (ys : List Entry) (n : ℕ) (b₃ o₃ : ℕ) (γ₃ : GName) (ms : List ℕ) (b₄ o₄ : ℕ) (γ₄ : GName) (ws : List ℕ)
-    (gn : Room R (length ys)) (n-fits : n < 2 ^ 64) (gm : Room u8 (length ms)) where
+    → Fun 𝓤) (κ : Lft) (q : Share) (b₁ o₁ : ℕ) (γ₁ : GName) (ys : List Entry) (n : ℕ) (b₃ o₃ : ℕ) (γ₃ : GName) (ms : List ℕ) (b₅ o₅ : ℕ) (γ₅ : GName) (xs : List ℕ)
+    (b₄ o₄ : ℕ) (γ₄ : GName) (ws : List ℕ) (gn : Room R (length ys)) (n-fits : n < 2 ^ 64) (gm : Room u8 (length ms)) (gx : Room u32 (length xs)) where
   abbrev y1 : RefT (List Entry)
   y1 = record { ptr = (b₁, o₁); name = γ₁; now = ys }
 
@@ -94,14 +106,17 @@ module _ {M : Type 1} (𝓤 : URA M) (H : Heap 𝓤) (A : Atoms 𝓤) (W : Given
   abbrev y4 : RefT (List ℕ)
   y4 = record { ptr = (b₄, o₄); name = γ₄; now = ws }
 
+  abbrev y5 : RefT (List ℕ)
+  y5 = record { ptr = (b₅, o₅); name = γ₅; now = xs }
+
   abbrev Arg : Type 0
-  Arg = RefT (List Entry) × (ℕ × (RefT (List ℕ) × (RefT (List ℕ) × Unit {0})))
+  Arg = RefT (List Entry) × (ℕ × (RefT (List ℕ) × (RefT (List ℕ) × (RefT (List ℕ) × Unit {0}))))
 
   abbrev x : Arg
-  x = (y1, (y2, (y3, (y4, tt))))
+  x = (y1, (y2, (y3, (y5, (y4, tt)))))
 
   abbrev at : Vals f.signature (κ, tt)
-  at = (sliceVal (b₁, o₁) (length ys) ∷ [], (vint w64 n ∷ [], (sliceVal (b₃, o₃) (length ms) ∷ [], (vptr b₄ o₄ ∷ [], tt))))
+  at = (sliceVal (b₁, o₁) (length ys) ∷ [], (vint w64 n ∷ [], (sliceVal (b₃, o₃) (length ms) ∷ [], (sliceVal (b₅, o₅) (length xs) ∷ [], (vptr b₄ o₄ ∷ [], tt)))))
 
   abbrev Post : Val → SProp 𝓤
   Post = walkOf 𝓤 H A f.ended stayed (f.clauses 𝓤 H A mem run) .post (((κ, tt), (q, tt), tt, x, at), tt)
@@ -114,29 +129,35 @@ module _ {M : Type 1} (𝓤 : URA M) (H : Heap 𝓤) (A : Atoms 𝓤) (W : Given
   Done c a ls = (a ≡ answerOf (called (callAs c) (bookOf ys n))) × (ls ≡ called (callAs c) (bookOf ys n) .book .entries)
 
   abbrev Asks : Asked.Call
-  Asks = Asked.enter (bulkOf (keyed ms))
+  Asks = Asked.enter (bulkOf (keyedWith xs ms))
 
-  abbrev Said : List Entry → List ℕ → Type 0
-  Said ls rs = (rs ≡ toldCall (answerOf (called Asks (bookOf ys n)))) × (ls ≡ called Asks (bookOf ys n) .book .entries)
+  abbrev Enters : Call → List ℕ → Type 0
+  Enters c is = (callAs c ≡ Asks) × (is ≡ cleared xs)
 
-  said : (c : Call) (a : Answer) (ls : List Entry) (rs : List ℕ) → callAs c ≡ Asks → Done c a ls → rs ≡ Words a → Said ls rs
-  said c a ls rs e d h = (h ∙ (ap Words (d .0) ∙ rw e), d .1 ∙ rw e)
+  abbrev Said : List Entry → List ℕ → List ℕ → Type 0
+  Said ls is rs = (rs ≡ toldCall (answerOf (called Asks (bookOf ys n)))) × (ls ≡ called Asks (bookOf ys n) .book .entries) × (is ≡ cleared xs)
 
-  exits : (ls : List Entry) (rs : List ℕ) → length ls ≡ length ys → Said ls rs
-      → ent 𝓤 (⋆ 𝓤 H A ((‵ (flft κ q) ⊛ ‵ ftrue) ∷ ‵ (finally R γ₁ ls) ∷ ‵ (ShrSlice (named 0) κ u8 .own y3 (sliceVal (b₃, o₃) (length ms) ∷ [])) ∷ ‵ (fres γ₄ (AW .coded .code rs))
-      ∷ [])) (Post vunit)
-  exits ls rs l e =
-      qed W ((‵ (flft κ q) ⊛ ‵ ftrue) ∷ ‵ (finally R γ₁ ls) ∷ ‵ (ShrSlice (named 0) κ u8 .own y3 (sliceVal (b₃, o₃) (length ms) ∷ [])) ∷ ‵ (fres γ₄ (AW .coded .code rs)) ∷ []) ∵
-      suffices ! _ (ends-at 𝓤 H A f.ended stayed (f.clauses 𝓤 H A mem run) W (((κ, tt), (q, tt), tt, x, at), tt) vunit tt (ls, (tt, (tt, (rs, tt)))) (l, (tt, (tt, (tt, tt))))) $ says ! e $
+  said : (c : Call) (a : Answer) (ls : List Entry) (is rs : List ℕ) → Enters c is → Done c a ls → rs ≡ Words a → Said ls is rs
+  said c a ls is rs e d h = (h ∙ (ap Words (d .0) ∙ rw (e .0)), d .1 ∙ rw (e .0), e .1)
+
+  exits : (ls : List Entry) (is rs : List ℕ) → length ls ≡ length ys → length is ≡ length xs → Said ls is rs
+      → ent 𝓤 (⋆ 𝓤 H A ((‵ (flft κ q) ⊛ ‵ ftrue) ∷ ‵ (finally R γ₁ ls) ∷ ‵ (ShrSlice (named 0) κ u8 .own y3 (sliceVal (b₃, o₃) (length ms) ∷ [])) ∷ ‵ (finally u32 γ₅ is)
+      ∷ ‵ (fres γ₄ (AW .coded .code rs)) ∷ [])) (Post vunit)
+  exits ls is rs l k e =
+      qed W ((‵ (flft κ q) ⊛ ‵ ftrue) ∷ ‵ (finally R γ₁ ls) ∷ ‵ (ShrSlice (named 0) κ u8 .own y3 (sliceVal (b₃, o₃) (length ms) ∷ [])) ∷ ‵ (finally u32 γ₅ is)
+      ∷ ‵ (fres γ₄ (AW .coded .code rs)) ∷ []) ∵
+      suffices ! _ (ends-at 𝓤 H A f.ended stayed (f.clauses 𝓤 H A mem run) W (((κ, tt), (q, tt), tt, x, at), tt) vunit tt (ls, (tt, (tt, (is, (rs, tt))))) (l, (tt, (tt, (k, (tt, tt)))))) $ says ! e $
       frame ! $
-      nothing ! $ move ! (3 ∷ 0 ∷ []) $ fjoin ! $ move ! (2 ∷ 0 ∷ []) $ fjoin ! $ owned ! usize (Is usize) (uint-makes 𝓤 H A W w64) n _ (refl, n-fits) $ fjoin ! $ move ! (1 ∷ 0 ∷ []) $
-      fjoin ! $ feqI ! (List Val) (vunit ∷ []) (vunit ∷ []) refl $ move ! (1 ∷ 0 ∷ []) $ done !
+      nothing ! $ move ! (4 ∷ 0 ∷ []) $ fjoin ! $ move ! (3 ∷ 0 ∷ []) $ fjoin ! $ move ! (2 ∷ 0 ∷ []) $ fjoin ! $ owned ! usize (Is usize) (uint-makes 𝓤 H A W w64) n _ (refl, n-fits) $ fjoin ! $
+      move ! (1 ∷ 0 ∷ []) $ fjoin ! $ feqI ! (List Val) (vunit ∷ []) (vunit ∷ []) refl $ move ! (1 ∷ 0 ∷ []) $ done !
 
   abbrev en-at : Entering 𝓤 H A mem run .Ghost
-  en-at = (((κ, tt), (q, tt), tt, (y3, tt), (sliceVal (b₃, o₃) (length ms) ∷ [], tt)), tt)
+  en-at = (((κ, tt), (q, tt), tt, (y3, (y5, tt)), (sliceVal (b₃, o₃) (length ms) ∷ [], (sliceVal (b₅, o₅) (length xs) ∷ [], tt))), tt)
 
-  en-asks : ent 𝓤 (⋆ 𝓤 H A ((‵ (flft κ q) ⊛ ‵ ftrue) ∷ ‵ (ShrSlice (named 0) κ u8 .own y3 (sliceVal (b₃, o₃) (length ms) ∷ [])) ∷ [])) (Entering 𝓤 H A mem run .pre en-at)
-  en-asks = qed W ((‵ (flft κ q) ⊛ ‵ ftrue) ∷ ‵ (ShrSlice (named 0) κ u8 .own y3 (sliceVal (b₃, o₃) (length ms) ∷ [])) ∷ []) ∵ nothing ! $ move ! (2 ∷ 0 ∷ []) $ fjoin ! $
+  en-asks : ent 𝓤 (⋆ 𝓤 H A ((‵ (flft κ q) ⊛ ‵ ftrue) ∷ ‵ (ShrSlice (named 0) κ u8 .own y3 (sliceVal (b₃, o₃) (length ms) ∷ []))
+      ∷ ‵ (MutSlice (named 0) κ u32 .own y5 (sliceVal (b₅, o₅) (length xs) ∷ [])) ∷ [])) (Entering 𝓤 H A mem run .pre en-at)
+  en-asks = qed W ((‵ (flft κ q) ⊛ ‵ ftrue) ∷ ‵ (ShrSlice (named 0) κ u8 .own y3 (sliceVal (b₃, o₃) (length ms) ∷ []))
+      ∷ ‵ (MutSlice (named 0) κ u32 .own y5 (sliceVal (b₅, o₅) (length xs) ∷ [])) ∷ []) ∵ nothing ! $ move ! (3 ∷ 0 ∷ []) $ fjoin ! $ move ! (2 ∷ 0 ∷ []) $ fjoin ! $
       move ! (1 ∷ 0 ∷ []) $ join ! $ frame ! $ done !
 
   abbrev ac-at : Call → Val → Act 𝓤 H A mem run .Ghost
@@ -157,62 +178,66 @@ module _ {M : Type 1} (𝓤 : URA M) (H : Heap 𝓤) (A : Atoms 𝓤) (W : Given
       qed W ((‵ (flft κ q) ⊛ ‵ ftrue) ∷ ‵ (MutRef (named 0) κ AW .own y4 (vptr b₄ o₄ ∷ [])) ∷ []) ∵ nothing ! $
       owned ! N.the-row (Is N.the-row) (LL.makes N.the-type N′.the-plain 𝓤 H A) r (v ∷ []) g $ fjoin ! $ move ! (2 ∷ 0 ∷ []) $ fjoin ! $ move ! (1 ∷ 0 ∷ []) $ join ! $ frame ! $ done !
 
-  walk : (𝓣 : Tables 𝓤 H) → Known 𝓤 H A mem run 𝓣 → ent 𝓤 (onEntry 𝓤 H A f.signature (κ, tt) (q, tt) x at) (WpFn 𝓤 H (𝓣 .C) (𝓣 .Λ) code.function (sliceVal (b₁, o₁) (length ys)
-      ∷ vint w64 n ∷ sliceVal (b₃, o₃) (length ms) ∷ vptr b₄ o₄ ∷ []) Post)
+  walk : (𝓣 : Tables 𝓤 H) → Known 𝓤 H A mem run 𝓣 → ent 𝓤 (onEntry 𝓤 H A f.signature (κ, tt) (q, tt) x at) (WpFn 𝓤 H (𝓣 .C) (𝓣 .Λ) code.function
+      (sliceVal (b₁, o₁) (length ys) ∷ vint w64 n ∷ sliceVal (b₃, o₃) (length ms) ∷ sliceVal (b₅, o₅) (length xs) ∷ vptr b₄ o₄ ∷ []) Post)
   walk 𝓣 known =
-      qed W ((‵ (flft κ q) ⊛ ‵ ftrue) ∷ ‵ (owns (MutSlice (named 0) κ R ∷ usize ∷ ShrSlice (named 0) κ u8 ∷ MutRef (named 0) κ AW ∷ []) x at)
-      ∷ []) ∵ enter ! (𝓣 .C) (𝓣 .Λ) code.function (sliceVal (b₁, o₁) (length ys) ∷ vint w64 n ∷ sliceVal (b₃, o₃) (length ms) ∷ vptr b₄ o₄ ∷ []) _ $
-      allocs-all ! slots _ (λ p. params1 ! $ pass1 ! (init ! 18 refl (tt, (tt, (record { fits = gn .0 }, tt)))) $ pass1 ! (init ! 16 refl (tt, record { fits = n-fits })) $
-      pass1 ! (init ! 14 refl (tt, (tt, (record { fits = gm .0 }, tt)))) $ pass1 ! (init ! 12 refl (tt, tt)) $ pass0 ! $
+      qed W ((‵ (flft κ q) ⊛ ‵ ftrue) ∷ ‵ (owns (MutSlice (named 0) κ R ∷ usize ∷ ShrSlice (named 0) κ u8 ∷ MutSlice (named 0) κ u32 ∷ MutRef (named 0) κ AW ∷ []) x at)
+      ∷ []) ∵ enter ! (𝓣 .C) (𝓣 .Λ) code.function (sliceVal (b₁, o₁) (length ys) ∷ vint w64 n ∷ sliceVal (b₃, o₃) (length ms) ∷ sliceVal (b₅, o₅) (length xs) ∷ vptr b₄ o₄ ∷ []) _ $
+      allocs-all ! slots _ (λ p. params1 ! $ pass1 ! (init ! 24 refl (tt, (tt, (record { fits = gn .0 }, tt)))) $ pass1 ! (init ! 22 refl (tt, record { fits = n-fits })) $
+      pass1 ! (init ! 20 refl (tt, (tt, (record { fits = gm .0 }, tt)))) $ pass1 ! (init ! 18 refl (tt, (tt, (record { fits = gx .0 }, tt)))) $ pass1 ! (init ! 16 refl (tt, tt)) $ pass0 ! $
       -- what each parameter owns; a shared one is had twice
-      move ! (23 ∷ []) $ fsplit ! $ move ! (1 ∷ []) $ fsplit ! $ move ! (1 ∷ []) $ fsplit ! $
+      move ! (29 ∷ []) $ fsplit ! $ move ! (1 ∷ []) $ fsplit ! $ move ! (1 ∷ []) $ fsplit ! $
       use1 W (‵ (ShrSlice (named 0) κ u8 .own y3 (sliceVal (b₃, o₃) (length ms) ∷ [])) ⊛ ‵ (ShrSlice (named 0) κ u8 .own y3 (sliceVal (b₃, o₃) (length ms)
-      ∷ []))) (shr-slice-copy 𝓤 H A W (named 0) κ u8 .twice y3 (sliceVal (b₃, o₃) (length ms) ∷ [])) $ split ! $ move ! (2 ∷ []) $ fsplit ! $
-      move ! (28 ∷ 2 ∷ []) $ use2 W (raw (Entering 𝓤 H A mem run .pre en-at)) en-asks $
-      calls-at ! (fmOf 𝓤 H (W .laws) 𝓣) (Entering 𝓤 H A mem run) (known .to-en) en-at (and-then ! (load ! (from ! (stop !)) (look ! 20 refl)) (no-more !)) (λ v₂.
+      ∷ []))) (shr-slice-copy 𝓤 H A W (named 0) κ u8 .twice y3 (sliceVal (b₃, o₃) (length ms) ∷ [])) $ split ! $ move ! (2 ∷ []) $ fsplit ! $ move ! (1 ∷ []) $ fsplit ! $
+      assigns ! (addr ! (from ! (fld ! refl (hop ! (look-in ! 25 (sub ! 0 refl (whole !))) (stop !))))) (from ! (stop !)) (init ! 17 refl (tt, tt)) $
+      assigns ! (agg ! (and-then ! (load ! (from ! (stop !)) (look ! 17 refl)) (and-then ! (load ! (from ! (fld ! refl (stop !))) (look-in ! 25 (sub ! 1 refl (whole !)))) (no-more !))))
+      (from ! (stop !)) (init ! 15 refl (tt, (tt, (record { fits = gx .0 }, tt)))) $
+      move ! (35 ∷ 3 ∷ 2 ∷ []) $ use3 W (raw (Entering 𝓤 H A mem run .pre en-at)) en-asks $
+      calls-at ! (fmOf 𝓤 H (W .laws) 𝓣) (Entering 𝓤 H A mem run) (known .to-en) en-at (and-then ! (load ! (from ! (stop !)) (look ! 26 refl)) (and-then ! (load ! (from ! (stop !)) (look !
+      14 refl)) (no-more !))) (λ v₂.
       use1 W (later (some (λ (r : Call). ((‵ (flft κ q) ⊛ ‵ ftrue) ⊛ ‵ (L.the-row .own r (v₂
-      ∷ []))) ⊛ raw (ensured 𝓤 H A en.ended (en.clauses 𝓤 H A mem run) (κ, tt) (y3, tt) tt r)))) (id⊢ 𝓤 _) $ await ! tt $ pick ! (λ c.
-      split ! $ move ! (1 ∷ []) $ use1 W (raw (fact 𝓤 (callAs c ≡ Asks))) (exE 𝓤 _ (λ ws′. snd∗ 𝓤 (sem 𝓤 H A (lasts en.ended (κ, tt) (y3, tt) ws′)) (fact 𝓤 (callAs c ≡ Asks)))) $
-      heard ! (callAs c ≡ Asks) (λ e₁.
-      split ! $ move ! (1 ∷ []) $ peeks ! L.the-row (Is L.the-row) (shows 𝓤 H A L.the-row) c (v₂ ∷ []) (λ gc. let-go ! $
-      land ! (from ! (stop !)) (init ! 16 refl (LL.lawful L.the-type L′.the-laws 𝓤 H A W .typed c (v₂ ∷ []) gc .0)) $
-      assigns ! (addr ! (from ! (fld ! refl (hop ! (look-in ! 24 (sub ! 0 refl (whole !))) (stop !))))) (from ! (stop !)) (init ! 12 refl (tt, tt)) $
-      assigns ! (agg ! (and-then ! (load ! (from ! (stop !)) (look ! 12 refl)) (and-then ! (load ! (from ! (fld ! refl (stop !))) (look-in ! 24 (sub ! 1 refl (whole !)))) (no-more !))))
-      (from ! (stop !)) (init ! 10 refl (tt, (tt, (record { fits = gn .0 }, tt)))) $
-      move ! (0 ∷ 5 ∷ []) $ use2 W (raw (Act 𝓤 H A mem run .pre (ac-at c v₂))) (ac-asks c v₂ gc) $
-      calls-at ! (fmOf 𝓤 H (W .laws) 𝓣) (Act 𝓤 H A mem run) (known .to-ac) (ac-at c v₂) (and-then ! (load ! (from ! (stop !)) (look ! 9 refl)) (and-then ! (load ! (from ! (stop !)) (look !
-      21 refl)) (and-then ! (load ! (from ! (stop !)) (look ! 15 refl)) (no-more !)))) (λ v₆.
+      ∷ []))) ⊛ raw (ensured 𝓤 H A en.ended (en.clauses 𝓤 H A mem run) (κ, tt) (y3, (y5, tt)) tt r)))) (id⊢ 𝓤 _) $ await ! tt $ pick ! (λ c.
+      split ! $ move ! (1 ∷ []) $ use1 W (some (λ (zs : Unit {0} × (List ℕ × Unit {0})). ‵ (lasts en.ended (κ, tt) (y3, (y5, tt)) zs) ⊛ raw (fact 𝓤 (Enters c (zs .1 .0))))) (id⊢ 𝓤 _) $
+      pick ! (λ is.
+      split ! $ move ! (1 ∷ []) $ heard ! (Enters c (is .1 .0)) (λ e₁. fsplit ! $ move ! (1 ∷ []) $ fsplit ! $ fsplit ! $ move ! (1 ∷ []) $ feqL ! (λ k.
+      move ! (3 ∷ []) $ split ! $ move ! (1 ∷ []) $ peeks ! L.the-row (Is L.the-row) (shows 𝓤 H A L.the-row) c (v₂ ∷ []) (λ gc. let-go ! $
+      land ! (from ! (stop !)) (init ! 23 refl (LL.lawful L.the-type L′.the-laws 𝓤 H A W .typed c (v₂ ∷ []) gc .0)) $
+      assigns ! (addr ! (from ! (fld ! refl (hop ! (look-in ! 33 (sub ! 0 refl (whole !))) (stop !))))) (from ! (stop !)) (init ! 15 refl (tt, tt)) $
+      assigns ! (agg ! (and-then ! (load ! (from ! (stop !)) (look ! 15 refl)) (and-then ! (load ! (from ! (fld ! refl (stop !))) (look-in ! 33 (sub ! 1 refl (whole !)))) (no-more !))))
+      (from ! (stop !)) (init ! 13 refl (tt, (tt, (record { fits = gn .0 }, tt)))) $
+      move ! (0 ∷ 8 ∷ []) $ use2 W (raw (Act 𝓤 H A mem run .pre (ac-at c v₂))) (ac-asks c v₂ gc) $
+      calls-at ! (fmOf 𝓤 H (W .laws) 𝓣) (Act 𝓤 H A mem run) (known .to-ac) (ac-at c v₂) (and-then ! (load ! (from ! (stop !)) (look ! 12 refl)) (and-then ! (load ! (from ! (stop !)) (look !
+      30 refl)) (and-then ! (load ! (from ! (stop !)) (look ! 22 refl)) (no-more !)))) (λ v₆.
       use1 W (later (some (λ (r : Answer). ((‵ (flft κ q) ⊛ ‵ ftrue) ⊛ ‵ (N.the-row .own r (v₆
       ∷ []))) ⊛ raw (ensured 𝓤 H A ac.ended (ac.clauses 𝓤 H A mem run) (κ, tt) (y1, (n, (c, tt))) tt r)))) (id⊢ 𝓤 _) $ await ! tt $ pick ! (λ a.
       split ! $ move ! (1 ∷ []) $ use1 W (some (λ (zs : List Entry × (Unit {0} × (Unit {0}
       × Unit {0}))). ‵ (lasts ac.ended (κ, tt) (y1, (n, (c, tt))) zs) ⊛ raw (fact 𝓤 (Done c a (zs .0))))) (id⊢ 𝓤 _) $ pick ! (λ us.
       split ! $ move ! (1 ∷ []) $ heard ! (Done c a (us .0)) (λ d. fsplit ! $ fsplit ! $ move ! (1 ∷ []) $ feqL ! (λ l.
       move ! (2 ∷ []) $ split ! $ move ! (1 ∷ []) $ peeks ! N.the-row (Is N.the-row) (shows 𝓤 H A N.the-row) a (v₆ ∷ []) (λ ga. let-go ! $
-      land ! (from ! (stop !)) (init ! 15 refl (LL.lawful N.the-type N′.the-laws 𝓤 H A W .typed a (v₆ ∷ []) ga .0)) $
-      assigns ! (addr ! (from ! (hop ! (look ! 19 refl) (stop !)))) (from ! (stop !)) (init ! 7 refl (tt, tt)) $
-      move ! (0 ∷ 3 ∷ []) $ use2 W (raw (Tell 𝓤 H A mem run .pre (te-at a v₆))) (te-asks a v₆ ga) $
-      calls-at ! (fmOf 𝓤 H (W .laws) 𝓣) (Tell 𝓤 H A mem run) (known .to-te) (te-at a v₆) (and-then ! (load ! (from ! (stop !)) (look ! 6 refl)) (and-then ! (load ! (from ! (stop !)) (look !
-      14 refl)) (no-more !))) (λ w.
+      land ! (from ! (stop !)) (init ! 22 refl (LL.lawful N.the-type N′.the-laws 𝓤 H A W .typed a (v₆ ∷ []) ga .0)) $
+      assigns ! (addr ! (from ! (hop ! (look ! 26 refl) (stop !)))) (from ! (stop !)) (init ! 10 refl (tt, tt)) $
+      move ! (0 ∷ 6 ∷ []) $ use2 W (raw (Tell 𝓤 H A mem run .pre (te-at a v₆))) (te-asks a v₆ ga) $
+      calls-at ! (fmOf 𝓤 H (W .laws) 𝓣) (Tell 𝓤 H A mem run) (known .to-te) (te-at a v₆) (and-then ! (load ! (from ! (stop !)) (look ! 9 refl)) (and-then ! (load ! (from ! (stop !)) (look !
+      21 refl)) (no-more !))) (λ w.
       use1 W (later (some (λ (r′ : Unit {0}). ((‵ (flft κ q) ⊛ ‵ ftrue) ⊛ ‵ (unit .own r′ (w
       ∷ []))) ⊛ raw (ensured 𝓤 H A te.ended (te.clauses 𝓤 H A mem run) (κ, tt) (y4, (a, tt)) tt r′)))) (id⊢ 𝓤 _) $ await ! tt $ pick ! (λ r′.
       split ! $ move ! (1 ∷ []) $ use1 W (some (λ (zs : List ℕ × (Unit {0} × Unit {0})). ‵ (lasts te.ended (κ, tt) (y4, (a, tt)) zs) ⊛ raw (fact 𝓤 (zs .0 ≡ Words a)))) (id⊢ 𝓤 _) $
       pick ! (λ zs.
       split ! $ move ! (1 ∷ []) $ heard ! (zs .0 ≡ Words a) (λ e-te. fsplit ! $ move ! (2 ∷ []) $ split ! $ move ! (1 ∷ []) $
       peeks ! unit (Is unit) (shows 𝓤 H A unit) r′ (w ∷ []) (λ gw. let-go ! $
-      land ! (from ! (stop !)) (init ! 10 refl (nothing-lawful 𝓤 H A W .typed r′ (w ∷ []) gw .0)) $
-      assigns ! (of-opd ! (unit-lit !)) (from ! (stop !)) (init ! 28 refl (tt, tt)) $
-      returns ! (look ! 28 refl) $ forget ! 28 refl $ forget ! 26 refl $ forget ! 24 refl $ forget ! 22 refl $ forget ! 20 refl $ forget ! 18 refl $ forget ! 16 refl $ forget ! 14 refl $
-      forget ! 12 refl $ forget ! 10 refl $ forget ! 8 refl $
-      move ! (28 ∷ 29 ∷ 26 ∷ 27 ∷ 24 ∷ 25 ∷ 22 ∷ 23 ∷ 20 ∷ 21 ∷ 18 ∷ 19 ∷ 16 ∷ 17 ∷ 14 ∷ 15 ∷ 12 ∷ 13 ∷ 10 ∷ 11 ∷ 8 ∷ 9 ∷ []) $ frees-all ! slots p $ keep ! (0 ∷ 3 ∷ 6 ∷ 1 ∷ []) $
-      by ! (exits (us .0) (zs .0) l (said c a (us .0) (zs .0) e₁ d e-te))))))))))))))))))
+      land ! (from ! (stop !)) (init ! 13 refl (nothing-lawful 𝓤 H A W .typed r′ (w ∷ []) gw .0)) $
+      assigns ! (of-opd ! (unit-lit !)) (from ! (stop !)) (init ! 37 refl (tt, tt)) $
+      returns ! (look ! 37 refl) $ forget ! 37 refl $ forget ! 35 refl $ forget ! 33 refl $ forget ! 31 refl $ forget ! 29 refl $ forget ! 27 refl $ forget ! 25 refl $ forget ! 23 refl $ forget ! 21 refl $ forget ! 19 refl $ forget ! 17 refl $ forget ! 15 refl $ forget ! 13 refl $ forget ! 11 refl $
+      move ! (37 ∷ 38 ∷ 35 ∷ 36 ∷ 33 ∷ 34 ∷ 31 ∷ 32 ∷ 29 ∷ 30 ∷ 27 ∷ 28 ∷ 25 ∷ 26 ∷ 23 ∷ 24 ∷ 21 ∷ 22 ∷ 19 ∷ 20 ∷ 17 ∷ 18 ∷ 15 ∷ 16 ∷ 13 ∷ 14 ∷ 11 ∷ 12 ∷ []) $ frees-all ! slots p $ keep ! (0 ∷ 3 ∷ 9 ∷ 5 ∷ 1 ∷ []) $
+      by ! (exits (us .0) (is .1 .0) (zs .0) l k (said c a (us .0) (is .1 .0) (zs .0) e₁ d e-te))))))))))))))))))))
 
 module _ {M : Type 1} (𝓤 : URA M) (H : Heap 𝓤) (A : Atoms 𝓤) (W : Given 𝓤 H A) (mem : Memory → SProp 𝓤) (run : Routine → Fun 𝓤) (𝓣 : Tables 𝓤 H) (known : Known 𝓤 H A mem run 𝓣) where
   walks : Walks 𝓤 H A f.ended stayed (WpFn 𝓤 H (𝓣 .C) (𝓣 .Λ) code.function) (f.clauses 𝓤 H A mem run)
-  walks = walked 𝓤 H A f.ended stayed (f.clauses 𝓤 H A mem run) (WpFn 𝓤 H (𝓣 .C) (𝓣 .Λ) code.function) (λ κs. (slice-vals, (uint-vals w64, (slice-vals, (ptr-vals, tt))))) (λ κs.
-      (mut-slice-tells (named 0) (κs .0) R, (uint-tells w64, (shr-slice-tells (named 0) (κs .0) u8, (mut-tells (named 0) (κs .0) AW, tt)))))
-      (λ κs qs bounds a g are. via 𝓤 _ (fst∗ 𝓤 _ (emp 𝓤)) (walk 𝓤 H A W mem run (κs .0) (qs .0) (a .0 .ptr .0) (a .0 .ptr .1) (a .0 .name) (a .0 .now) (a .1 .0) (a .1 .1 .0 .ptr .0) (a .1
-      .1 .0 .ptr .1) (a .1 .1 .0 .name) (a .1 .1 .0 .now) (a .1 .1 .1 .0 .ptr .0) (a .1 .1 .1 .0 .ptr .1) (a .1 .1 .1 .0 .name) (a .1 .1 .1 .0 .now) (are .0 .0 .1) (are .1 .0 .1) (are
-      .1 .1 .0 .0 .1) 𝓣 known))
+  walks = walked 𝓤 H A f.ended stayed (f.clauses 𝓤 H A mem run) (WpFn 𝓤 H (𝓣 .C) (𝓣 .Λ) code.function) (λ κs. (slice-vals, (uint-vals w64, (slice-vals, (slice-vals, (ptr-vals, tt)))))) (λ κs.
+      (mut-slice-tells (named 0) (κs .0) R, (uint-tells w64, (shr-slice-tells (named 0) (κs .0) u8, (mut-slice-tells (named 0) (κs .0) u32, (mut-tells (named 0) (κs .0) AW, tt))))))
+      (λ κs qs bounds a g are. via 𝓤 _ (fst∗ 𝓤 _ (emp 𝓤)) (walk 𝓤 H A W mem run (κs .0) (qs .0) (a .0 .ptr .0) (a .0 .ptr .1) (a .0 .name) (a .0 .now) (a .1 .0)
+      (a .1 .1 .0 .ptr .0) (a .1 .1 .0 .ptr .1) (a .1 .1 .0 .name) (a .1 .1 .0 .now) (a .1 .1 .1 .0 .ptr .0) (a .1 .1 .1 .0 .ptr .1) (a .1 .1 .1 .0 .name) (a .1 .1 .1 .0 .now)
+      (a .1 .1 .1 .1 .0 .ptr .0) (a .1 .1 .1 .1 .0 .ptr .1) (a .1 .1 .1 .1 .0 .name) (a .1 .1 .1 .1 .0 .now) (are .0 .0 .1) (are .1 .0 .1) (are .1 .1 .0 .0 .1) (are .1 .1 .1 .0 .0 .1) 𝓣 known))
 
   meets : Meets 𝓤 H A f.signature (WpFn 𝓤 H (𝓣 .C) (𝓣 .Λ) code.function) (f.spec 𝓤 H A mem run)
   meets = walk-meets 𝓤 H A f.ended stayed W (
@@ -222,7 +247,7 @@ module _ {M : Type 1} (𝓤 : URA M) (H : Heap 𝓤) (A : Atoms 𝓤) (W : Given
       (
         goes-none-slice 𝓤 H A W 1 (0
             ∷ []) tt (plain (λ _. u8)) yes,
-        (goes-gave-ref 𝓤 H A W 1 0 tt (plain (λ _. AW)), tt),
+        (goes-gave-slice 𝓤 H A W 1 0 tt (plain (λ _. u32)), (goes-gave-ref 𝓤 H A W 1 0 tt (plain (λ _. AW)), tt)),
       ),
     ),
   ) (f.clauses 𝓤 H A mem run)

@@ -14,10 +14,13 @@ tell-verdict-requires c κs = search needs
 same-length : tie.Need-same-length
 same-length c = search needs
 
+same-length-2 : tie.Need-same-length-2
+same-length-2 c = search needs
+
 returns : tie.Need-returns
 returns c =
-    let r = c .before .before .before .before .records in
-    (c .tell-verdict .ensures ∙ ap toldVerdict (r .ensures .0), r .ensures .1)
+    let r = c .before .before .before .before .before .before .records in
+    (c .tell-verdict .ensures ∙ ap toldVerdict (r .ensures .0), r .ensures .1, r .ensures .2)
 
 pub bulk-records-spec : {M : Type 1} → statement M
-bulk-records-spec = tie.close (tie.spec records-requires tell-verdict-requires same-length returns)
+bulk-records-spec = tie.close (tie.spec records-requires tell-verdict-requires same-length same-length-2 returns)

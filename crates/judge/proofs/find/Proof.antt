@@ -1,7 +1,10 @@
 -- `judge::find` meets its contract.
 use mathlib.Core.Path.{_∙_, ap}
-use Rattle.judge.specs.Survey.{Surveyed}
+use Rattle.judge.specs.Found.{denied}
+use Rattle.judge.specs.Survey.{Surveyed, without, survey}
+use Rattle.judge.specs.Index.{orShort}
 use Rattle.judge.proofs.Judges.{survey-found}
+use Rattle.judge.proofs.Index.{made-of}
 use borrow.Author.Needs.{needs}
 use Rattle.judge.proofs.find.Statement.{statement}
 use Rattle.judge.proofs.find.Tie as tie
@@ -9,8 +12,17 @@ use Rattle.judge.proofs.find.Tie as tie
 read-requires : tie.Need-read-requires
 read-requires c κs = search needs
 
+same-length : tie.Need-same-length
+same-length c = search needs
+
 returns : tie.Need-returns
-returns c = ap (λ (s : Surveyed). s .found) (c .before .read .ensures) ∙ survey-found (c .before .before .before .args .m .now)
+returns c =
+    let a = c .before .before .before .before .before .before .before .args in (
+      ap (λ (s : Surveyed). s .found) (c .before .before .before .read .ensures .0)
+          ∙ (made-of (λ (s : Surveyed). s .found) (a .index .now) (without (denied 25 0)) (survey (a .m .now))
+          ∙ ap (orShort (a .index .now) (denied 25 0)) (survey-found (a .m .now))),
+      c .before .before .before .read .ensures .1,
+    )
 
 pub find-spec : {M : Type 1} → statement M
-find-spec = tie.close (tie.spec read-requires returns)
+find-spec = tie.close (tie.spec read-requires same-length returns)

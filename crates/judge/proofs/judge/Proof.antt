@@ -1,7 +1,10 @@
 -- `judge::judge` meets its contract.
 use mathlib.Core.Path.{_∙_, ap}
-use Rattle.judge.specs.Found.{Found}
+use Rattle.reading.specs.Verdict.{refused}
+use Rattle.judge.specs.Found.{Found, denied, found}
+use Rattle.judge.specs.Index.{orShort}
 use Rattle.judge.proofs.Walks.{found-verdict}
+use Rattle.judge.proofs.Index.{made-of}
 use borrow.Author.Needs.{needs}
 use Rattle.judge.proofs.judge.Statement.{statement}
 use Rattle.judge.proofs.judge.Tie as tie
@@ -9,8 +12,17 @@ use Rattle.judge.proofs.judge.Tie as tie
 find-requires : tie.Need-find-requires
 find-requires c κs = search needs
 
+same-length : tie.Need-same-length
+same-length c = search needs
+
 returns : tie.Need-returns
-returns c = ap (λ (f : Found). f .verdict) (c .find .ensures) ∙ found-verdict (c .before .before .args .m .now)
+returns c =
+    let a = c .before .before .before .before .before .before .args in (
+      ap (λ (f : Found). f .verdict) (c .before .before .find .ensures .0)
+          ∙ (made-of (λ (f : Found). f .verdict) (a .index .now) (denied 25 0) (found (a .m .now))
+          ∙ ap (orShort (a .index .now) (refused 25 0)) (found-verdict (a .m .now))),
+      c .before .before .find .ensures .1,
+    )
 
 pub judge-spec : {M : Type 1} → statement M
-judge-spec = tie.close (tie.spec find-requires returns)
+judge-spec = tie.close (tie.spec find-requires same-length returns)

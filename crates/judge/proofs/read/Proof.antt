@@ -1,11 +1,8 @@
 -- `judge::read` meets its contract.
-use mathlib.Core.Path.{_∙_, ap, sym}
-use borrow.Author.Tests.{lt-ltb, le-ltb}
-use Rattle.notes.specs.Steps.{stated, metIn, stepped}
-use Rattle.judge.specs.Found.{foundAs}
-use Rattle.judge.specs.Engine.{concludedIn}
-use Rattle.judge.proofs.Judges.{found-long, found-in, noted-none, noted-in}
-use Rattle.judge.proofs.Ends.{fine-at}
+use mathlib.Core.Path.{_∙_, ap}
+use Rattle.judge.specs.Survey.{surveyedAs, without}
+use Rattle.judge.proofs.Ids.{found-second}
+use Rattle.judge.proofs.Index.{too-short, has-room, as-lent}
 use borrow.Author.Needs.{needs}
 use Rattle.judge.proofs.read.Statement.{statement}
 use Rattle.judge.proofs.read.Tie as tie
@@ -17,49 +14,42 @@ bare-requires : tie.Need-bare-requires
 bare-requires c κs = search needs
 
 returns : tie.Need-returns
-returns c =
-    let m = c .before .before .before .before .args .m .now in
-    c .bare .ensures ∙ noted-none m 1 0 (foundAs (c .before .deny .result)) (c .before .deny .ensures) (found-long m (lt-ltb _ _ (c .before .before .if1 .taken)))
+returns c = (
+  c .bare .ensures ∙ (ap without (c .before .deny .ensures) ∙ too-short (c .before .before .before .before .before .args .index .now) _ _ (c .before .before .if1 .taken)),
+  as-lent (c .before .before .before .before .before .args .index .now) (c .before .before .if1 .taken),
+)
 
-read-through-requires : tie.Need-read-through-requires
-read-through-requires c κs = search needs
+slice-aggregate-read-but : tie.Need-slice-aggregate-read-but
+slice-aggregate-read-but c = search needs
 
-enum-known-met : tie.Need-enum-known-met
-enum-known-met c = search needs
+read-but-requires : tie.Need-read-but-requires
+read-but-requires c κs = search needs
 
-deny-requires-2 : tie.Need-deny-requires-2
-deny-requires-2 c κs = search needs
+sub-quickly : tie.Need-sub-quickly
+sub-quickly c = search needs
 
-bare-requires-2 : tie.Need-bare-requires-2
-bare-requires-2 c κs = search needs
+part-quickly-start : tie.Need-part-quickly-start
+part-quickly-start c = search needs
 
-enum-told : tie.Need-enum-told
-enum-told c = search needs
+part-quickly-end : tie.Need-part-quickly-end
+part-quickly-end c = search needs
 
-finish-requires : tie.Need-finish-requires
-finish-requires c κs =
-    let a = c .before .before .before .before .before .before .before .args in
-    let r = c .before .before .before .before .read-through in
-    fine-at (a .m .now) (stated (r .result .state)) (stepped (r .result)) (ap (λ x. metIn x (r .result .state)) (sym (c .before .enum-told .given .1))) (r .ensures .1)
+quickly-requires : tie.Need-quickly-requires
+quickly-requires c κs = search needs
 
-with-notes-requires : tie.Need-with-notes-requires
-with-notes-requires c κs = search needs
+unless-second-requires : tie.Need-unless-second-requires
+unless-second-requires c κs = search needs
+
+same-length : tie.Need-same-length
+same-length c = search needs
 
 returns-2 : tie.Need-returns-2
-returns-2 c =
-    let m = c .before .before .before .before .before .before .before .before .before .args .m .now in
-    let r = c .before .before .before .before .before .before .read-through in
-    let long = le-ltb _ _ (c .before .before .before .before .before .before .before .if1 .left) in
-    c .bare2 .ensures ∙ noted-none m _ _ (foundAs (c .before .deny2 .result)) (c .before .deny2 .ensures)
-    (ap (concludedIn m) (ap (λ x. metIn x (r .result .state)) (sym (c .before .before .before .met .given .1)) ∙ r .ensures .0) ∙ found-in m long)
-
-returns-3 : tie.Need-returns-3
-returns-3 c =
-    let m = c .before .before .before .before .before .before .before .before .before .args .m .now in
-    let r = c .before .before .before .before .before .before .read-through in
-    let long = le-ltb _ _ (c .before .before .before .before .before .before .before .if1 .left) in
-    c .with-notes .ensures ∙ noted-in m long (stated (r .result .state))
-    (ap (λ x. metIn x (r .result .state)) (sym (c .before .before .before .enum-told .given .1)) ∙ r .ensures .0) (foundAs (c .before .finish .result)) (c .before .finish .ensures)
+returns-2 c = (
+  c .unless-second .ensures
+      ∙ (found-second (c .before .before .before .before .before .before .before .before .before .before .before .before .before .args .m .now) (surveyedAs (c .before .before .before .before .before .before .before .before .read-but .result)) (c .before .before .before .before .before .before .before .before .read-but .ensures .0) (c .before .before .before .before .before .before .before .before .read-but .last .1 .0) (c .before .before .before .before .before .before .before .before .read-but .kept .1 .0)
+      (c .before .before .before .before .before .before .before .before .read-but .ensures .1) (c .before .before .before .quickly .result) (c .before .before .before .quickly .ensures .0) ∙ has-room (c .before .before .before .before .before .before .before .before .before .before .before .before .before .args .index .now) _ _ (c .before .before .before .before .before .before .before .before .before .before .if1 .left)),
+  c .before .before .before .quickly .ensures .1,
+)
 
 pub read-spec : {M : Type 1} → statement M
 read-spec =
@@ -68,12 +58,12 @@ read-spec =
     deny-requires
     bare-requires
     returns
-    read-through-requires
-    enum-known-met
-    deny-requires-2
-    bare-requires-2
-    enum-told
-    finish-requires
-    with-notes-requires
-    returns-2
-    returns-3)
+    slice-aggregate-read-but
+    read-but-requires
+    sub-quickly
+    part-quickly-start
+    part-quickly-end
+    quickly-requires
+    unless-second-requires
+    same-length
+    returns-2)

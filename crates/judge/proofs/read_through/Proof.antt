@@ -2,7 +2,7 @@
 use mathlib.Core.Path.{ap, sym}
 use Rattle.notes.specs.Steps.{stepped}
 use Rattle.judge.specs.Verdict.{openedAs}
-use Rattle.judge.proofs.Begins.{through-from, through-faulty}
+use Rattle.judge.proofs.Begins.{through-from, through-faulty, filed-from, filed-faulty}
 use borrow.Author.Needs.{needs}
 use Rattle.judge.proofs.read_through.Statement.{statement}
 use Rattle.judge.proofs.read_through.Tie as tie
@@ -25,23 +25,34 @@ new-requires c κs = search needs
 refuse-requires : tie.Need-refuse-requires
 refuse-requires c κs = search needs
 
+same-length : tie.Need-same-length
+same-length c = search needs
+
 returns : tie.Need-returns
 returns c =
-    let a = c .before .before .before .before .before .before .args in
-    let the-pre = c .before .before .before .before .before .before .pre in
-    let the-open-message = c .before .before .before .before .open-message in (
+    let a = c .before .before .before .before .before .before .before .before .before .before .args in
+    let the-pre = c .before .before .before .before .before .before .before .before .before .before .pre in
+    let the-open-message = c .before .before .before .before .before .before .before .open-message in (
       through-from (a .m .now) (the-pre) (openedAs (the-open-message .result)) (the-open-message .ensures .0) (the-open-message .ensures .1) _ _
-          (ap openedAs (sym (c .before .before .v .given .1))) (stepped (c .message .result)) (c .message .ensures .0),
-      c .message .ensures .1,
+          (ap openedAs (sym (c .before .before .before .before .before .v .given .1))) (stepped (c .before .before .message .result)) (c .before .before .message .ensures .0),
+      c .before .before .message .ensures .1,
+      filed-from (a .m .now) (the-pre) (openedAs (the-open-message .result)) (the-open-message .ensures .0) (the-open-message .ensures .1) _ _
+          (ap openedAs (sym (c .before .before .before .before .before .v .given .1))) (a .places .now) _ (c .before .before .message .ensures .2),
     )
 
 returns-2 : tie.Need-returns-2
 returns-2 c =
-    let a = c .before .before .before .before .before .before .before .args in
-    let the-pre = c .before .before .before .before .before .before .before .pre in
+    let a = c .before .before .before .before .before .before .before .before .args in
+    let the-pre = c .before .before .before .before .before .before .before .before .pre in
     let the-open-message = c .before .before .before .before .before .open-message in
+    let y =
     through-faulty (a .m .now) (the-pre) (openedAs (the-open-message .result)) (the-open-message .ensures .0) (the-open-message .ensures .1) _ _
-    (ap openedAs (sym (c .before .before .before .number .given .1))) (stepped (c .refuse .result)) (c .refuse .ensures)
+    (ap openedAs (sym (c .before .before .before .number .given .1))) (stepped (c .refuse .result)) (c .refuse .ensures) in (
+      y .0,
+      y .1,
+      filed-faulty (a .m .now) (the-pre) (openedAs (the-open-message .result)) (the-open-message .ensures .0) (the-open-message .ensures .1) _ _
+          (ap openedAs (sym (c .before .before .before .number .given .1))) (a .places .now),
+    )
 
 pub read-through-spec : {M : Type 1} → statement M
 read-through-spec =
@@ -53,5 +64,6 @@ read-through-spec =
     enum-known-number
     new-requires
     refuse-requires
+    same-length
     returns
     returns-2)

@@ -1,5 +1,5 @@
 -- `keys::key` meets its contract.
-use Rattle.keys.proofs.Whole.{no-key, the-key}
+use Rattle.keys.proofs.Whole.{no-key-with, the-key-with}
 use borrow.Author.Needs.{needs}
 use Rattle.keys.proofs.key.Statement.{statement}
 use Rattle.keys.proofs.key.Tie as tie
@@ -16,12 +16,24 @@ enum-told-2 c = search needs
 make-key-requires : tie.Need-make-key-requires
 make-key-requires c κs = search needs
 
+same-length : tie.Need-same-length
+same-length c = search needs
+
 returns : tie.Need-returns
-returns c = no-key (c .before .before .before .before .before .args .m .now) (c .before .before .before .read .result) (c .before .before .before .read .ensures) _ _ (c .enum-told .given .1)
+returns c =
+    let a = c .before .before .before .before .before .before .before .before .before .args in
+    let r = c .before .before .before .before .before .read in
+    (no-key-with (a .index .now) (a .m .now) (r .result) (r .ensures .0) _ _ (c .enum-told .given .1), r .ensures .1)
+
+same-length-2 : tie.Need-same-length-2
+same-length-2 c = search needs
 
 returns-2 : tie.Need-returns-2
-returns-2 c = the-key (c .before .before .before .before .before .before .before .args .m .now) (c .before .before .before .before .before .read .result) (c .before .before .before .before .before .read .ensures) _ _ (c .before .before .enum-told2 .given .1) _ (c .make-key .ensures)
+returns-2 c =
+    let a = c .before .before .before .before .before .before .before .before .before .before .before .args in
+    let r = c .before .before .before .before .before .before .before .read in
+    (the-key-with (a .index .now) (a .m .now) (r .result) (r .ensures .0) _ _ (c .before .before .enum-told2 .given .1) _ (c .make-key .ensures), r .ensures .1)
 
 pub key-spec : {M : Type 1} → statement M
 key-spec =
-    tie.close (tie.spec read-requires enum-told enum-told-2 make-key-requires returns returns-2)
+    tie.close (tie.spec read-requires enum-told enum-told-2 make-key-requires same-length returns same-length-2 returns-2)

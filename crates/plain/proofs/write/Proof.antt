@@ -1,7 +1,7 @@
 -- `plain::write` meets its contract.
 use borrow.Author.Needs.{needs}
 use native.Mathlib.Omega.{arith}
-use Rattle.plain.proofs.Answers.{not-accepted, not-over, no-room, has-room}
+use Rattle.plain.proofs.Answers.{not-over, no-room, has-room, refused-with, judged-with, wrote-with}
 use Rattle.plain.proofs.write.Statement.{statement}
 use Rattle.plain.proofs.write.Tie as tie
 
@@ -19,49 +19,63 @@ body-of-requires c κs = search needs
 
 measure-requires : tie.Need-measure-requires
 measure-requires c κs =
-    let a = c .before .before .before .before .before .before .args in
-    let the-judge = c .before .before .before .judge in
-    not-over (a .m .now) (a .area .now) (the-judge .result) (the-judge .ensures) _ _ (c .before .enum-told .given .1) (c .body-of .result .now) (c .body-of .ensures)
+    let a = c .before .before .before .before .before .before .before .before .before .before .args in
+    let j = c .before .before .before .before .before .judge in
+    not-over (a .m .now) (a .area .now) (j .result) (judged-with (a .index .now) (a .m .now) (a .area .now) (j .result) (j .ensures .0) _ _ (c .before .enum-told .given .1)) _ _ (c .before .enum-told .given .1)
+    (c .body-of .result .now) (c .body-of .ensures)
 
 add-n : tie.Need-add-n
 add-n c =
-    let a = c .before .before .before .before .before .before .before .args in
-    let the-judge = c .before .before .before .before .judge in
-    let the-body-of = c .before .body-of in
-    omega
-    (arith, c .measure .ensures, not-over (a .m .now) (a .area .now) (the-judge .result) (the-judge .ensures) _ _ (c .before .before .enum-told .given .1) (the-body-of .result .now) (the-body-of .ensures))
-
-returns : tie.Need-returns
-returns c =
-    let a = c .before .before .before .before .before .before .before .before .args in
-    let the-judge = c .before .before .before .before .before .judge in
-    let the-body-of = c .before .before .body-of in
-    let the-measure = c .before .measure in
-    no-room (a .m .now) (a .area .now) (the-judge .result) (the-judge .ensures) _ _ (c .before .before .before .enum-told .given .1) (the-body-of .result .now)
-    (the-body-of .ensures) (the-measure .result) (the-measure .ensures) (c .if1 .taken)
-
-put-requires : tie.Need-put-requires
-put-requires c κs = search needs
-
-returns-2 : tie.Need-returns-2
-returns-2 c =
-    let a = c .before .before .before .before .before .before .args in
-    let the-judge = c .before .before .before .judge in
-    not-accepted (a .m .now) (a .area .now) (the-judge .result) (the-judge .ensures) _ _ (c .before .v .given .1)
+    let a = c .before .before .before .before .before .before .before .before .before .before .before .args in
+    let j = c .before .before .before .before .before .before .judge in
+    omega (
+      arith,
+      c .measure .ensures,
+      not-over (a .m .now) (a .area .now) (j .result) (judged-with (a .index .now) (a .m .now) (a .area .now) (j .result) (j .ensures .0) _ _ (c .before .before .enum-told .given .1)) _ _
+          (c .before .before .enum-told .given .1) (c .before .body-of .result .now) (c .before .body-of .ensures),
+    )
 
 same-length : tie.Need-same-length
 same-length c = search needs
 
+returns : tie.Need-returns
+returns c =
+    let a = c .before .before .before .before .before .before .before .before .before .before .before .before .args in
+    let j = c .before .before .before .before .before .before .before .judge in (
+      wrote-with (a .index .now) (a .m .now) (a .area .now) (j .result) (j .ensures .0) _ _ (c .before .before .before .enum-told .given .1) _
+          (no-room (a .m .now) (a .area .now) (j .result) (judged-with (a .index .now) (a .m .now) (a .area .now) (j .result) (j .ensures .0) _ _ (c .before .before .before .enum-told .given .1)) _ _
+          (c .before .before .before .enum-told .given .1) (c .before .before .body-of .result .now) (c .before .before .body-of .ensures) (c .before .measure .result) (c .before .measure .ensures) (c .if1 .taken)),
+      j .ensures .1,
+    )
+
+put-requires : tie.Need-put-requires
+put-requires c κs = search needs
+
+same-length-2 : tie.Need-same-length-2
+same-length-2 c = search needs
+
+returns-2 : tie.Need-returns-2
+returns-2 c =
+    let a = c .before .before .before .before .before .before .before .before .before .before .args in
+    let j = c .before .before .before .before .before .judge in
+    (refused-with (a .index .now) (a .m .now) (a .area .now) (j .result) (j .ensures .0) _ _ (c .before .v .given .1), j .ensures .1)
+
+same-length-3 : tie.Need-same-length-3
+same-length-3 c = search needs
+
+same-length-4 : tie.Need-same-length-4
+same-length-4 c = search needs
+
 returns-3 : tie.Need-returns-3
 returns-3 c =
-    let a = c .before .before .before .before .before .before .before .before .before .before .before .before .args in
-    let the-judge = c .before .before .before .before .before .before .before .before .before .judge in
-    let the-enum-told = c .before .before .before .before .before .before .before .enum-told in
-    let the-body-of = c .before .before .before .before .before .before .body-of in
-    let the-measure = c .before .before .before .before .before .measure in
-    let the-put = c .before .before .put in
-    has-room (a .m .now) (a .area .now) (the-judge .result) (the-judge .ensures) _ _ (the-enum-told .given .1) (the-body-of .result .now) (the-body-of .ensures)
-    (the-measure .result) (the-measure .ensures) (c .before .before .before .before .if1 .left) (the-put .last .1 .0) (the-put .ensures)
+    let a = c .before .before .before .before .before .before .before .before .before .before .before .before .before .before .before .before .args in
+    let j = c .before .before .before .before .before .before .before .before .before .before .before .judge in (
+      wrote-with (a .index .now) (a .m .now) (a .area .now) (j .result) (j .ensures .0) _ _ (c .before .before .before .before .before .before .before .enum-told .given .1) _
+          (has-room (a .m .now) (a .area .now) (j .result) (judged-with (a .index .now) (a .m .now) (a .area .now) (j .result) (j .ensures .0) _ _ (c .before .before .before .before .before .before .before .enum-told .given .1)) _ _
+          (c .before .before .before .before .before .before .before .enum-told .given .1) (c .before .before .before .before .before .before .body-of .result .now) (c .before .before .before .before .before .before .body-of .ensures) (c .before .before .before .before .before .measure .result) (c .before .before .before .before .before .measure .ensures) (c .before .before .before .before .if1 .left) (c .before .before .put .last .1 .0)
+          (c .before .before .put .ensures)),
+      j .ensures .1,
+    )
 
 pub write-spec : {M : Type 1} → statement M
 write-spec =
@@ -73,8 +87,11 @@ write-spec =
     body-of-requires
     measure-requires
     add-n
+    same-length
     returns
     put-requires
+    same-length-2
     returns-2
-    same-length
+    same-length-3
+    same-length-4
     returns-3)

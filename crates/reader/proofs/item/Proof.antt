@@ -77,16 +77,19 @@ slice-aggregate-element c = search needs
 slice-aggregate-element-2 : tie.Need-slice-aggregate-element-2
 slice-aggregate-element-2 c = search needs
 
+slice-aggregate-element-3 : tie.Need-slice-aggregate-element-3
+slice-aggregate-element-3 c = search needs
+
 element-requires : tie.Need-element-requires
 element-requires c κs =
-    let a = c .before .before .before .before .before .before .before .before .before .before .before .before .before .before .before .before .before .args in
-    let the-new3 = c .before .before .before .before .before .before .before .before .before .before .before .before .before .new3 in
-    let the-tags-of = c .before .before .before .before .before .before .before .before .before .before .before .before .tags-of in
-    let the-rows-of = c .before .before .before .before .before .before .before .before .before .before .before .rows-of in
-    let the-skip = c .before .before .before .before .before .before .before .before .before .before .skip in
-    let the-item-row = c .before .before .before .before .before .before .before .before .before .item-row in
-    let the-row-at = c .before .before .before .before .before .before .row-at in
-    let the-start-at = c .before .before .before .before .start-at in (
+    let a = c .before .before .before .before .before .before .before .before .before .before .before .before .before .before .before .before .before .before .args in
+    let the-new3 = c .before .before .before .before .before .before .before .before .before .before .before .before .before .before .new3 in
+    let the-tags-of = c .before .before .before .before .before .before .before .before .before .before .before .before .before .tags-of in
+    let the-rows-of = c .before .before .before .before .before .before .before .before .before .before .before .before .rows-of in
+    let the-skip = c .before .before .before .before .before .before .before .before .before .before .before .skip in
+    let the-item-row = c .before .before .before .before .before .before .before .before .before .before .item-row in
+    let the-row-at = c .before .before .before .before .before .before .before .row-at in
+    let the-start-at = c .before .before .before .before .before .start-at in (
       the-skip .ensures .1,
       item-below (a .v) (the-tags-of .result) (the-rows-of .result) (the-row-at .result) (the-item-row .result) (the-tags-of .ensures) (the-rows-of .ensures)
           (the-item-row .ensures (a .v)) (the-row-at .ensures),
@@ -94,7 +97,7 @@ element-requires c κs =
           (the-item-row .ensures (a .v)) (the-row-at .ensures),
       item-within (a .v) (the-tags-of .result) (the-rows-of .result) (the-row-at .result) (the-item-row .result) (the-tags-of .ensures) (the-rows-of .ensures)
           (the-item-row .ensures (a .v)) (the-row-at .ensures) (a .m .now) (the-skip .result .at) (the-skip .ensures .1 .within)
-          (sym (c .before .before .enum-told .given .1) ∙ the-start-at .ensures),
+          (sym (c .before .before .before .enum-told .given .1) ∙ the-start-at .ensures),
       the-tags-of .ensures,
       the-rows-of .ensures,
       item-room (a .v) (the-item-row .result) (the-item-row .ensures (a .v)) _ _ (stated (the-new3 .result)) (stated (the-skip .result)) (the-new3 .ensures) (the-skip .ensures .0),
@@ -114,24 +117,24 @@ refuse-here-requires c κs = search needs
 
 returns-3 : tie.Need-returns-3
 returns-3 c =
-    let a = c .before .before .before .before .before .before .before .before .before .before .before .before .before .before .before .before .before .before .args in
-    let the-if1 = c .before .before .before .before .before .before .before .before .before .before .before .before .before .before .before .before .if1 in
-    let the-if2 = c .before .before .before .before .before .before .before .before .before .before .before .before .before .before .before .if2 in
-    let the-new3 = c .before .before .before .before .before .before .before .before .before .before .before .before .before .before .new3 in
-    let the-tags-of = c .before .before .before .before .before .before .before .before .before .before .before .before .before .tags-of in
-    let the-rows-of = c .before .before .before .before .before .before .before .before .before .before .before .before .rows-of in
-    let the-skip = c .before .before .before .before .before .before .before .before .before .before .before .skip in
-    let the-item-row = c .before .before .before .before .before .before .before .before .before .before .item-row in
-    let the-row-at = c .before .before .before .before .before .before .before .row-at in
-    let the-start-at = c .before .before .before .before .before .start-at in
+    let a = c .before .before .before .before .before .before .before .before .before .before .before .before .before .before .before .before .before .before .before .before .args in
+    let the-if1 = c .before .before .before .before .before .before .before .before .before .before .before .before .before .before .before .before .before .before .if1 in
+    let the-if2 = c .before .before .before .before .before .before .before .before .before .before .before .before .before .before .before .before .before .if2 in
+    let the-new3 = c .before .before .before .before .before .before .before .before .before .before .before .before .before .before .before .before .new3 in
+    let the-tags-of = c .before .before .before .before .before .before .before .before .before .before .before .before .before .before .before .tags-of in
+    let the-rows-of = c .before .before .before .before .before .before .before .before .before .before .before .before .before .before .rows-of in
+    let the-skip = c .before .before .before .before .before .before .before .before .before .before .before .before .before .skip in
+    let the-item-row = c .before .before .before .before .before .before .before .before .before .before .before .before .item-row in
+    let the-row-at = c .before .before .before .before .before .before .before .before .before .row-at in
+    let the-start-at = c .before .before .before .before .before .before .before .start-at in
     item-enters (a .v) (a .m .now) (a .at) (the-if1 .left) (the-if2 .left) (stated (the-new3 .result)) (the-new3 .ensures)
     (stated (the-skip .result)) (the-skip .ensures .0) (the-skip .ensures .1) (the-start-at .result)
     (the-start-at .ensures ∙ ap (λ t. look t (drop (the-skip .result .at) (a .m .now)))
     (item-start (a .v) (the-tags-of .result) (the-rows-of .result) (the-row-at .result) (the-item-row .result) (the-tags-of .ensures) (the-rows-of .ensures)
     (the-item-row .ensures (a .v)) (the-row-at .ensures)))
-    (c .before .before .before .enum-told .given .1) (stepped (c .element .result))
-    (c .element .ensures .0 ∙ ap (λ k. reads (elementIn (due (a .v) k) (a .m .now) (the-skip .result .at)) (the-skip .result .notes)) (the-item-row .ensures (a .v)))
-    (c .element .ensures .1)
+    (c .before .before .before .before .before .enum-told .given .1) (stepped (c .before .element .result))
+    (c .before .element .ensures .0 ∙ ap (λ k. reads (elementIn (due (a .v) k) (a .m .now) (the-skip .result .at)) (the-skip .result .notes)) (the-item-row .ensures (a .v)))
+    (c .before .element .ensures .1)
 
 returns-4 : tie.Need-returns-4
 returns-4 c =
@@ -195,6 +198,7 @@ item-spec =
     enum-told
     slice-aggregate-element
     slice-aggregate-element-2
+    slice-aggregate-element-3
     element-requires
     enum-told-2
     refuse-requires-3

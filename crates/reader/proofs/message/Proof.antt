@@ -3,7 +3,7 @@ use mathlib.Core.Path.{_∙_, ap}
 use Rattle.table.proofs.Rows.{first-row}
 use Rattle.notes.specs.Steps.{stated, stepped}
 use Rattle.reader.proofs.Room.{profile-room}
-use Rattle.reader.proofs.Whole.{message-long, message-far, begins, message-is}
+use Rattle.reader.proofs.Whole.{message-long, message-far, begins, message-is, places-long, places-far, places-are}
 use borrow.Author.Needs.{needs}
 use Rattle.reader.proofs.message.Statement.{statement}
 use Rattle.reader.proofs.message.Tie as tie
@@ -15,7 +15,9 @@ refuse-requires : tie.Need-refuse-requires
 refuse-requires c κs = search needs
 
 returns : tie.Need-returns
-returns c = message-long (c .before .before .before .before .args .v) (c .before .before .before .before .args .m .now) (c .before .before .before .before .args .at) (c .before .before .if1 .taken) (stepped (c .refuse .result)) (c .refuse .ensures)
+returns c =
+    let y = message-long (c .before .before .before .before .before .args .v) (c .before .before .before .before .before .args .m .now) (c .before .before .before .before .before .args .at) (c .before .before .if1 .taken) (stepped (c .refuse .result)) (c .refuse .ensures) in
+    (y .0, y .1, places-long (c .before .before .before .before .before .args .v) (c .before .before .before .before .before .args .m .now) (c .before .before .before .before .before .args .at) (c .before .before .if1 .taken) (c .before .before .before .before .before .args .places .now))
 
 new-requires-2 : tie.Need-new-requires-2
 new-requires-2 c κs = search needs
@@ -25,8 +27,9 @@ refuse-requires-2 c κs = search needs
 
 returns-2 : tie.Need-returns-2
 returns-2 c =
-    let a = c .before .before .before .before .before .args in
-    message-far (a .v) (a .m .now) (a .at) (c .before .before .before .if1 .left) (c .before .before .if2 .taken) (stepped (c .refuse2 .result)) (c .refuse2 .ensures)
+    let a = c .before .before .before .before .before .before .args in
+    let y = message-far (a .v) (a .m .now) (a .at) (c .before .before .before .if1 .left) (c .before .before .if2 .taken) (stepped (c .refuse2 .result)) (c .refuse2 .ensures) in
+    (y .0, y .1, places-far (a .v) (a .m .now) (a .at) (c .before .before .before .if1 .left) (c .before .before .if2 .taken) (a .places .now))
 
 cast-new : tie.Need-cast-new
 cast-new c = search needs
@@ -48,25 +51,29 @@ slice-aggregate-group-2 c = search needs
 
 group-requires : tie.Need-group-requires
 group-requires c κs =
-    let a = c .before .before .before .before .before .before .before .before .args in
-    let the-if1 = c .before .before .before .before .before .before .if1 in
-    let the-if2 = c .before .before .before .before .before .if2 in
-    let the-new3 = c .before .before .before .before .new3 in (
+    let a = c .before .before .before .before .before .before .before .before .before .before .args in
+    let the-if1 = c .before .before .before .before .before .before .before .if1 in
+    let the-if2 = c .before .before .before .before .before .before .if2 in
+    let the-new3 = c .before .before .before .before .before .new3 in (
       begins (a .v) (a .m .now) (a .at) (the-if1 .left) (the-if2 .left) (stated (the-new3 .result)) (the-new3 .ensures),
       first-row (a .v),
-      c .before .before .before .tags-of .ensures,
-      c .before .before .rows-of .ensures,
+      c .before .before .before .before .tags-of .ensures,
+      c .before .before .before .rows-of .ensures,
       profile-room (a .v) (a .at) (stated (the-new3 .result)) (the-new3 .ensures),
     )
 
+same-length : tie.Need-same-length
+same-length c = search needs
+
 returns-3 : tie.Need-returns-3
 returns-3 c =
-    let a = c .before .before .before .before .before .before .before .before .before .args in
-    let the-if1 = c .before .before .before .before .before .before .before .if1 in
-    let the-if2 = c .before .before .before .before .before .before .if2 in
-    let the-new3 = c .before .before .before .before .before .new3 in
-    message-is (a .v) (a .m .now) (a .at) (the-if1 .left) (the-if2 .left) (stated (the-new3 .result)) (the-new3 .ensures)
-    (stepped (c .group .result)) (c .group .ensures .0) (c .group .ensures .1)
+    let a = c .before .before .before .before .before .before .before .before .before .before .before .before .before .args in
+    let the-if1 = c .before .before .before .before .before .before .before .before .before .before .if1 in
+    let the-if2 = c .before .before .before .before .before .before .before .before .before .if2 in
+    let the-new3 = c .before .before .before .before .before .before .before .before .new3 in
+    let y = message-is (a .v) (a .m .now) (a .at) (the-if1 .left) (the-if2 .left) (stated (the-new3 .result)) (the-new3 .ensures)
+    (stepped (c .before .before .group .result)) (c .before .before .group .ensures .0) (c .before .before .group .ensures .1) in
+    (y .0, y .1, places-are (a .v) (a .m .now) (a .at) (the-if1 .left) (the-if2 .left) (stated (the-new3 .result)) (the-new3 .ensures) (a .places .now) _ (c .before .before .group .ensures .2))
 
 pub message-spec : {M : Type 1} → statement M
 message-spec =
@@ -85,4 +92,5 @@ message-spec =
     slice-aggregate-group
     slice-aggregate-group-2
     group-requires
+    same-length
     returns-3)

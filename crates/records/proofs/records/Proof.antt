@@ -1,5 +1,5 @@
 -- `records::records` meets its contract: the judge's refusal, no room, and the records.
-use Rattle.records.proofs.Areas.{not-accepted, no-room, has-room, filled-up}
+use Rattle.records.proofs.Areas.{no-room, has-room, filled-up, refused-with, surveyed-with, answered-with}
 use borrow.Author.Needs.{needs}
 use Rattle.records.proofs.records.Statement.{statement}
 use Rattle.records.proofs.records.Tie as tie
@@ -13,37 +13,51 @@ enum-known-v c = search needs
 enum-known-v-2 : tie.Need-enum-known-v-2
 enum-known-v-2 c = search needs
 
-returns : tie.Need-returns
-returns c =
-    let a = c .before .before .before .before .before .before .before .before .before .args in
-    let the-read = c .before .before .before .before .before .before .read in
-    no-room (a .m .now) (a .area .now) (the-read .result) (the-read .ensures) _ _ (c .before .before .v2 .given .1)
-    (c .if1 .taken)
-
-fill-requires : tie.Need-fill-requires
-fill-requires c κs =
-    let a = c .before .before .before .before .before .before .before .before .before .before .args in
-    let the-read = c .before .before .before .before .before .before .before .read in
-    has-room (a .m .now) (a .area .now) (the-read .result) (the-read .ensures) _ _ (c .before .before .before .v2 .given .1)
-    (c .before .if1 .left)
-
-returns-2 : tie.Need-returns-2
-returns-2 c =
-    let a = c .before .before .before .before .before .before .before .before .args in
-    let the-read = c .before .before .before .before .before .read in
-    not-accepted (a .m .now) (a .area .now) (the-read .result) (the-read .ensures) _ _ (c .before .v .given .1)
-
 same-length : tie.Need-same-length
 same-length c = search needs
 
+returns : tie.Need-returns
+returns c =
+    let a = c .before .before .before .before .before .before .before .before .before .before .before .before .before .args in
+    let r = c .before .before .before .before .before .before .before .before .read in
+    let i = a .index .now in
+    let y = answered-with i (a .m .now) (a .area .now) (r .result) (r .ensures .0) _ _ (c .before .before .v2 .given .1) _ _
+    (no-room (a .m .now) (a .area .now) (r .result) (surveyed-with i (a .m .now) (a .area .now) (r .result) (r .ensures .0) _ _ (c .before .before .v2 .given .1)) _ _ (c .before .before .v2 .given .1)
+    (c .if1 .taken)) in
+    (y .0, y .1, r .ensures .1)
+
+fill-requires : tie.Need-fill-requires
+fill-requires c κs =
+    let a = c .before .before .before .before .before .before .before .before .before .before .before .before .before .before .args in
+    let r = c .before .before .before .before .before .before .before .before .before .read in
+    has-room (a .m .now) (a .area .now) (r .result) (surveyed-with (a .index .now) (a .m .now) (a .area .now) (r .result) (r .ensures .0) _ _ (c .before .before .before .v2 .given .1)) _ _ (c .before .before .before .v2 .given .1)
+    (c .before .if1 .left)
+
+same-length-2 : tie.Need-same-length-2
+same-length-2 c = search needs
+
+returns-2 : tie.Need-returns-2
+returns-2 c =
+    let a = c .before .before .before .before .before .before .before .before .before .before .before .before .args in
+    let r = c .before .before .before .before .before .before .before .read in
+    let y = refused-with (a .index .now) (a .m .now) (a .area .now) (r .result) (r .ensures .0) _ _ (c .before .v .given .1) in
+    (y .0, y .1, r .ensures .1)
+
+same-length-3 : tie.Need-same-length-3
+same-length-3 c = search needs
+
+same-length-4 : tie.Need-same-length-4
+same-length-4 c = search needs
+
 returns-3 : tie.Need-returns-3
 returns-3 c =
-    let a = c .before .before .before .before .before .before .before .before .before .before .before .before .before .args in
-    let the-read = c .before .before .before .before .before .before .before .before .before .before .read in
-    let the-v2 = c .before .before .before .before .before .before .v2 in
-    let the-if1 = c .before .before .before .before .if1 in
-    filled-up (a .m .now) (a .area .now) (the-read .result) (the-read .ensures) _ _ (the-v2 .given .1) (the-if1 .left) _
-    (c .before .before .fill .ensures)
+    let a = c .before .before .before .before .before .before .before .before .before .before .before .before .before .before .before .before .before .args in
+    let r = c .before .before .before .before .before .before .before .before .before .before .before .before .read in
+    let i = a .index .now in
+    let y = answered-with i (a .m .now) (a .area .now) (r .result) (r .ensures .0) _ _ (c .before .before .before .before .before .before .v2 .given .1) _ _
+    (filled-up (a .m .now) (a .area .now) (r .result) (surveyed-with i (a .m .now) (a .area .now) (r .result) (r .ensures .0) _ _ (c .before .before .before .before .before .before .v2 .given .1)) _ _ (c .before .before .before .before .before .before .v2 .given .1)
+    (c .before .before .before .before .if1 .left) _ (c .before .before .fill .ensures)) in
+    (y .0, y .1, r .ensures .1)
 
 pub records-spec : {M : Type 1} → statement M
 records-spec =
@@ -52,8 +66,11 @@ records-spec =
     read-requires
     enum-known-v
     enum-known-v-2
+    same-length
     returns
     fill-requires
+    same-length-2
     returns-2
-    same-length
+    same-length-3
+    same-length-4
     returns-3)
