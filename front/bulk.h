@@ -8,9 +8,15 @@
  *     0, and two values          it holds
  *     number, place, 0           it is refused
  *
- * The caller lends the bytes, the area and the answer for the call. No pointer is null, also where its length is 0, and what is
- * written overlaps nothing else that is lent. The library keeps nothing, allocates nothing and has no state, so that calls may
- * run beside each other. Of other libraries it needs memcpy alone.
+ * The caller lends the bytes, the area, the index and the answer for the call. No pointer is null, also where its length is 0, and
+ * what is written overlaps nothing else that is lent. The library keeps nothing, allocates nothing and has no state, so that calls
+ * may run beside each other, each with an index of its own. Of other libraries it needs memcpy alone. What judges a message keeps a
+ * list of 40,004 bytes on the stack.
+ *
+ * An index is a lent list of BULK_INDEX numbers or more, which may hold anything; index_length is how many they are, and not their
+ * bytes. By it no TxId twice in a bulk is found quickly. When the call returns every number of it is 0, however many they are,
+ * accepted or refused. With fewer numbers than BULK_INDEX the answer is 25, 0, 0, before all others of the judge, and index and area
+ * are as lent.
  */
 #ifndef BULK_H
 #define BULK_H
@@ -28,20 +34,29 @@ extern "C" {
 /* The bytes of one posting record; docs/PROFILE.md has its fields. */
 #define BULK_RECORD 320
 
+/* The fewest numbers of an index. */
+#define BULK_INDEX 16384
+
 /* A message: 0, its count, its cents; or number, place, 0. */
-void bulk_judge(const uint8_t *message, size_t length, uint64_t answer[BULK_ANSWER]);
+void bulk_judge(const uint8_t *message, size_t length, uint32_t *index, size_t index_length, uint64_t answer[BULK_ANSWER]);
+
+/* The same without an index, never 25: each TxId is compared with all before it, so its time grows with the square of the items. */
+void bulk_judge_plainly(const uint8_t *message, size_t length, uint64_t answer[BULK_ANSWER]);
 
 /* Where item i lies, from 0: 0, the place of its `<`, the place behind its `>`; or number, place, 0. It judges the whole message. */
-void bulk_item(const uint8_t *message, size_t length, uint64_t i, uint64_t answer[BULK_ANSWER]);
+void bulk_item(const uint8_t *message, size_t length, uint64_t i, uint32_t *index, size_t index_length,
+               uint64_t answer[BULK_ANSWER]);
 
 /* The posting records: 0, count, cents, and the area begins with the records, one for each item in order; or number, place, 0, and
  * the area is as lent. Bytes behind the last record are as lent. */
-void bulk_records(const uint8_t *message, size_t length, uint8_t *area, size_t area_length, uint64_t answer[BULK_ANSWER]);
+void bulk_records(const uint8_t *message, size_t length, uint8_t *area, size_t area_length, uint32_t *index, size_t index_length,
+                  uint64_t answer[BULK_ANSWER]);
 
 /* The plain form, which two messages share exactly when they say the same in one version: 0, its length, 0, and the area begins with
  * it; or number, place, 0, and the area is as lent. Bytes behind the form are as lent. It is at most 38 bytes, and 3 for the total and
  * for each item, longer than the message. */
-void bulk_plain(const uint8_t *message, size_t length, uint8_t *area, size_t area_length, uint64_t answer[BULK_ANSWER]);
+void bulk_plain(const uint8_t *message, size_t length, uint8_t *area, size_t area_length, uint32_t *index, size_t index_length,
+                uint64_t answer[BULK_ANSWER]);
 
 /* One value: 0, 0, 0; or number, 0, 0. The number is 7; of an IBAN 7, 19 or 8, of a creditor identifier 7 or 8. An EndToEndId and the
  * two texts are judged with their white space collapsed: tab, CR and LF count as space, runs become one, ends are stripped. bulk_bic
@@ -94,9 +109,9 @@ typedef struct bulk_entry {
 } bulk_entry;
 
 /* A message is entered: 0, the number open afterwards, the bulk's cents, and its entry stands behind the open ones, every other place
- * as lent; or number, place, 0: 29; the judge's own with its place; 20, its key is open already; 21, 64 are open. */
-void bulk_book_enter(bulk_entry *entries, size_t places, size_t opened, const uint8_t *message, size_t length,
-                     uint64_t answer[BULK_ANSWER]);
+ * as lent; or number, place, 0: 29; 25; the judge's own with its place; 20, its key is open already; 21, 64 are open. */
+void bulk_book_enter(bulk_entry *entries, size_t places, size_t opened, const uint8_t *message, size_t length, uint32_t *index,
+                     size_t index_length, uint64_t answer[BULK_ANSWER]);
 
 /* A key is withdrawn: 0, the number open afterwards, the bulk's cents, and the open ones behind it stand one place further down;
  * places past those that are still open keep what they held, also the one that has become free. Or number, 0, 0: 29; 22, the key is

@@ -18,6 +18,45 @@ static void hold(const char *what, const uint64_t answer[BULK_ANSWER], uint64_t 
     }
 }
 
+/* The index of most calls, between numbers that are not lent: it has rubbish in it before each call, and zeros behind it. */
+#define BESIDE 3
+static uint32_t numbers[BESIDE + BULK_INDEX + BESIDE];
+static uint32_t *const lent = numbers + BESIDE;
+
+/* Fills the index and what stands beside it. */
+static void fill(uint32_t rubbish)
+{
+    for (size_t i = 0; i < BESIDE + BULK_INDEX + BESIDE; i++) {
+        numbers[i] = rubbish + (uint32_t)i;
+    }
+}
+
+/* Holds so many numbers of the index, and those beside it, to what they must be after a call: zeros, or as they were filled. */
+static void hold_index(const char *what, uint32_t rubbish, size_t many, int is_cleared)
+{
+    for (size_t i = 0; i < BESIDE + BULK_INDEX + BESIDE; i++) {
+        int is_lent = i >= BESIDE && i < BESIDE + many;
+        uint32_t must = is_lent && is_cleared ? 0 : rubbish + (uint32_t)i;
+        if (numbers[i] != must) {
+            printf("%s: number %d beside or of the index is %u, and not %u\n", what, (int)i, (unsigned)numbers[i], (unsigned)must);
+            wrong++;
+            return;
+        }
+    }
+}
+
+/* The judge with rubbish in the index, and the judge without one: both answer the same. */
+static void judge(const char *what, const uint8_t *message, size_t length, uint64_t first, uint64_t second, uint64_t third)
+{
+    uint64_t answer[BULK_ANSWER], plainly[BULK_ANSWER];
+    fill(1);
+    bulk_judge(message, length, lent, BULK_INDEX, answer);
+    hold_index(what, 1, BULK_INDEX, 1);
+    hold(what, answer, first, second, third);
+    bulk_judge_plainly(message, length, plainly);
+    hold(what, plainly, first, second, third);
+}
+
 /* Asks a single checker for a value. */
 static void check(checker *of, const char *value, uint64_t number, uint64_t worth)
 {
@@ -83,18 +122,86 @@ static uint64_t behind(const uint8_t *message, const char *tag)
     return found ? (uint64_t)(found - text) + strlen(tag) : 0;
 }
 
+/* Indexes of several lengths: too short is 25, and longer is cleared to its end. */
+static void check_index(const uint8_t *message, size_t length)
+{
+    static const size_t short_ones[] = {0, 1, BULK_INDEX / 2, BULK_INDEX - 1};
+    static uint32_t longer[4 * BULK_INDEX];
+    uint64_t answer[BULK_ANSWER];
+    for (size_t i = 0; i < sizeof short_ones / sizeof *short_ones; i++) {
+        fill(11);
+        bulk_judge(message, length, lent, short_ones[i], answer);
+        hold("judge, an index too short", answer, 25, 0, 0);
+        bulk_item(message, length, 0, lent, short_ones[i], answer);
+        hold("item, an index too short", answer, 25, 0, 0);
+        bulk_judge(message, 0, lent, short_ones[i], answer);
+        hold("judge, nothing and an index too short", answer, 25, 0, 0);
+        hold_index("an index too short", 11, short_ones[i], 0);
+    }
+    memset(longer, 0xff, sizeof longer);
+    bulk_judge(message, length - 1, longer, 4 * BULK_INDEX, answer);
+    hold("judge, cut, a longer index", answer, 3, length - 1, 0);
+    for (size_t i = 0; i < 4 * BULK_INDEX; i++) {
+        if (longer[i] != 0) {
+            printf("a longer index: number %d is not 0\n", (int)i);
+            wrong++;
+            return;
+        }
+    }
+}
+
+/* The example with its item so often, each with a TxId of its own, `A1`, `B1` and so on, in a message of any count and total.
+ * Answers its length. */
+static size_t repeated(const uint8_t *message, size_t length, uint8_t *other, size_t items)
+{
+    size_t start = behind(message, "</GrpHdr>"), end = behind(message, "</DrctDbtTxInf>");
+    size_t id = behind(message, "<TxId>") - start, written = start;
+    memcpy(other, message, start);
+    for (size_t i = 0; i < items; i++) {
+        memcpy(other + written, message + start, end - start);
+        other[written + id] = (uint8_t)('A' + i);
+        written += end - start;
+    }
+    memcpy(other + written, message + end, length - end);
+    other[behind(message, "<NbOfTxs>")] = (uint8_t)('0' + items);
+    return written + length - end;
+}
+
+/* Three items of 12.34 euros: with three TxIds the total is wrong, 15; with one of them twice it is 24 at the second one, before its
+ * end tag and all that follows it. */
+static void check_twice(const uint8_t *message, size_t length)
+{
+    static uint8_t three[8192];
+    size_t all = repeated(message, length, three, 3);
+    size_t item = behind(message, "</DrctDbtTxInf>") - behind(message, "</GrpHdr>");
+    size_t first = behind(message, "<TxId>"), total = behind(message, "<TtlIntrBkSttlmAmt Ccy=\"EUR\">");
+    judge("three TxIds", three, all, 15, total, 0);
+    three[first + 2 * item] = 'A';
+    judge("the third TxId is the first", three, all, 24, first + 2 * item, 0);
+    three[first + item] = 'A';
+    judge("three times the same TxId", three, all, 24, first + item, 0);
+    three[first + item + 3] = 'x';
+    judge("the same TxId, and a wrong end tag", three, all, 24, first + item, 0);
+    judge("the same TxId, cut behind its `<`", three, first + item + 3, 24, first + item, 0);
+    judge("the same TxId, cut before its `<`", three, first + item + 2, 3, first + item + 2, 0);
+    three[first + item] = '_';
+    judge("no reference", three, all, 7, first + item, 0);
+}
+
 /* The judge and the item of the example, whole and without its last byte. */
 static void check_message(const uint8_t *message, size_t length)
 {
     uint64_t answer[BULK_ANSWER];
-    bulk_judge(message, length, answer);
-    hold("judge", answer, 0, 1, 1234);
-    bulk_judge(message, length - 1, answer);
-    hold("judge, cut", answer, 3, length - 1, 0);
-    bulk_item(message, length, 0, answer);
+    judge("judge", message, length, 0, 1, 1234);
+    judge("judge, cut", message, length - 1, 3, length - 1, 0);
+    fill(0xfffffff0);
+    bulk_item(message, length, 0, lent, BULK_INDEX, answer);
     hold("item", answer, 0, behind(message, "</GrpHdr>"), behind(message, "</DrctDbtTxInf>"));
-    bulk_item(message, length, 1, answer);
+    hold_index("item", 0xfffffff0, BULK_INDEX, 1);
+    fill(7);
+    bulk_item(message, length, 1, lent, BULK_INDEX, answer);
     hold("item, not there", answer, 18, 0, 0);
+    hold_index("item, not there", 7, BULK_INDEX, 1);
 }
 
 /* The example in version 001.08: another root, and each BIC is BICFI. Answers its length. */
@@ -116,21 +223,16 @@ static size_t in_08(const uint8_t *message, size_t length, uint8_t *other)
 static void check_versions(const uint8_t *message, size_t length)
 {
     static uint8_t other[4096];
-    uint64_t answer[BULK_ANSWER];
     size_t number = (size_t)behind(message, "pacs.003.001.0");
     size_t other_length = in_08(message, length, other);
-    bulk_judge(other, other_length, answer);
-    hold("judge, version 001.08", answer, 0, 1, 1234);
+    judge("judge, version 001.08", other, other_length, 0, 1, 1234);
     other[number] = '2';
-    bulk_judge(other, other_length, answer);
-    hold("judge, BICFI in version 001.02", answer, 4, behind(other, "<FinInstnId>"), 0);
+    judge("judge, BICFI in version 001.02", other, other_length, 4, behind(other, "<FinInstnId>"), 0);
     other[number] = '9';
-    bulk_judge(other, other_length, answer);
-    hold("judge, neither version", answer, 2, 0, 0);
+    judge("judge, neither version", other, other_length, 2, 0, 0);
     memcpy(other, message, length);
     other[number] = '8';
-    bulk_judge(other, length, answer);
-    hold("judge, BIC in version 001.08", answer, 4, behind(message, "<FinInstnId>"), 0);
+    judge("judge, BIC in version 001.08", other, length, 4, behind(message, "<FinInstnId>"), 0);
 }
 
 /* A book with two places more than it must have: as entries, and as the bytes that the header names. */
@@ -192,7 +294,9 @@ static void enter(const uint8_t *message, size_t length, size_t opened, size_t i
     memcpy(numbered, message, length);
     id[3] = (uint8_t)('0' + i / 10);
     id[4] = (uint8_t)('0' + i % 10);
-    bulk_book_enter(open_bulks.entries, PLACES, opened, numbered, length, answer);
+    fill((uint32_t)i);
+    bulk_book_enter(open_bulks.entries, PLACES, opened, numbered, length, lent, BULK_INDEX, answer);
+    hold_index("enter", (uint32_t)i, BULK_INDEX, 1);
 }
 
 /* 64 bulks are entered, each behind the one before; no second with the same key, and no 65th. */
@@ -214,6 +318,16 @@ static void check_enter(const uint8_t *message, size_t length)
     enter(message, length - 1, BULK_BOOK, 99, answer);
     hold("enter, refused by the judge", answer, 3, length - 1, 0);
     hold_book("enter, refused");
+    fill(9);
+    bulk_book_enter(open_bulks.entries, PLACES, BULK_BOOK, message, length, lent, BULK_INDEX - 1, answer);
+    hold("enter, an index too short", answer, 25, 0, 0);
+    bulk_book_enter(open_bulks.entries, BULK_BOOK - 1, 0, message, length, lent, BULK_INDEX - 1, answer);
+    hold("enter, no book and an index too short", answer, 29, 0, 0);
+    hold_index("enter, an index too short", 9, BULK_INDEX - 1, 0);
+    hold_book("enter, an index too short");
+    bulk_book_enter(open_bulks.entries, BULK_BOOK - 1, 0, message, length, lent, BULK_INDEX, answer);
+    hold("enter, no book", answer, 29, 0, 0);
+    hold_index("enter, no book", 9, BULK_INDEX, 1);
 }
 
 /* In that book: a key is found, withdrawn from the middle, and entered again as the last. */
@@ -279,13 +393,18 @@ static void check_records(const uint8_t *message, size_t length, const uint8_t r
     uint64_t answer[BULK_ANSWER];
     uint8_t area[BULK_RECORD + 1];
     memset(area, 7, sizeof area);
-    bulk_records(message, length, area, BULK_RECORD - 1, answer);
+    fill(3);
+    bulk_records(message, length, area, sizeof area, lent, BULK_INDEX - 1, answer);
+    hold("records, an index too short", answer, 25, 0, 0);
+    hold_index("records, an index too short", 3, BULK_INDEX - 1, 0);
+    bulk_records(message, length, area, BULK_RECORD - 1, lent, BULK_INDEX, answer);
     hold("records, an area too small", answer, 17, 0, 0);
+    hold_index("records, an area too small", 3, BULK_INDEX, 1);
     if (area[0] != 7 || memcmp(area, area + 1, BULK_RECORD) != 0) {
         printf("records, an area too small: the area is not as lent\n");
         wrong++;
     }
-    bulk_records(message, length, area, sizeof area, answer);
+    bulk_records(message, length, area, sizeof area, lent, BULK_INDEX, answer);
     hold("records", answer, 0, 1, 1234);
     if (memcmp(area, record, BULK_RECORD) != 0 || area[BULK_RECORD] != 7) {
         printf("records: not the record, or more than it\n");
@@ -302,7 +421,7 @@ static void check_no_instruction(const uint8_t *message, size_t length, const ui
     uint8_t area[BULK_RECORD], due[BULK_RECORD];
     memcpy(shorter, message, start);
     memcpy(shorter + start, message + end, length - end);
-    bulk_records(shorter, length - (end - start), area, sizeof area, answer);
+    bulk_records(shorter, length - (end - start), area, sizeof area, lent, BULK_INDEX, answer);
     hold("records, no InstrId", answer, 0, 1, 1234);
     memcpy(due, record, BULK_RECORD);
     memset(due + 255, ' ', 35);
@@ -320,13 +439,18 @@ static void check_plain(const uint8_t *message, size_t length)
     size_t before = sizeof declaration - 1, whole = before + length;
     uint64_t answer[BULK_ANSWER];
     memset(area, 7, sizeof area);
-    bulk_plain(message, length, area, whole - 1, answer);
+    fill(5);
+    bulk_plain(message, length, area, whole + 1, lent, BULK_INDEX - 1, answer);
+    hold("plain, an index too short", answer, 25, 0, 0);
+    hold_index("plain, an index too short", 5, BULK_INDEX - 1, 0);
+    bulk_plain(message, length, area, whole - 1, lent, BULK_INDEX, answer);
     hold("plain, an area too small", answer, 17, 0, 0);
+    hold_index("plain, an area too small", 5, BULK_INDEX, 1);
     if (area[0] != 7 || memcmp(area, area + 1, sizeof area - 1) != 0) {
         printf("plain, an area too small: the area is not as lent\n");
         wrong++;
     }
-    bulk_plain(message, length, area, whole + 1, answer);
+    bulk_plain(message, length, area, whole + 1, lent, BULK_INDEX, answer);
     hold("plain", answer, 0, whole, 0);
     if (memcmp(area, declaration, before) != 0 || memcmp(area + before, message, length) != 0 || area[whole] != 7) {
         printf("plain: not the plain form, or more than it\n");
@@ -346,10 +470,10 @@ static void check_collapsed(const uint8_t *message, size_t length, const uint8_t
     memcpy(spelled + start + 1, message + start, end - start);
     spelled[end + 1] = '\n';
     memcpy(spelled + end + 2, message + end, length - end);
-    bulk_records(spelled, length + 2, area, sizeof area, answer);
+    bulk_records(spelled, length + 2, area, sizeof area, lent, BULK_INDEX, answer);
     hold("records, collapsed", answer, 0, 1, 1234);
-    bulk_plain(message, length, form, sizeof form, answer);
-    bulk_plain(spelled, length + 2, other, sizeof other, answer);
+    bulk_plain(message, length, form, sizeof form, lent, BULK_INDEX, answer);
+    bulk_plain(spelled, length + 2, other, sizeof other, lent, BULK_INDEX, answer);
     hold("plain, collapsed", answer, 0, length + 38, 0);
     if (memcmp(area, record, BULK_RECORD) != 0 || memcmp(form, other, sizeof form) != 0) {
         printf("collapsed: not the record, or not the plain form\n");
@@ -367,6 +491,8 @@ int main(int words, char **word)
     }
     check_values();
     check_message(message, length);
+    check_index(message, length);
+    check_twice(message, length);
     check_versions(message, length);
     check_layout();
     check_enter(message, length);

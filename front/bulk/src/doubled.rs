@@ -1,5 +1,6 @@
-//! Doubled items: a TxId that stands more than once, and items that agree in all that matters under
-//! different TxIds. Each item is looked up once, so ten thousand take no longer than they must.
+//! Doubled items: a TxId that stands more than once, for which a bulk is refused, and items that agree in
+//! all that matters under different TxIds, which are warned of. Each item is looked up once, so ten
+//! thousand take no longer than they must.
 
 use crate::language::Language;
 use crate::message::Item;
@@ -12,17 +13,16 @@ pub type Group = Vec<usize>;
 
 /// The doubled items of a bulk, each list in the order of the first item of its groups.
 #[derive(Debug, Default, PartialEq, Eq)]
-pub struct Doubled {
-    /// The same TxId.
-    pub same: Vec<Group>,
+pub struct Doubled<'a> {
+    /// Each TxId that stands more than once, and its items.
+    pub same: Vec<(&'a [u8], Group)>,
     /// Different TxIds, and the same EndToEndId (collapsed), debtor IBAN, amount and collection date.
     pub alike: Vec<Group>,
 }
 
-impl Doubled {
+impl<'a> Doubled<'a> {
     /// The doubled ones among the items.
-    pub fn among(items: &[Item]) -> Doubled {
-        let same = groups(items, |item| Some(item.tx_id).filter(|tx_id| !tx_id.is_empty()));
+    pub fn among(items: &[Item<'a>]) -> Doubled<'a> {
         let mut alike = groups(items, |item| {
             let texts = [&*item.end_to_end_id, item.debtor_iban, item.collection_date];
             item.cents.filter(|_| !texts.contains(&&b""[..])).map(|cents| (cents, texts))
@@ -31,7 +31,14 @@ impl Doubled {
         alike.retain(|group| {
             group.iter().any(|&number| items[number - 1].tx_id != items[group[0] - 1].tx_id)
         });
-        Doubled { same, alike }
+        Doubled { alike, ..Doubled::same_among(items) }
+    }
+
+    /// Those with the same TxId alone.
+    pub fn same_among(items: &[Item<'a>]) -> Doubled<'a> {
+        let same = groups(items, |item| Some(item.tx_id).filter(|tx_id| !tx_id.is_empty()));
+        let named = |group: Group| (items[group[0] - 1].tx_id, group);
+        Doubled { same: same.into_iter().map(named).collect(), alike: Vec::new() }
     }
 }
 
@@ -66,15 +73,16 @@ pub fn other(group: &Group, number: usize) -> usize {
     }
 }
 
-/// The warnings, a line for each group, indented below the line that they belong to.
-pub fn warnings(items: &[Item], doubled: &Doubled, language: Language) -> String {
+/// What is told below a line, indented, with a line for each group: the TxIds that stand more than once,
+/// and the warning of items that look doubled.
+pub fn told(items: &[Item], doubled: &Doubled, language: Language) -> String {
     let mut text = String::new();
     let (warning, word) = language.say(("Warning", "items"), ("Warnung", "Posten"));
     if !doubled.same.is_empty() {
         let heading = language.say("TxId more than once", "TxId mehrfach");
-        text.push_str(&format!("  {warning}: {heading} ({}):\n", doubled.same.len()));
-        for group in &doubled.same {
-            let tx_id = shown(items[group[0] - 1].tx_id);
+        text.push_str(&format!("  {heading} ({}):\n", doubled.same.len()));
+        for (tx_id, group) in &doubled.same {
+            let tx_id = shown(tx_id);
             text.push_str(&format!("    {tx_id}: {word} {}\n", numbers(group, language)));
         }
     }
@@ -146,8 +154,10 @@ mod tests {
             item("B", "7", 7),
         ];
         let doubled = Doubled::among(&items);
-        assert_eq!(doubled.same, [vec![1, 3, 7], vec![2, 6]]);
+        assert_eq!(doubled.same, [(&b"B"[..], vec![1, 3, 7]), (b"A", vec![2, 6])]);
         assert_eq!(doubled.alike, [vec![1, 3, 4]]);
+        let same = Doubled::same_among(&items);
+        assert_eq!((same.same, same.alike), (doubled.same, Vec::new()));
         assert_eq!(Doubled::among(&items[3..6]), Doubled::default());
         // Another date or another account is another payment, and what was not read agrees with nothing.
         let other_date = Item { collection_date: b"2026-10-31", ..item("E", "1", 5) };
@@ -162,7 +172,8 @@ mod tests {
         let items = [item("A", "1", 5), item("A", "1", 5)];
         let doubled = Doubled::among(&items);
         assert_eq!((doubled.same.len(), doubled.alike.len()), (1, 0));
-        assert_eq!(by_item(&doubled.same, 2), [Some(&vec![1, 2]), Some(&vec![1, 2])]);
+        let groups = [vec![1, 2]];
+        assert_eq!(by_item(&groups, 3), [Some(&groups[0]), Some(&groups[0]), None]);
         assert_eq!((other(&vec![1, 2, 5], 1), other(&vec![1, 2, 5], 5)), (2, 1));
     }
 

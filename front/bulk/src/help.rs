@@ -14,7 +14,7 @@ bulk judges a SEPA direct-debit bulk, pacs.003.001.02 or .08, before signing.
 
   bulk judge FILE..       one line per file: accepted with count and total, or
                           refused with place and why. In short: bulk FILE..
-  bulk items FILE         table of the items, doubled ones marked
+  bulk items FILE         table of the items; what looks doubled is marked
   bulk records FILE OUT   write the posting records to OUT, whole or not at all
   bulk plain FILE [OUT]   the plain form: no indentation, no needless zeros
   bulk same FILE FILE     whether two plain forms are the same, or what differs
@@ -41,7 +41,7 @@ bulk prüft einen SEPA-Lastschrift-Bulk (Sammler), pacs.003.001.02 oder .08.
 
   bulk judge DATEI..       je Datei eine Zeile: angenommen mit Anzahl und Summe
                            oder abgelehnt mit Stelle und Grund. Kurz: bulk DATEI
-  bulk items DATEI         Tabelle der Posten, doppelte markiert
+  bulk items DATEI         Tabelle der Posten, doppelt aussehende markiert
   bulk records DATEI ZIEL  Buchungssätze nach ZIEL, ganz oder gar nicht
   bulk plain DATEI [ZIEL]  Normalform: ohne Einrückung und überflüssige Nullen
   bulk same DATEI DATEI    ob zwei Normalformen gleich sind, sonst was abweicht

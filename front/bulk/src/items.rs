@@ -11,11 +11,11 @@ use crate::verdict::{Judged, Verdict};
 use crate::{csv, euro, out, read, Status};
 use std::ffi::OsStr;
 
-/// An item as a row: its number from 1, what it says, and the doubles of it.
+/// An item as a row: its number from 1, what it says, and the items that look like it. None has its
+/// TxId: that is 24.
 pub struct Row<'a> {
     pub number: usize,
     pub item: &'a Item<'a>,
-    pub same: Option<&'a Group>,
     pub alike: Option<&'a Group>,
 }
 
@@ -62,12 +62,11 @@ fn agree(judged: &Judged) -> Result<(), Trouble> {
     }
 }
 
-/// The items as rows, each with its doubles.
+/// The items as rows, each with those that look like it.
 fn rows<'a>(judged: &'a Judged) -> Vec<Row<'a>> {
     let items = &judged.contents.items;
-    let same = by_item(&judged.doubled.same, items.len());
     let alike = by_item(&judged.doubled.alike, items.len());
-    let row = |(at, item)| Row { number: at + 1, item, same: same[at], alike: alike[at] };
+    let row = |(at, item)| Row { number: at + 1, item, alike: alike[at] };
     items.iter().enumerate().map(row).collect()
 }
 
@@ -77,18 +76,17 @@ impl Row<'_> {
         self.item.cents.unwrap_or(0)
     }
 
-    /// Which item it is a double of, in words; empty for none.
+    /// Another item that looks like it: one is enough to find the rest, and ten thousand doubles stay ten
+    /// thousand lines.
+    fn other(&self) -> Option<usize> {
+        self.alike.map(|group| doubled::other(group, self.number))
+    }
+
+    /// Which item it looks like, in words; empty for none.
     pub fn mark(&self, language: Language) -> String {
-        let other = |group: &Group| doubled::other(group, self.number);
-        match (self.same.map(other), self.alike.map(other)) {
-            (Some(number), _) => {
-                language.say(format!("same TxId as {number}"), format!("TxId wie {number}"))
-            }
-            (None, Some(number)) => {
-                language.say(format!("looks like {number}"), format!("sieht aus wie {number}"))
-            }
-            (None, None) => String::new(),
-        }
+        self.other().map_or(String::new(), |number| {
+            language.say(format!("looks like {number}"), format!("sieht aus wie {number}"))
+        })
     }
 }
 
@@ -103,8 +101,6 @@ fn plain(row: &Row) -> String {
 /// A row as an object.
 fn json(row: &Row) -> String {
     let item = row.item;
-    // One other item is enough to find the rest, and ten thousand doubles stay ten thousand lines.
-    let other = |group: &Group| doubled::other(group, row.number) as u64;
     let object = Object::default()
         .number("item", row.number as u64)
         .number("place", item.place as u64)
@@ -119,13 +115,14 @@ fn json(row: &Row) -> String {
         .text("mandate_date", item.mandate_date)
         .text("sequence", item.sequence)
         .text("instrument", item.instrument)
-        .number_or_null("doubled", row.same.map(other))
-        .number_or_null("looks_doubled", row.alike.map(other));
+        // No two items of such a bulk have one TxId. The key stays for the programs that read it.
+        .raw("doubled", "null")
+        .number_or_null("looks_doubled", row.other().map(|number| number as u64));
     format!("{}\n", object.end())
 }
 
 /// The table, each column as wide as it must be, and a last line with count and total. The column for
-/// doubled items is there only if there are any.
+/// items that look doubled is there only if there are any.
 fn table(rows: &[Row], cents: u64, language: Language) -> String {
     let heading = language.say(
         ["No", "Place", "TxId", "EndToEndId", "Debtor IBAN", "Cents", "EUR", "Doubled"],

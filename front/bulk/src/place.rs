@@ -61,7 +61,7 @@ pub enum Found<'a> {
 pub fn found(message: &[u8], number: u64, place: usize) -> Found<'_> {
     let rest = &message[place.min(message.len())..];
     match number {
-        1 | 17 | 18 => Found::Nothing,
+        1 | 17 | 18 | 25 => Found::Nothing,
         3 if message.is_empty() => Found::NoByte,
         3 => Found::End(message),
         6 => Found::Bytes(&rest[..rest.len().min(3)]),
@@ -183,6 +183,8 @@ mod tests {
         assert_eq!(found(b"", 3, 0), Found::NoByte);
         assert_eq!(found(b"<D", 3, 2), Found::End(b"<D"));
         assert_eq!(found(b"big", 1, 0), Found::Nothing);
+        assert_eq!(found(b"<TxId>T1</TxId>", 24, 6), Found::Bytes(b"T1"));
+        assert_eq!(found(b"big", 25, 0), Found::Nothing);
         assert_eq!(found(CUT, 6, at("USD")), Found::Bytes(b"USD"));
         assert_eq!(found(CUT, 8, at("DE<")), Found::Bytes(b"DE"));
         assert_eq!(found(CUT, 4, at("<GrpHdr>")), Found::Bytes(b"<GrpHdr>"));

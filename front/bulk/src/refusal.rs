@@ -70,6 +70,14 @@ impl<'a> Refusal<'a> {
         Refusal { number, place, line, column, path, item, found, why, against }
     }
 
+    /// The number of the earlier item, from 1, whose TxId the refused one has.
+    pub fn earlier(&self) -> Option<usize> {
+        match self.why {
+            Some(Why::SameAs { earlier, .. }) => Some(earlier),
+            _ => None,
+        }
+    }
+
     /// In words: number, place, element, payment, what was found and why, the sentence of the number.
     pub fn words(&self, language: Language) -> String {
         let Refusal { number, place, line, column, .. } = self;
@@ -206,6 +214,10 @@ fn reason<'a>(
         (10, _, Some(Content::Code(codes))) => Some(Why::Codes(codes)),
         (11, ..) => Some(Why::FirstHas(contents.instrument())),
         (19, Found::Bytes(value), _) => Some(country(value)),
+        (24, Found::Bytes(id), _) => {
+            let earlier = contents.items.iter().position(|item| item.tx_id == *id)? + 1;
+            Some(Why::SameAs { item: open.items, earlier })
+        }
         (23, ..) => Some(Why::HeaderHas(contents.header.instrument, contents.header.sequence)),
         _ => None,
     }

@@ -1,6 +1,6 @@
 //! The verdict on one message, with all that is told of it, in each form.
 
-use crate::doubled::{self, Doubled};
+use crate::doubled::{self, Doubled, Group};
 use crate::json::Object;
 use crate::language::Language;
 use crate::message::{self, Contents, Item};
@@ -67,7 +67,7 @@ pub struct Judged<'a> {
     pub message: &'a [u8],
     pub verdict: Verdict,
     pub contents: Contents<'a>,
-    pub doubled: Doubled,
+    pub doubled: Doubled<'a>,
     /// The first file of the same call that has the same MsgId.
     pub same_msg_id: Option<OsString>,
 }
@@ -78,10 +78,14 @@ impl<'a> Judged<'a> {
         let verdict = Verdict::of(message);
         let contents = message::read(message, verdict.reach(message));
         let doubled = match verdict {
-            Verdict::Refused { number, .. } if ![12, 14, 15].contains(&number) => {
-                Doubled::default()
+            Verdict::Accepted { .. } | Verdict::Refused { number: 12 | 14 | 15, .. } => {
+                Doubled::among(&contents.items)
             }
-            _ => Doubled::among(&contents.items),
+            // One is where reading ended. The others stand behind it too, and are found by their tags.
+            Verdict::Refused { number: 24, .. } => {
+                Doubled::same_among(&message::read(message, message.len()).items)
+            }
+            Verdict::Refused { .. } => Doubled::default(),
         };
         Judged { name, message, verdict, contents, doubled, same_msg_id: None }
     }
@@ -116,7 +120,7 @@ impl<'a> Judged<'a> {
         self.contents.version.map_or("", Version::name)
     }
 
-    /// What stands below the line, indented: an excerpt of the place, and the warnings.
+    /// What stands below the line, indented: an excerpt of the place, doubled items, and the warnings.
     pub fn below(&self, language: Language) -> String {
         let mut text = match self.verdict {
             Verdict::Refused { number, place } if number != 1 && !self.message.is_empty() => {
@@ -124,7 +128,7 @@ impl<'a> Judged<'a> {
             }
             _ => String::new(),
         };
-        text.push_str(&doubled::warnings(&self.contents.items, &self.doubled, language));
+        text.push_str(&doubled::told(&self.contents.items, &self.doubled, language));
         if let Some(file) = &self.same_msg_id {
             let (id, file) = (shown(self.contents.header.msg_id), show::name(file));
             text.push_str(&language.say(
@@ -162,7 +166,7 @@ impl<'a> Judged<'a> {
             .text_or_null("settlement_date", header.settlement_date)
             .text_or_null("instrument", self.contents.instrument())
             .text_or_null("version", self.version().as_bytes())
-            .list("doubled", self.doubled.same.iter().map(|group| same_json(items, group)))
+            .list("doubled", self.doubled.same.iter().map(same_json))
             .list("looks_doubled", self.doubled.alike.iter().map(|group| alike_json(items, group)))
             .text_or_null(
                 "same_msg_id",
@@ -198,6 +202,7 @@ fn no_refusal(object: Object) -> Object {
         "meaning",
         "header",
         "items",
+        "earlier_item",
     ];
     keys.iter().fold(object, |object, key| object.raw(key, "null"))
 }
@@ -232,6 +237,7 @@ fn refused(object: Object, refusal: &Refusal, language: Language) -> Object {
         .text("meaning", meaning.as_bytes())
         .text_or_null("header", header.as_bytes())
         .text_or_null("items", items.as_bytes())
+        .number_or_null("earlier_item", refusal.earlier().map(|item| item as u64))
 }
 
 /// What the header says and what the items come to, as text: a total may be too large for a program
@@ -246,8 +252,7 @@ fn against_json(against: Option<&Against>) -> (String, String) {
 }
 
 /// Items with one TxId.
-fn same_json(items: &[Item], group: &[usize]) -> String {
-    let tx_id = items[group[0] - 1].tx_id;
+fn same_json((tx_id, group): &(&[u8], Group)) -> String {
     Object::default().text("tx_id", tx_id).numbers("items", group).end()
 }
 

@@ -58,6 +58,11 @@ pub enum Why<'a> {
     FirstHas(&'a [u8]),
     /// LclInstrm and SeqTp, which the header has for all items.
     HeaderHas(&'a [u8], &'a [u8]),
+    /// The item of this number, from 1, has the TxId of an earlier one.
+    SameAs {
+        item: usize,
+        earlier: usize,
+    },
     /// The tags that may come.
     Expected(Vec<String>),
     /// The tags that may come in the version that the root names; another version has what was found.
@@ -249,7 +254,7 @@ impl Why<'_> {
             }
             Why::LeastCents(_) | Why::MostCents(_) | Why::Codes(_) => self.limits(language),
             Why::Expected(_) | Why::ExpectedIn(..) => self.tags(language),
-            Why::FirstHas(_) | Why::HeaderHas(..) => self.elsewhere(language),
+            Why::FirstHas(_) | Why::HeaderHas(..) | Why::SameAs { .. } => self.elsewhere(language),
             Why::CountryLength { country, length, due } => {
                 let country = shown(country);
                 language.say(
@@ -271,7 +276,7 @@ impl Why<'_> {
         }
     }
 
-    /// What the first item or the header has.
+    /// What the first item, the header or an earlier item has.
     fn elsewhere(&self, language: Language) -> String {
         match self {
             Why::FirstHas(code) => {
@@ -285,6 +290,10 @@ impl Why<'_> {
                 let types = format!("{}, {}", shown(instrument), shown(sequence));
                 language.say(format!("the header has {types}"), format!("im Kopf steht {types}"))
             }
+            Why::SameAs { item, earlier } => language.say(
+                format!("item {item} has the TxId of item {earlier}"),
+                format!("Posten {item} hat die TxId von Posten {earlier}"),
+            ),
             _ => String::new(),
         }
     }

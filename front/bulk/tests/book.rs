@@ -39,7 +39,7 @@ fn the_sample_evening() {
     let lines = [
         "entered 1 202490",
         "refused 20 0",
-        "refused 14 252",
+        "refused 24 3988",
         "entered 2 203724",
         "at 1",
         "total 203724",
@@ -53,12 +53,12 @@ fn the_sample_evening() {
         "1 CORE BULK-2026-10-28-EVENING HAFNDEHHXXX 2026-10-30 286990",
     ];
     assert_eq!(said, format!("{}\n", lines.join("\n")));
-    // In words the judge's own refusal is told as `judge` tells it, and so are doubled items.
+    // In words the judge's own refusal is told as `judge` tells it, and so is what looks doubled.
     let said = sampled(&[]);
     let root = Path::new(env!("CARGO_MANIFEST_DIR")).join("../..");
     let judged = command(&["judge", "samples/october.xml"]).current_dir(root).output().unwrap();
     assert!(said.contains(&Said::from(judged).done(1)), "{said}");
-    let warning = "  Warning: TxId more than once (1):\n    TX-20261028-0001: items 1, 6\n";
+    let warning = "  Warning: looks doubled: ";
     assert!(said.contains(&format!("; open: 2 bulks, 2,882.24 EUR\n{warning}")), "{said}");
 }
 

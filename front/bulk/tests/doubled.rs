@@ -1,4 +1,5 @@
-//! Doubled items are told, in an accepted bulk too: all of them.
+//! Doubled items: a TxId that stands twice is refused, items alike under different TxIds are warned of,
+//! and all of them are told.
 
 mod common;
 
@@ -12,17 +13,31 @@ fn sixth(old: &str, new: &str) -> String {
     bulk_of(&items, 202_490 + 84_500)
 }
 
+/// A TxId that stands twice is refused, though count and total fit, and both items are named.
 #[test]
-fn an_accepted_bulk_with_a_doubled_item_is_warned_of() {
+fn an_item_that_stands_twice_is_refused() {
     let message = sixth("", "");
-    assert_eq!(piped(&["--plain", "judge", "-"], &message).done(0), "accepted 6 286990\n");
-    let said = piped(&["judge", "-"], &message).done(0);
+    let place = message.rfind("<TxId>").unwrap() + "<TxId>".len();
+    let plain = format!("refused 24 {place}\n");
+    assert_eq!(piped(&["--plain", "judge", "-"], &message).done(1), plain);
+    let said = piped(&["judge", "-"], &message).done(1);
     let lines: Vec<&str> = said.lines().collect();
-    assert!(lines[0].starts_with("-: accepted, 6 items, 2,869.90 EUR"), "{said}");
-    let warning = ["  Warning: TxId more than once (1):", "    TX-20261028-0001: items 1, 6"];
-    assert_eq!(lines[1..], warning);
-    let said = piped(&["--de", "judge", "-"], &message).done(0);
-    assert!(said.contains("  Warnung: TxId mehrfach (1):\n    TX-20261028-0001: Posten 1, 6\n"));
+    let line = format!(
+        "-: refused 24 at place {place} (line 1, column {}) in \
+         FIToFICstmrDrctDbt/DrctDbtTxInf[6]/PmtId/TxId (EndToEndId RENT-2026-11-FLAT-4B), found \
+         “TX-20261028-0001” (item 6 has the TxId of item 1): An earlier item has the same TxId.",
+        place + 1
+    );
+    assert_eq!(lines[0], line);
+    // Below the line an excerpt, and all items of that TxId. Nothing is a warning.
+    let below = ["  TxId more than once (1):", "    TX-20261028-0001: items 1, 6"];
+    assert_eq!((lines.len(), &lines[3..]), (5, &below[..]));
+    let said = piped(&["--de", "judge", "-"], &message).done(1);
+    assert!(
+        said.contains("(Posten 6 hat die TxId von Posten 1): Ein früherer Posten hat "),
+        "{said}"
+    );
+    assert!(said.ends_with("  TxId mehrfach (1):\n    TX-20261028-0001: Posten 1, 6\n"), "{said}");
 }
 
 #[test]
@@ -67,41 +82,53 @@ fn what_differs_is_not_doubled() {
     assert!(other("Anna Gluehbirne", "A. Gluehbirne").contains("looks doubled"));
 }
 
+/// All of them, the second of three too, also behind the place where reading ended.
 #[test]
 fn all_doubled_items_are_told() {
     let items = [evening_items(), evening_items()].concat();
-    let said = piped(&["judge", "-"], bulk_of(&items, 404_980)).done(0);
-    assert!(said.contains("  Warning: TxId more than once (5):\n"), "{said}");
-    for number in 1..=5 {
-        let line = format!("    TX-20261028-000{number}: items {number}, {}\n", number + 5);
-        assert!(said.contains(&line), "{said}");
+    for cents in [404_980, 404_981] {
+        for count in [">10<", ">5<"] {
+            let message = bulk_of(&items, cents).replacen(">10<", count, 1);
+            let said = piped(&["judge", "-"], message).done(1);
+            assert!(
+                said.contains("refused 24 ") && said.contains("(item 6 has the TxId of item 1)")
+            );
+            assert!(said.contains("  TxId more than once (5):\n"), "{said}");
+            for number in 1..=5 {
+                let line = format!("    TX-20261028-000{number}: items {number}, {}\n", number + 5);
+                assert!(said.contains(&line), "{said}");
+            }
+        }
     }
-    let twice = bulk_of(&items, 404_980).replacen(">10<", ">5<", 1);
-    let said = piped(&["judge", "-"], twice).done(1);
-    assert!(said.contains("The header says 5, the bulk has 10 items.\n"), "{said}");
-    assert!(said.contains("TxId more than once (5):") && said.contains("-0005: items 5, 10\n"));
-    let wrong = bulk_of(&items, 404_981);
-    let said = piped(&["judge", "-"], wrong).done(1);
-    assert!(said.contains("refused 15 ") && said.contains("-0005: items 5, 10\n"), "{said}");
     let many = vec![evening_items()[0].clone(); 7];
-    let said = piped(&["judge", "-"], bulk_of(&many, 7 * 84_500)).done(0);
-    assert!(said.contains("    TX-20261028-0001: items 1 to 7\n"), "{said}");
+    let said = piped(&["judge", "-"], bulk_of(&many, 7 * 84_500)).done(1);
+    assert!(said.contains("(item 2 has the TxId of item 1)"), "{said}");
+    assert!(said.ends_with("    TX-20261028-0001: items 1 to 7\n"), "{said}");
 }
 
+/// Behind item 10,000 they are found by their tags; before it 24 comes first.
 #[test]
 fn refusal_12_names_doubled_items_too() {
-    let items = [many_items(6_000), many_items(6_000)].concat();
+    let items = [many_items(10_000), many_items(2_000)].concat();
     let said = piped(&["judge", "-"], bulk_of(&items, 1_200_000)).done(1);
     assert!(said.contains(": More than 10,000 items. The bulk has 12,000 items.\n"), "{said}");
-    assert!(said.contains("  Warning: TxId more than once (6000):\n    TX-1: items 1, 6001\n"));
+    assert!(said.contains("  TxId more than once (2000):\n    TX-1: items 1, 10001\n"));
+    assert!(said.ends_with("    TX-2000: items 2000, 12000\n"));
+    let items = [many_items(6_000), many_items(6_000)].concat();
+    let said = piped(&["judge", "-"], bulk_of(&items, 1_200_000)).done(1);
+    assert!(said.contains("refused 24 ") && said.contains("(item 6001 has the TxId of item 1)"));
     assert!(said.ends_with("    TX-6000: items 6000, 12000\n"));
 }
 
+/// A fault before the second one comes first, and says nothing of it; nor does one behind it say more.
 #[test]
 fn a_refusal_in_an_item_says_nothing_of_doubles() {
     let message = sixth("", "").replacen("NL65MOLN0123456789", "NL65MOLN0123456798", 1);
     let said = piped(&["judge", "-"], message).done(1);
-    assert!(said.contains("refused 8 ") && !said.contains("Warning"), "{said}");
+    assert!(said.contains("refused 8 ") && !said.contains("more than once"), "{said}");
+    let cut = sixth("", "").replacen("</Document>", "", 1);
+    let said = piped(&["judge", "-"], cut).done(1);
+    assert!(said.contains("refused 24 ") && said.ends_with(": items 1, 6\n"), "{said}");
 }
 
 /// Each with each would take minutes, and so would a line of ten thousand numbers for each item.
@@ -109,11 +136,14 @@ fn a_refusal_in_an_item_says_nothing_of_doubles() {
 fn ten_thousand_doubled_items_take_no_time() {
     let twice = bulk_of(&[many_items(5_000), many_items(5_000)].concat(), 1_000_000);
     let same = bulk_of(&vec![evening_items()[0].clone(); 10_000], 845_000_000);
-    for (message, lines) in [(&twice, 5_002), (&same, 3)] {
+    for (message, lines) in [(&twice, 5_001), (&same, 2)] {
         let start = Instant::now();
-        assert_eq!(piped(&["judge", "-"], message).done(0).lines().count(), lines);
+        assert_eq!(piped(&["judge", "-"], message).done(1).lines().count(), 3 + lines);
+        // The same items under TxIds of their own look doubled.
+        let alike = without_doubles(message);
+        assert_eq!(piped(&["judge", "-"], &alike).done(0).lines().count(), 1 + lines);
         for form in ["--en", "--csv", "--json", "--plain"] {
-            let said = piped(&["items", form, "-"], message);
+            let said = piped(&["items", form, "-"], &alike);
             assert_eq!(said.status, 0);
             assert!(said.out.lines().count() >= 10_000 && said.out.len() < 10_000_000, "{form}");
         }

@@ -112,8 +112,11 @@ fn one_object_per_file() {
     assert_eq!(first["settlement_date"], string("2026-10-30"));
     assert_eq!((&first["instrument"], &first["number"]), (&string("CORE"), &Json::Null));
     let second = &objects[1];
-    assert_eq!((&second["number"], &second["place"]), (&Json::Number(14), &Json::Number(252)));
-    assert_eq!((&second["header"], &second["items"]), (&string("9"), &string("7")));
+    assert_eq!((&second["number"], &second["place"]), (&Json::Number(24), &Json::Number(3988)));
+    assert_eq!((&second["item"], &second["earlier_item"]), (&Json::Number(3), &Json::Number(2)));
+    assert_eq!((&second["found"], &second["tx_id"]), (&string("TX-20261028-0002"), &Json::Null));
+    assert_eq!(second["why"], string("item 3 has the TxId of item 2"));
+    assert_eq!((&first["earlier_item"], &second["header"]), (&Json::Null, &Json::Null));
     assert_eq!(second["same_msg_id"], string(text(&good)));
     let Json::List(doubled) = &second["doubled"] else { panic!() };
     let pair = Json::Object(vec![
@@ -151,12 +154,17 @@ fn one_object_per_item() {
     assert_eq!(item["mandate_date"], string("2023-02-14"));
     assert_eq!(item["doubled"], Json::Null);
     // A bulk whose count is wrong has items too; the refusal is on standard error.
-    let said = bulk(&["--json", "items", text(&sample("october.xml"))]);
+    let october = without_doubles(&std::fs::read_to_string(sample("october.xml")).unwrap());
+    let said = piped(&["--json", "items", "-"], october);
     assert_eq!(said.status, 1);
     let items = objects(&said.out);
     assert_eq!(items.len(), 7);
-    assert_eq!((&items[1]["doubled"], &items[2]["doubled"]), (&Json::Number(3), &Json::Number(2)));
-    assert_eq!(objects(&said.err)[0]["number"], Json::Number(14));
+    let other = |at: usize| (&items[at]["doubled"], &items[at]["looks_doubled"]);
+    assert_eq!(other(1), (&Json::Null, &Json::Number(3)));
+    assert_eq!(other(2), (&Json::Null, &Json::Number(2)));
+    let refused = &objects(&said.err)[0];
+    assert_eq!((&refused["number"], &refused["doubled"]), (&Json::Number(14), &Json::List(vec![])));
+    assert_eq!((&refused["header"], &refused["items"]), (&string("9"), &string("7")));
 }
 
 #[test]
@@ -192,8 +200,8 @@ fn one_object_for_the_plain_form() {
 
 #[test]
 fn one_object_for_two_files() {
-    let [one, padded, doubled, bad] =
-        ["evening.xml", "evening-padded.xml", "doubled.xml", "october.xml"].map(sample);
+    let [one, padded, more, bad] =
+        ["evening.xml", "evening-padded.xml", "alike.xml", "october.xml"].map(sample);
     let compare = |one, other, status| {
         let said = objects(&bulk(&["--json", "same", text(one), text(other)]).done(status));
         assert_eq!(said.len(), 1);
@@ -207,7 +215,7 @@ fn one_object_for_two_files() {
         (&Json::Number(202_490), &Json::List(vec![]))
     );
 
-    let different = compare(&one, &doubled, 1);
+    let different = compare(&one, &more, 1);
     assert_eq!((&different["verdict"], &different["count"]), (&string("different"), &Json::Null));
     assert_eq!(different["different_items"], Json::List(vec![Json::Number(6)]));
     let Json::List(differences) = &different["differences"] else { panic!() };
@@ -218,7 +226,7 @@ fn one_object_for_two_files() {
     };
     let null = || Json::Null;
     let count = object(null(), null(), null(), "NbOfTxs", string("5"), string("6"));
-    let tx_id = || string("TX-20261028-0001");
+    let tx_id = || string("TX-20261028-0006");
     let item = object(Json::Number(6), null(), tx_id(), "DrctDbtTxInf", null(), tx_id());
     assert_eq!((&differences[0], &differences[2], differences.len()), (&count, &item, 3));
 
@@ -259,7 +267,7 @@ fn one_object_per_call() {
         let judged = bulk(&["--json", "judge", text(file)]).done(status);
         assert_eq!(object["judged"], Reader { rest: judged.trim_end() }.value());
     }
-    assert_eq!((&refused["number"], &refused["place"]), (&Json::Number(14), &Json::Number(252)));
+    assert_eq!((&refused["number"], &refused["place"]), (&Json::Number(24), &Json::Number(3988)));
     assert_eq!((&doubled["number"], &doubled["place"]), (&Json::Number(20), &Json::Number(0)));
     assert_eq!(doubled["meaning"], string("A bulk with this key is open already."));
     assert_eq!((&at["at"], &at["file"]), (&Json::Number(0), &Json::Null));
@@ -305,10 +313,10 @@ fn every_key_is_documented() {
     let (file, out, good) = (sample("october.xml"), folder.path("out"), sample("evening.xml"));
     for words in [
         &["judge", text(&file)][..],
-        &["items", text(&file)],
+        &["items", text(&good)],
         &["records", text(&sample("evening.xml")), text(&out)],
         &["plain", text(&sample("evening.xml")), text(&folder.path("plain"))],
-        &["same", text(&sample("evening.xml")), text(&sample("doubled.xml"))],
+        &["same", text(&sample("evening.xml")), text(&sample("alike.xml"))],
         &["book", text(&folder.put("day.book", format!("enter {}\nlist\n", text(&good))))],
         &["check", "iban", "x"],
     ] {

@@ -24,18 +24,48 @@ fn the_samples() {
         assert_eq!(said, "accepted 3 200330\n");
     }
     let october = sample("october.xml");
-    assert_eq!(bulk(&["--plain", "judge", text(&october)]).done(1), "refused 14 252\n");
+    assert_eq!(bulk(&["--plain", "judge", text(&october)]).done(1), "refused 24 3988\n");
     let said = bulk(&["judge", text(&october)]).done(1);
     let rest = said.strip_prefix(text(&october)).unwrap();
     assert_eq!(
         rest,
-        ": refused 14 at place 252 (line 7, column 16) in FIToFICstmrDrctDbt/GrpHdr/NbOfTxs, found \
-         “9”: NbOfTxs is not the number of items. The header says 9, the bulk has 7 items.\n\
-        \x20   <NbOfTxs>9</NbOfTxs>\n\
-        \x20            ^\n\
-        \x20 Warning: TxId more than once (2):\n\
+        ": refused 24 at place 3988 (line 154, column 15) in \
+         FIToFICstmrDrctDbt/DrctDbtTxInf[3]/PmtId/TxId (EndToEndId BUSY-2026-10-LP017), found \
+         “TX-20261028-0002” (item 3 has the TxId of item 2): An earlier item has the same TxId.\n\
+        \x20   <TxId>TX-20261028-0002</TxId>\n\
+        \x20         ^\n\
+        \x20 TxId more than once (2):\n\
         \x20   TX-20261028-0002: items 2, 3\n\
         \x20   TX-20261028-0004: items 5, 6\n"
+    );
+    for (name, line) in [("doubled.xml", "refused 24 8574\n"), ("alike.xml", "accepted 6 286990\n")]
+    {
+        assert_eq!(bulk(&["--plain", "judge", text(&sample(name))]).out, line);
+    }
+}
+
+/// A count that is wrong, and no TxId twice: the October day with other TxIds in the items that stand
+/// twice.
+#[test]
+fn a_wrong_count() {
+    let message = without_doubles(&fs::read_to_string(sample("october.xml")).unwrap());
+    let said = piped(&["judge", "-"], &message).done(1);
+    assert!(
+        said.starts_with(
+            "-: refused 14 at place 252 (line 7, column 16) in FIToFICstmrDrctDbt/GrpHdr/NbOfTxs, \
+             found “9”: NbOfTxs is not the number of items. The header says 9, the bulk has 7 \
+             items.\n    <NbOfTxs>9</NbOfTxs>\n             ^\n  Warning: looks doubled: "
+        ),
+        "{said}"
+    );
+    let said = piped(&["--de", "judge", "-"], &message).done(1);
+    assert!(
+        said.starts_with(
+            "-: abgelehnt (Nr. 14) an Stelle 252 (Zeile 7, Spalte 16) in \
+             FIToFICstmrDrctDbt/GrpHdr/NbOfTxs, gefunden „9“: NbOfTxs ist nicht die Anzahl der \
+             Posten. Im Kopf steht 9, der Bulk hat 7 Posten.\n"
+        ),
+        "{said}"
     );
 }
 
@@ -77,14 +107,15 @@ fn the_samples_in_german() {
     let said = bulk(&["--de", "judge", text(&sample("october.xml"))]).done(1);
     assert!(
         said.contains(
-            ": abgelehnt (Nr. 14) an Stelle 252 (Zeile 7, Spalte 16) in \
-             FIToFICstmrDrctDbt/GrpHdr/NbOfTxs, gefunden „9“: NbOfTxs ist nicht die Anzahl der \
-             Posten. Im Kopf steht 9, der Bulk hat 7 Posten.\n"
+            ": abgelehnt (Nr. 24) an Stelle 3988 (Zeile 154, Spalte 15) in \
+             FIToFICstmrDrctDbt/DrctDbtTxInf[3]/PmtId/TxId (EndToEndId BUSY-2026-10-LP017), \
+             gefunden „TX-20261028-0002“ (Posten 3 hat die TxId von Posten 2): Ein früherer Posten \
+             hat dieselbe TxId.\n"
         ),
         "{said}"
     );
     assert!(said.ends_with(
-        "  Warnung: TxId mehrfach (2):\n    TX-20261028-0002: Posten 2, 3\n    \
+        "  TxId mehrfach (2):\n    TX-20261028-0002: Posten 2, 3\n    \
          TX-20261028-0004: Posten 5, 6\n"
     ));
 }
@@ -93,7 +124,7 @@ fn the_samples_in_german() {
 fn a_file_alone_is_judged() {
     let file = sample("evening.xml");
     assert_eq!(bulk(&[text(&file)]).out, bulk(&["judge", text(&file)]).out);
-    assert_eq!(bulk(&["--plain", text(&sample("october.xml"))]).done(1), "refused 14 252\n");
+    assert_eq!(bulk(&["--plain", text(&sample("october.xml"))]).done(1), "refused 24 3988\n");
     assert_eq!(piped(&["--plain", "-"], evening()).done(0), "accepted 5 202490\n");
     // A name that looks like a file's, or has none of the commands' names.
     let folder = Folder::new();

@@ -77,11 +77,14 @@ fn a_refused_message_has_none() {
     let (october, out) = (sample("october.xml"), folder.path("out"));
     let said = bulk(&["plain", text(&october)]);
     assert_eq!((said.status, said.out.as_str()), (1, ""));
-    assert!(said.err.contains("refused 14 at place 252"), "{}", said.err);
+    assert!(said.err.contains("refused 24 at place 3988"), "{}", said.err);
     let said = bulk(&["plain", text(&october), text(&out)]).done(1);
-    assert!(said.contains("refused 14 at place 252") && !said.contains("written"), "{said}");
+    assert!(said.contains("refused 24 at place 3988") && !said.contains("written"), "{said}");
     let out = folder.put("empty", "");
-    assert_eq!(bulk(&["--plain", "plain", text(&october), text(&out)]).done(1), "refused 14 252\n");
+    assert_eq!(
+        bulk(&["--plain", "plain", text(&october), text(&out)]).done(1),
+        "refused 24 3988\n"
+    );
     assert_eq!(fs::read(&out).unwrap(), b"");
     assert_eq!(folder.names(), ["empty"]);
 }
@@ -184,11 +187,11 @@ fn the_plain_form_is_told_even_if_the_verdict_cannot_be() {
 }
 
 #[test]
-fn doubled_items_are_warned_of() {
-    let (folder, file) = (Folder::new(), sample("doubled.xml"));
+fn what_looks_doubled_is_warned_of() {
+    let (folder, file) = (Folder::new(), sample("alike.xml"));
     let said = bulk(&["plain", text(&file)]);
-    assert!(said.err.contains("  Warning: TxId more than once (1):\n"), "{}", said.err);
+    assert!(said.err.contains("  Warning: looks doubled: "), "{}", said.err);
     let out = folder.path("out");
     let said = bulk(&["plain", text(&file), text(&out)]).done(0);
-    assert!(said.contains("/out\n  Warning: TxId more than once (1):\n"), "{said}");
+    assert!(said.contains("/out\n  Warning: looks doubled: "), "{said}");
 }

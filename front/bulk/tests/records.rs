@@ -47,12 +47,12 @@ fn a_name_without_a_folder_is_in_the_current_one() {
 }
 
 #[test]
-fn doubled_items_are_warned_of() {
+fn what_looks_doubled_is_warned_of() {
     let folder = Folder::new();
     let items = [evening_items(), evening_items()].concat();
-    let file = folder.put("bulk.xml", bulk_of(&items, 404_980));
+    let file = folder.put("bulk.xml", without_doubles(&bulk_of(&items, 404_980)));
     let said = bulk(&["records", text(&file), text(&folder.path("out"))]).done(0);
-    assert!(said.contains("/out\n  Warning: TxId more than once (5):\n"), "{said}");
+    assert!(said.contains("/out\n  Warning: looks doubled: "), "{said}");
 }
 
 #[test]
@@ -60,10 +60,10 @@ fn a_refused_message_leaves_the_old_records() {
     let folder = Folder::new();
     let (october, out) = (sample("october.xml"), folder.put("out", old_records(1)));
     let said = bulk(&["records", text(&october), text(&out)]).done(1);
-    assert!(said.contains("refused 14 at place 252"), "{said}");
+    assert!(said.contains("refused 24 at place 3988"), "{said}");
     let new = folder.path("new");
     let said = bulk(&["--plain", "records", text(&october), text(&new)]).done(1);
-    assert_eq!(said, "refused 14 252\n");
+    assert_eq!(said, "refused 24 3988\n");
     assert_eq!(fs::read_to_string(&out).unwrap(), old_records(1));
     assert_eq!(folder.names(), ["out"]);
 }
@@ -189,7 +189,7 @@ fn records_to_standard_output() {
     assert_eq!(fs::read_to_string(&log).unwrap(), format!("old\n{record}"));
     let said = bulk(&["records", text(&sample("october.xml")), "-"]);
     assert_eq!((said.status, said.out.as_str()), (1, ""));
-    assert!(said.err.contains("refused 14 "), "{}", said.err);
+    assert!(said.err.contains("refused 24 "), "{}", said.err);
 }
 
 /// They hold the collapsed EndToEndId.

@@ -174,22 +174,22 @@ fn an_optional_element_on_one_side() {
 
 #[test]
 fn more_items_on_one_side() {
-    let (evening, doubled) = (sample("evening.xml"), sample("doubled.xml"));
-    let (evening, doubled) = (text(&evening), text(&doubled));
-    let said = bulk(&["same", evening, doubled]).done(1);
+    let (evening, more) = (sample("evening.xml"), sample("alike.xml"));
+    let (evening, more) = (text(&evening), text(&more));
+    let said = bulk(&["same", evening, more]).done(1);
     assert_eq!(
         said,
         format!(
-            "{evening} and {doubled}: different\n\
+            "{evening} and {more}: different\n\
             \x20 header: NbOfTxs “5” here, “6” there\n\
             \x20 header: TtlIntrBkSttlmAmt “2024.90” here, “2869.90” there\n\
-            \x20 item 6, TxId TX-20261028-0001: only there\n"
+            \x20 item 6, TxId TX-20261028-0006: only there\n"
         )
     );
-    let said = bulk(&["--de", "same", doubled, evening]).done(1);
-    assert!(said.ends_with("  Posten 6, TxId TX-20261028-0001: nur hier\n"), "{said}");
-    let said = bulk(&["--plain", "same", doubled, evening]).done(1);
-    assert!(said.ends_with("different\t6\tDrctDbtTxInf\tTX-20261028-0001\t\n"), "{said}");
+    let said = bulk(&["--de", "same", more, evening]).done(1);
+    assert!(said.ends_with("  Posten 6, TxId TX-20261028-0006: nur hier\n"), "{said}");
+    let said = bulk(&["--plain", "same", more, evening]).done(1);
+    assert!(said.ends_with("different\t6\tDrctDbtTxInf\tTX-20261028-0006\t\n"), "{said}");
 }
 
 /// An item left out in the middle: the payments behind it no longer stand beside their own.
@@ -219,13 +219,13 @@ fn a_refused_bulk_is_told_as_judge_tells_it() {
         let said = bulk(&["same", words[0], words[1]]).done(1);
         assert_eq!(said, format!("{judged}{why}"));
         let said = bulk(&["--plain", "same", words[0], words[1]]).done(1);
-        assert_eq!(said, format!("refused 14 252\t{}\n", text(&bad)));
+        assert_eq!(said, format!("refused 24 3988\t{}\n", text(&bad)));
     }
     // Both, and in the other language. Not even a refused bulk and itself are compared.
     let said = bulk(&["same", text(&bad), text(&bad)]).done(1);
     assert_eq!(said, format!("{judged}{judged}{why}"));
     let said = bulk(&["--de", "same", text(&good), text(&bad)]).done(1);
-    assert!(said.contains(": abgelehnt (Nr. 14) an Stelle 252"), "{said}");
+    assert!(said.contains(": abgelehnt (Nr. 24) an Stelle 3988"), "{said}");
     assert!(said.ends_with("\nNicht verglichen: Nur ein angenommener Bulk hat eine Normalform.\n"));
 }
 

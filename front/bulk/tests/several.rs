@@ -56,8 +56,8 @@ fn a_closing_line_says_what_they_come_to() {
 #[test]
 fn a_total_of_many_files_is_exact() {
     let folder = Folder::new();
-    let item = evening_items()[0].replacen("845.00", "999999999.99", 1);
-    let many = vec![item; 10_000];
+    let most = |item: String| item.replacen(">1.00<", ">999999999.99<", 1);
+    let many: Vec<String> = many_items(10_000).into_iter().map(most).collect();
     let message = bulk_of(&many, 999_999_999_990_000);
     let file = folder.put("most.xml", message);
     let said = bulk(&["judge", text(&file), text(&file), text(&file)]).done(0);

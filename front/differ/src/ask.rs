@@ -20,7 +20,7 @@ pub fn verdict_words(verdict: Verdict) -> Words {
 }
 
 /// An item's extent as the C face tells it.
-fn item_words(extent: Result<(usize, usize), (u8, usize)>) -> Words {
+pub(crate) fn item_words(extent: Result<(usize, usize), (u8, usize)>) -> Words {
     match extent {
         Ok((start, end)) => [0, start as u64, end as u64],
         Err((number, place)) => [u64::from(number), place as u64, 0],
@@ -48,7 +48,7 @@ pub fn plain_check(kind: Kind, value: &[u8]) -> Result<u64, u8> {
 }
 
 /// A message of which each question takes long, so that fewer are asked.
-fn is_large(bytes: &[u8]) -> bool {
+pub(crate) fn is_large(bytes: &[u8]) -> bool {
     bytes.len() > 1_000_000
 }
 
@@ -85,10 +85,25 @@ impl Asker {
         }
     }
 
-    /// The judge: the library, the plain judge, what is known, and the law of the first fault.
+    /// The judge: the library in its two ways, the plain judge, what is known, and the law of the first
+    /// fault.
     pub fn quickly(&mut self, name: &Name, case: &Case) -> Words {
+        let library = face::judge(&case.bytes);
+        self.second_way(name, &case.bytes, library);
+        self.judged(name, case, library);
+        library
+    }
+
+    /// The same by the library's plain search alone, which needs no index.
+    pub fn plainly(&mut self, name: &Name, case: &Case) -> Words {
+        let library = face::judge_plainly(&case.bytes);
+        self.judged(name, case, library);
+        library
+    }
+
+    /// What the library answered, held against the plain judge, what is known, and the law.
+    fn judged(&mut self, name: &Name, case: &Case, library: Words) {
         let bytes = &case.bytes;
-        let library = face::judge(bytes);
         let plain = verdict_words(plain::judge(bytes));
         self.tally.met(library[0]);
         let question = || "judge".to_string();
@@ -107,23 +122,22 @@ impl Asker {
             self.tally.hold(name, &question, bytes, ("library", &refused), ("known", &true));
         }
         self.first_fault(name, bytes, library);
-        library
     }
 
-    /// "The first fault met ends it": for a refusal 2 to 12, 19 or 23 at place p, the first p bytes
+    /// "The first fault met ends it": for a refusal 2 to 12, 19, 23 or 24 at place p, the first p bytes
     /// alone are refused with 3 at p, so all before p was still in order. The bytes behind p stay where
     /// they are: whoever read past the end would meet them. The judge gives no number of others.
     fn first_fault(&mut self, name: &Name, bytes: &[u8], [number, place, last]: Words) {
-        let may_come = matches!(number, 0..=4 | 6..=12 | 14..=16 | 19 | 23)
+        let may_come = matches!(number, 0..=4 | 6..=12 | 14..=16 | 19 | 23 | 24)
             && (number == 0 || (place <= bytes.len() as u64 && last == 0))
             && (number != 3 || place == bytes.len() as u64);
         let question = || format!("may the judge answer {number} {place} {last}?");
         self.tally.hold(name, &question, bytes, ("library", &may_come), ("law", &true));
-        if may_come && matches!(number, 2..=12 | 19 | 23) {
+        if may_come && matches!(number, 2..=12 | 19 | 23 | 24) {
             let before = &bytes[..place as usize];
             let law = [3, place, 0];
             let question = || format!("judge, the first {place} bytes alone");
-            let library = face::judge(before);
+            let library = face::judge_plainly(before);
             self.tally.hold(name, &question, bytes, ("library", &library), ("law", &law));
             let plain = verdict_words(plain::judge(before));
             self.tally.hold(name, &question, bytes, ("plain", &plain), ("law", &law));

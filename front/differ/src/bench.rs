@@ -25,6 +25,8 @@ enum Who {
     PlainJudge,
     LibraryRecords,
     PlainRecords,
+    /// By the plain search, without an index.
+    LibraryPlainly,
     /// Another program, with these words before the file.
     Program(&'static str, &'static [&'static str]),
 }
@@ -37,6 +39,7 @@ impl Who {
             Who::PlainJudge => "plain Rust, judge".into(),
             Who::LibraryRecords => "library, records".into(),
             Who::PlainRecords => "plain Rust, records".into(),
+            Who::LibraryPlainly => "library, judge without an index".into(),
             Who::Program(program, words) => {
                 format!("`{}`", [&[*program], *words].concat().join(" "))
             }
@@ -44,13 +47,18 @@ impl Who {
     }
 
     /// One run over a message, which lies in memory and in a file.
-    fn run(&self, message: &[u8], file: &Path, area: &mut [u8]) -> Duration {
+    fn run(&self, message: &[u8], file: &Path, area: &mut [u8], index: &mut [u32]) -> Duration {
         let started = Instant::now();
         match self {
-            Who::LibraryJudge => assert_eq!(black_box(face::judge(black_box(message)))[0], 0),
+            Who::LibraryJudge => {
+                assert_eq!(black_box(face::judge_with(black_box(message), index))[0], 0);
+            }
             Who::PlainJudge => drop(black_box(plain::judge(black_box(message)))),
             Who::LibraryRecords => {
-                assert_eq!(black_box(face::records(black_box(message), area))[0], 0);
+                assert_eq!(black_box(face::records_with(black_box(message), area, index))[0], 0);
+            }
+            Who::LibraryPlainly => {
+                assert_eq!(black_box(face::judge_plainly(black_box(message)))[0], 0);
             }
             Who::PlainRecords => drop(black_box(plain::records(black_box(message), area))),
             Who::Program(program, words) => {
@@ -87,11 +95,11 @@ impl Times {
 /// The times of each of them, by turns, so that the load of the machine meets all alike.
 fn times(all: &[Who], message: &[u8], file: &Path, rounds: usize) -> Vec<Times> {
     let count = face::judge(message)[1] as usize;
-    let mut area = vec![0; face::RECORD * count];
+    let (mut area, mut index) = (vec![0; face::RECORD * count], vec![0; face::INDEX]);
     let mut times = vec![Vec::new(); all.len()];
     for round in 0..WARM_UP + rounds {
         for (who, times) in all.iter().zip(&mut times) {
-            let time = who.run(message, file, &mut area);
+            let time = who.run(message, file, &mut area, &mut index);
             if round >= WARM_UP {
                 times.push(time);
             }
@@ -162,6 +170,7 @@ pub fn bench(out: &str, machine: &Machine) -> ExitCode {
     let load = std::fs::read_to_string("/proc/loadavg").unwrap_or_default();
     let load = load.split(' ').next().unwrap_or("not known").to_string();
     let mut all = vec![Who::LibraryJudge, Who::PlainJudge, Who::LibraryRecords, Who::PlainRecords];
+    all.push(Who::LibraryPlainly);
     let (tools, left_out) = programs(&mut all);
     let folder = PathBuf::from(face::FOLDER).join("bench");
     std::fs::create_dir_all(&folder).expect("the folder of the messages can be made");
@@ -216,7 +225,8 @@ fn how(machine: &Machine, load: &str, tools: &[String], left_out: &[&str]) -> St
          - {library} The plain Rust judge (`front/plain`) and the test program: {}, for release.\n\
          - Way: one run; the contenders by turns, {WARM_UP} rounds to warm up and then {ROUNDS} \
          ({ROUNDS_SMALL} of 1,000 items) that are counted; the median of those. The message lies in memory, each call is timed whole; \
-         the records go into an area of just their size.{outside}{missing}\n\
+         the records go into an area of just their size, the index has 16,384 numbers; without it each \
+         TxId is compared with all before it.{outside}{missing}\n\
          - Messages: a declaration, usual values, InstrId and RmtInf in each item; each item has its \
          own references, amount and account. Indented is a line for each tag and two spaces \
          for each level; 10,000 such items come close to the 16,777,216 bytes that the judge takes.\n\

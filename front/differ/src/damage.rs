@@ -117,6 +117,9 @@ const DAMAGES: &[(&str, Damage)] = &[
     ("names and remittance replaced", texts_replaced),
     ("item doubled", item_doubled),
     ("item doubled, count and total right", item_doubled_right),
+    ("item doubled at the end", item_doubled_at_end),
+    ("TxId of another item", transaction_twice),
+    ("TxIds nearly the same", transactions_near),
     ("item dropped", item_dropped),
     ("no item", no_item),
     ("bytes after the end", after_end),
@@ -820,16 +823,21 @@ fn any_item(message: &Message, random: &mut Random) -> (usize, usize) {
     message.items[random.below(message.items.len())]
 }
 
-/// One item twice, the header as it was: 14.
+/// 24 at the first TxId that an earlier item has.
+pub(crate) fn twice(message: &Message) -> Known {
+    let part = message.second_transaction().expect("an item stands twice");
+    Known::Refused { number: 24, place: message.place(part) }
+}
+
+/// One item twice, the header as it was: 24, before the count is compared.
 fn item_doubled(mut message: Message, random: &mut Random) -> Option<(Vec<u8>, Known)> {
     let (first, after) = any_item(&message, random);
     let copy = message.parts[first..after].to_vec();
     message.parts.splice(after..after, copy);
-    let place = message.place(message.header_value("NbOfTxs"));
-    Some((message.bytes(), Known::Refused { number: 14, place }))
+    Some((message.bytes(), twice(&message)))
 }
 
-/// One item twice, and a header that fits: accepted.
+/// One item twice, and a header that fits: 24 all the same.
 fn item_doubled_right(mut message: Message, random: &mut Random) -> Option<(Vec<u8>, Known)> {
     let (first, after) = any_item(&message, random);
     let copy = message.parts[first..after].to_vec();
@@ -841,7 +849,47 @@ fn item_doubled_right(mut message: Message, random: &mut Random) -> Option<(Vec<
     message.parts[total].bytes = value::amount(message.cents, random);
     let count = message.header_value("NbOfTxs");
     message.parts[count].bytes = value::with_zeros(message.count, random);
-    Some((message.bytes(), fine(&message)))
+    Some((message.bytes(), twice(&message)))
+}
+
+/// One item once more behind the last.
+fn item_doubled_at_end(mut message: Message, random: &mut Random) -> Option<(Vec<u8>, Known)> {
+    let ((first, after), end) = (any_item(&message, random), message.items.last()?.1);
+    let copy = message.parts[first..after].to_vec();
+    message.parts.splice(end..end, copy);
+    Some((message.bytes(), twice(&message)))
+}
+
+/// One item with the TxId of another, of two or of all of them: 24, and all else is in order.
+fn transaction_twice(mut message: Message, random: &mut Random) -> Option<(Vec<u8>, Known)> {
+    let count = message.items.len();
+    if count < 2 {
+        return None;
+    }
+    let (one, parts) = (random.below(count), message.transactions());
+    let id = message.parts[parts[one]].bytes.clone();
+    let others = match random.below(4) {
+        0 => (0..count).collect(),
+        _ => vec![(one + random.between(1, count - 1)) % count],
+    };
+    others.into_iter().for_each(|other| message.set_transaction(other, &id));
+    Some((message.bytes(), twice(&message)))
+}
+
+/// One item with nearly the TxId of another: accepted, unless that is a third one's.
+fn transactions_near(mut message: Message, random: &mut Random) -> Option<(Vec<u8>, Known)> {
+    let count = message.items.len();
+    if count < 2 {
+        return None;
+    }
+    let (one, parts) = (random.below(count), message.transactions());
+    let id = value::near_reference(&message.parts[parts[one]].bytes, random);
+    message.set_transaction((one + random.between(1, count - 1)) % count, &id);
+    let known = match message.second_transaction() {
+        None => fine(&message),
+        Some(_) => twice(&message),
+    };
+    Some((message.bytes(), known))
 }
 
 /// One item of several taken out: 14.

@@ -4,6 +4,7 @@
 use crate::ask::Asker;
 use crate::days::{Bulk, Call, Day};
 use crate::face::Words;
+use crate::indexed::filled;
 use crate::tally::Name;
 use crate::value::HEADER_MOST;
 use ::face::book::{self, Entry, Key, BOOK};
@@ -30,7 +31,20 @@ impl Library {
         let end = self.all.len() - BESIDE;
         let lent = &mut self.all[BESIDE..end];
         let answer = match call {
-            Call::Enter(bulk) => book::enter(lent, self.open, &day.bulks[*bulk].bytes),
+            Call::Enter(bulk) => {
+                let bytes = &day.bulks[*bulk].bytes;
+                book::enter_with(
+                    lent,
+                    self.open,
+                    bytes,
+                    &mut filled(bytes.len().wrapping_add(self.open)),
+                )
+            }
+            Call::EnterShort(bulk, index) => {
+                let bytes = &day.bulks[*bulk].bytes;
+                let mut index = filled(bytes.len())[..*index].to_vec();
+                book::enter_with(lent, self.open, bytes, &mut index)
+            }
             Call::Withdraw(key) => book::withdraw(lent, self.open, key),
             Call::Find(key) => book::find(lent, self.open, key),
             Call::Total => book::total(lent, self.open),
@@ -93,6 +107,8 @@ impl Plain {
         let mut book = plain::book::Book { entries: &mut self.entries, open: self.open };
         let answer = match call {
             Call::Enter(bulk) => book.enter(&day.bulks[*bulk].bytes).map(|cents| [1, cents]),
+            // "a single entry's 29 still precedes it"
+            Call::EnterShort(..) => book.held().and(Err((25, 0))),
             Call::Withdraw(key) => book.withdraw(&plain_key(key)).map(|cents| [1, cents]),
             Call::Find(key) => {
                 let found = book.find(&plain_key(key));
@@ -148,6 +164,7 @@ impl Known {
         match call {
             _ if !self.is_book => [29, 0, 0],
             Call::Enter(bulk) => self.enter(&day.bulks[*bulk]),
+            Call::EnterShort(..) => [25, 0, 0],
             Call::Withdraw(key) => self.at(key).map_or([22, 0, 0], |at| self.withdraw(at)),
             Call::Find(key) => self.at(key).map_or([0, 0, 0], |at| [0, 1, at as u64]),
             Call::Total => [0, self.open as u64, self.total as u64],

@@ -3,9 +3,10 @@
 use crate::message::{accepted, Message, Plan, What, INSTRUMENTS};
 use crate::random::Random;
 use crate::typed;
-use crate::value::{known_bic, HEADER_MOST, LETTERS_DIGITS};
+use crate::value::{self, known_bic, HEADER_MOST};
 use crate::versions;
 use ::face::book::{self, Entry, Key, BOOK};
+use ::face::INDEX;
 
 /// A message to enter, and what is known of it: its entry, or the judge's own refusal.
 pub struct Bulk {
@@ -17,6 +18,8 @@ pub struct Bulk {
 pub enum Call {
     /// The bulk of this number is entered.
     Enter(usize),
+    /// The same with an index of so many numbers, which are too few.
+    EnterShort(usize, usize),
     Withdraw(Key),
     Find(Key),
     Total,
@@ -90,6 +93,7 @@ impl Day {
                 Ok(entry) => format!("enter bulk {bulk}, {}", entry_text(entry)),
                 Err(refusal) => format!("enter bulk {bulk}, refused {refusal:?}"),
             },
+            Call::EnterShort(bulk, index) => format!("enter bulk {bulk}, index of {index}"),
             Call::Withdraw(key) => format!("withdraw {}", key.escape_ascii()),
             Call::Find(key) => format!("find {}", key.escape_ascii()),
             Call::Total => "total".to_string(),
@@ -106,12 +110,18 @@ fn entry_text(entry: &Entry) -> String {
 /// A call by chance. The keys are those of the bulks, those that the places hold, and any.
 fn call(bulks: &[Bulk], entries: &[Entry], random: &mut Random) -> Call {
     match random.below(16) {
+        0 if !bulks.is_empty() => short(random.below(bulks.len()), random),
         0..=6 if !bulks.is_empty() => Call::Enter(random.below(bulks.len())),
         0..=10 => Call::Withdraw(some_key(bulks, entries, random)),
         11..=13 => Call::Find(some_key(bulks, entries, random)),
         14 => Call::Check,
         _ => Call::Total,
     }
+}
+
+/// An entry with too short an index, often by one number.
+fn short(bulk: usize, random: &mut Random) -> Call {
+    Call::EnterShort(bulk, random.length(0, INDEX - 1))
 }
 
 /// A key that may well be open: mostly a bulk's own, now and then with one byte otherwise.
@@ -178,10 +188,17 @@ fn services(message: &Message) -> Vec<usize> {
 
 /// A message that the judge is known to refuse.
 fn refused(mut message: Message, random: &mut Random) -> Bulk {
-    match random.below(4) {
+    match random.below(5) {
         0 => Bulk { bytes: Vec::new(), known: Err((3, 0)) },
         1 => Bulk { bytes: b"<?xml>".to_vec(), known: Err((2, 0)) },
-        2 => {
+        2 if message.items.len() > 1 => {
+            let last = message.items.len() - 1;
+            let id = message.parts[message.transactions()[0]].bytes.clone();
+            message.set_transaction(last, &id);
+            let place = message.place(message.transactions()[last]);
+            Bulk { known: Err((24, place)), bytes: message.bytes() }
+        }
+        3 => {
             let count = message.header_value("NbOfTxs");
             message.parts[count].bytes = b"77".to_vec();
             Bulk { known: Err((14, message.place(count))), bytes: message.bytes() }
@@ -257,15 +274,7 @@ fn near(name: &str, value: &[u8], random: &mut Random) -> Vec<u8> {
         }
         ("BIC", 8) => bytes.extend(b"XXX"),
         ("BIC", _) => bytes.truncate(8),
-        (_, length) => {
-            // Shorter, longer or as long; it ends with a letter or a digit, and so it is legal.
-            match random.below(3) {
-                0 if length > 1 => drop(bytes.pop()),
-                1 if length < 35 => bytes.push(b'0'),
-                _ => {}
-            }
-            *bytes.last_mut().expect("no reference is empty") = random.of(LETTERS_DIGITS);
-        }
+        _ => bytes = value::near_reference(value, random),
     }
     bytes
 }
@@ -383,7 +392,8 @@ fn none(open: usize, random: &mut Random, break_it: impl FnOnce(&mut Day, &mut R
     day.is_book = false;
     // Every call is tried at least once.
     let keys = [some_key(&day.bulks, &day.entries, random), day.entries[0].key];
-    let each = [Call::Enter(0), Call::Withdraw(keys[0]), Call::Find(keys[1]), Call::Total];
+    let each = [Call::Withdraw(keys[0]), Call::Find(keys[1]), Call::Total, short(0, random)];
+    day.calls.push(Call::Enter(0));
     day.calls.truncate(6);
     day.calls.extend(each);
     day.calls.push(Call::Check);

@@ -9,13 +9,15 @@
 //! - [`sweep`]: every byte and every part of small messages damaged; messages at the limits.
 //! - [`typed`]: the payment type in the header, in items, in both and in neither.
 //! - [`versions`]: both versions, and messages that mix them; roots of neither.
+//! - [`twice`]: TxIds that stand twice, and such as nearly do.
 //! - [`slips`], [`letters`]: every slip of an accepted message; those in the letters of accounts.
 //! - [`twins`]: accepted messages in pairs, which mean the same or do not.
 //! - [`spellings`]: every spelling of counts and amounts, white space at every place.
 //! - [`slow`]: a second judge, made from a table of the elements, to hold `plain` against.
 //! - [`face`]: the library under test, asked by the kinds of these tests.
-//! - [`ask`], [`form`], [`recorded`]: the questions: the judges, what is known, and the laws held
-//!   against each other; those about the plain form; that about equal records.
+//! - [`ask`], [`form`], [`recorded`], [`indexed`]: the questions: the judges, what is known, and the
+//!   laws held against each other; those about the plain form; that about equal records; those about the
+//!   lent index.
 //! - [`days`], [`daybook`]: days of the day book, and the questions about them.
 //! - [`tally`]: what a run has seen; a difference, printed so that it can be run again.
 //! - [`usual`], [`bench`]: messages like those that are sent, and the stopwatch.
@@ -31,6 +33,7 @@ pub mod days;
 pub mod face;
 pub mod form;
 pub mod handmade;
+pub mod indexed;
 pub mod kind;
 pub mod letters;
 pub mod message;
@@ -41,6 +44,7 @@ pub mod slow;
 pub mod spellings;
 pub mod sweep;
 pub mod tally;
+pub mod twice;
 pub mod twins;
 pub mod typed;
 pub mod usual;

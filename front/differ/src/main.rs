@@ -8,7 +8,7 @@ use differ::bench::{bench, Machine};
 use differ::damage::{self, Case, Known, Twin};
 use differ::random::Random;
 use differ::tally::Name;
-use differ::{days, face, form, slips, spellings, sweep, twins, typed, value, versions};
+use differ::{days, face, form, slips, spellings, sweep, twice, twins, typed, value, versions};
 use std::process::ExitCode;
 
 const USAGE: &str = "\
@@ -19,6 +19,7 @@ differ messages N SEED        N messages, accepted and damaged: judge, items, la
 differ sweep SEED             every byte and every part of small messages damaged
 differ typed SEED             the payment type in the header, in items, in both, in neither; cut
 differ versions SEED          both versions, elements and roots of the other and of neither; cut
+differ twice SEED             a TxId twice, at every distance, with other faults; indexes
 differ slips N SEED           every slip of N messages
 differ records N SEED         N messages with record areas of all sizes
 differ plain N SEED           N messages with areas of all sizes for the plain form
@@ -26,8 +27,9 @@ differ twins N SEED           N pairs of messages, of the same plain form or not
 differ spellings SEED         every spelling of small messages: plain form, records
 differ days N SEED            N days of the day book, call by call
 differ limits                 messages at the limits of length and of items
+differ one-slot               10,000 TxIds that meet in the index: the judge alone
 differ large N SEED           N messages of up to 10,000 items
-differ samples FOLDER         the sample messages, and the October day with its own count
+differ samples FOLDER         the sample messages, and the October day otherwise
 differ again RUN SEED NUMBER  one case of a run again, with every question
 differ show RUN SEED NUMBER   the bytes of one case to standard output
 differ file FILE              every question about the bytes of a file
@@ -52,6 +54,7 @@ fn main() -> ExitCode {
         }
         ["all", times] => times.parse().ok().map(all),
         ["limits"] => Some(limits()),
+        ["one-slot"] => Some(one_slot()),
         [run, seed] => seed.parse().ok().and_then(|seed| swept(run, seed)),
         [run, n, seed] => numbers(n, seed).and_then(|(n, seed)| counted(run, n, seed)),
         _ => None,
@@ -80,6 +83,7 @@ fn swept(run: &str, seed: u64) -> Option<ExitCode> {
         "spellings" => spelled(seed),
         "typed" => type_sweep(seed),
         "versions" => version_sweep(seed),
+        "twice" => twice_sweep(seed),
         _ => return None,
     })
 }
@@ -108,6 +112,7 @@ fn all(times: u64) -> ExitCode {
         runs.push(spelled(seed));
         runs.push(type_sweep(seed));
         runs.push(version_sweep(seed));
+        runs.push(twice_sweep(seed));
     }
     runs.push(values(100_000 * times, 1));
     runs.push(messages(20_000 * times, 1));
@@ -117,6 +122,7 @@ fn all(times: u64) -> ExitCode {
     runs.push(twinned(10_000 * times, 1));
     runs.push(booked(1_000 * times, 1));
     runs.push(limits());
+    runs.push(one_slot());
     runs.push(large(6 * times, 1));
     let failed = runs.iter().any(|run| *run != ExitCode::SUCCESS);
     println!("{}", if failed { "DIFFERENCES" } else { "no difference" });
@@ -142,15 +148,16 @@ fn values(n: u64, seed: u64) -> ExitCode {
     asker.tally.end()
 }
 
-/// Every question but the records is asked of one case in sixteen; of the others the judge only, and
-/// the plain form of those that are accepted.
+/// Every question but the records is asked of one case in sixteen; of the others the judge only, in both
+/// its ways of one in four, and the plain form of those that are accepted.
 fn message_sweep(seed: u64) -> ExitCode {
     let mut asker = Asker::new(format!("sweep {seed}"));
     sweep::sweep(seed, |number, case| {
         let name = Name { run: "sweep", seed, number, sort: case.damage };
         let library = match number % 16 {
             0 => asker.message(&name, &case),
-            _ => asker.quickly(&name, &case),
+            4 | 8 | 12 => asker.quickly(&name, &case),
+            _ => asker.plainly(&name, &case),
         };
         if library[0] == 0 {
             asker.plain(&name, &case, &[case.bytes.len() + 100]);
@@ -172,7 +179,16 @@ fn version_sweep(seed: u64) -> ExitCode {
     fully_asked("versions", seed, |seed, each| versions::sweep(seed, each))
 }
 
-/// Each case of a sweep with every question but records and plain form; those too of what is accepted.
+/// TxIds that stand twice, and such as nearly do.
+fn twice_sweep(seed: u64) -> ExitCode {
+    fully_asked("twice", seed, |seed, each| twice::sweep(seed, each))
+}
+
+/// Every so many cases of a run are asked with indexes of all lengths.
+const INDEXED: u64 = 64;
+
+/// Each case of a sweep with every question but records and plain form; those too of what is accepted,
+/// and now and then all of them with indexes of all lengths.
 fn fully_asked(run: &str, seed: u64, sweep: Sweep) -> ExitCode {
     let mut asker = Asker::new(format!("{run} {seed}"));
     sweep(seed, &mut |number, case| {
@@ -181,16 +197,24 @@ fn fully_asked(run: &str, seed: u64, sweep: Sweep) -> ExitCode {
             asker.records(&name, &case, &areas(seed, number, &case));
             asker.plain(&name, &case, &form_areas(seed, number, &case));
         }
+        if number % INDEXED == 0 {
+            asker.indexed(&name, &case);
+        }
     });
     asker.tally.end()
 }
 
-/// So many messages, accepted and damaged, each with every question but records and plain form.
+/// So many messages, accepted and damaged, each with every question but records and plain form, which
+/// are asked now and then with indexes of all lengths.
 fn messages(n: u64, seed: u64) -> ExitCode {
     let mut asker = Asker::new(format!("messages {n} {seed}"));
     for number in 0..n {
         let case = damage::case(seed, number);
-        asker.message(&Name { run: "messages", seed, number, sort: case.damage }, &case);
+        let name = Name { run: "messages", seed, number, sort: case.damage };
+        asker.message(&name, &case);
+        if number % INDEXED == 0 {
+            asker.indexed(&name, &case);
+        }
     }
     asker.tally.end()
 }
@@ -299,6 +323,16 @@ fn limits() -> ExitCode {
         asker.records(&name, &case, &lengths[..asked]);
         let exact = case.plain.len();
         asker.plain(&name, &case, &[exact.saturating_sub(1), exact, exact + 1]);
+        asker.indexed(&name, &case);
+    });
+    asker.tally.end()
+}
+
+/// The largest messages whose TxIds meet in the index: the judge in its two ways.
+fn one_slot() -> ExitCode {
+    let mut asker = Asker::new("one-slot".into());
+    twice::one_slot(|number, case| {
+        asker.quickly(&Name { run: "one-slot", seed: 0, number, sort: case.damage }, &case);
     });
     asker.tally.end()
 }
@@ -327,8 +361,8 @@ const SAMPLES: [(&str, Known); 14] = [
     ("evening08-bic.xml", Known::Refused { number: 4, place: 8431 }),
     ("rents.xml", Known::Accepted { count: 3, cents: 200_330 }),
     ("rents-wrapped.xml", Known::Accepted { count: 3, cents: 200_330 }),
-    ("october.xml", Known::Refused { number: 14, place: 252 }),
-    ("doubled.xml", Known::Accepted { count: 6, cents: 286_990 }),
+    ("october.xml", Known::Refused { number: 24, place: 3988 }),
+    ("doubled.xml", Known::Refused { number: 24, place: 8574 }),
     ("example.xml", Known::Accepted { count: 1, cents: 1234 }),
     ("digit-too-many.xml", Known::Refused { number: 19, place: 1134 }),
     ("partner.xml", Known::Accepted { count: 2, cents: 196_550 }),
@@ -341,8 +375,30 @@ fn word(file: &str) -> &str {
     file.split(['-', '.']).next().unwrap_or(file)
 }
 
-/// The samples. The October day: refused with 14; accepted as soon as the count is that of its
-/// items, so nothing but the count tells it.
+/// The October day, refused with 24 at the second of its doubled TxIds; otherwise: with the count of its
+/// items it is refused there all the same; with other TxIds in the second ones the count alone is wrong,
+/// 14; with both it is accepted.
+const OCTOBER: [(&str, Known); 3] = [
+    ("the October day with its own count", Known::Refused { number: 24, place: 3988 }),
+    ("the October day with other TxIds", Known::Refused { number: 14, place: 252 }),
+    ("the October day with both", Known::Accepted { count: 7, cents: 207_535 }),
+];
+
+/// The October day with the count of its items, with other TxIds in the items that stand twice, or both.
+fn october(bytes: &[u8], has_count: bool, has_ids: bool) -> Vec<u8> {
+    let mut text = String::from_utf8_lossy(bytes).into_owned();
+    if has_count {
+        text = text.replacen("<NbOfTxs>9<", "<NbOfTxs>7<", 1);
+    }
+    for id in ["TX-20261028-0002", "TX-20261028-0004"].iter().filter(|_| has_ids) {
+        let first = text.find(id).expect("it stands twice") + id.len();
+        let (before, behind) = text.split_at(first);
+        text = format!("{before}{}", behind.replacen(id, &id.replace("-00", "-10"), 1));
+    }
+    text.into_bytes()
+}
+
+/// The samples, and the October day otherwise.
 fn samples(folder: &str) -> ExitCode {
     let mut asker = Asker::new("samples".into());
     let mut firsts = Vec::new();
@@ -365,10 +421,9 @@ fn samples(folder: &str) -> ExitCode {
     for (number, (file, known)) in SAMPLES.into_iter().enumerate() {
         let Some(bytes) = read(&format!("{folder}/{file}")) else { return ExitCode::from(2) };
         if file == "october.xml" {
-            let mut counted = bytes.clone();
-            counted[252] = b'7';
-            let known = Known::Accepted { count: 7, cents: 207_535 };
-            ask(100, "the October day with its own count", counted, known);
+            for (way, (sort, known)) in OCTOBER.into_iter().enumerate() {
+                ask(100 + way as u64, sort, october(&bytes, way != 1, way != 0), known);
+            }
         }
         ask(number as u64, file, bytes, known);
     }
@@ -402,6 +457,7 @@ fn every_question(name: &Name, case: &Case) -> ExitCode {
     asker.records(name, case, &areas(name.seed, name.number, case));
     asker.plain(name, case, &form_areas(name.seed, name.number, case));
     asker.equal_records(name, case);
+    asker.indexed(name, case);
     asker.tally.end()
 }
 
@@ -446,8 +502,10 @@ fn one_message(run: &str, seed: u64, number: u64, of_message: OneMessage) -> Opt
         "sweep" => sweep::sweep(seed, message),
         "typed" => typed::sweep(seed, message),
         "versions" => versions::sweep(seed, message),
+        "twice" => twice::sweep(seed, message),
         "slips" => slips::slips(seed, number / slips::NUMBERS, message),
         "limits" => sweep::limits(message),
+        "one-slot" => twice::one_slot(message),
         _ => {}
     }
     found

@@ -4,6 +4,7 @@ use crate::face::RECORD;
 use crate::kind::Kind;
 use crate::random::Random;
 use crate::value::{self, Valid, WHITE};
+use std::collections::HashSet;
 
 #[derive(Clone, Copy, Debug, PartialEq, Eq)]
 pub enum What {
@@ -134,6 +135,8 @@ impl Plan {
 
 pub const DECLARATION: &str = r#"<?xml version="1.0" encoding="UTF-8"?>"#;
 
+/// The element that no two items have alike.
+const TRANSACTION: &str = "TxId";
 const METHODS: Kind = Kind::Code(&["CLRG"]);
 const SEPA: Kind = Kind::Code(&["SEPA"]);
 pub const INSTRUMENTS: Kind = Kind::Code(&["CORE", "B2B"]);
@@ -147,6 +150,8 @@ struct Writer<'r> {
     version: Version,
     depth: usize,
     parts: Vec<Part>,
+    /// The TxIds so far: all differ.
+    transactions: HashSet<Vec<u8>>,
 }
 
 impl Writer<'_> {
@@ -209,15 +214,32 @@ impl Writer<'_> {
         self.part(What::End, name, format!("</{name}>").into_bytes());
     }
 
-    /// An element with a value of this kind; answers what it means.
-    fn element(&mut self, name: &'static str, kind: Kind) -> Vec<u8> {
+    /// A value of this kind, as long as the plan has it.
+    fn value(&mut self, kind: Kind) -> Valid {
         let mut value = value::valid(kind, self.random);
         while self.small && value.bytes.len() > short(kind) {
             value = value::valid(kind, self.random);
         }
+        value
+    }
+
+    /// An element with a value of this kind; answers what it means.
+    fn element(&mut self, name: &'static str, kind: Kind) -> Vec<u8> {
+        let value = self.value(kind);
         let meant = value.meant.clone();
         self.valued(name, kind, value);
         meant
+    }
+
+    /// A TxId that no item before this one has; answers it.
+    fn transaction(&mut self) -> Vec<u8> {
+        let mut value = self.value(Kind::Reference);
+        while !self.transactions.insert(value.bytes.clone()) {
+            value = self.value(Kind::Reference);
+        }
+        let bytes = value.bytes.clone();
+        self.valued(TRANSACTION, Kind::Reference, value);
+        bytes
     }
 
     /// An agent; answers its BIC.
@@ -302,7 +324,7 @@ impl Writer<'_> {
             false => Vec::new(),
         };
         let end_to_end = self.element("EndToEndId", Kind::EndToEnd);
-        let transaction = self.element("TxId", Kind::Reference);
+        let transaction = self.transaction();
         self.close("PmtId");
         (instruction, end_to_end, transaction)
     }
@@ -384,7 +406,8 @@ fn short(kind: Kind) -> usize {
 /// An accepted message by this plan.
 pub fn accepted(plan: &Plan, random: &mut Random) -> Message {
     let &Plan { spacing, small, version, .. } = plan;
-    let mut writer = Writer { random, spacing, small, version, depth: 0, parts: Vec::new() };
+    let (parts, transactions) = (Vec::new(), HashSet::new());
+    let mut writer = Writer { random, spacing, small, version, depth: 0, parts, transactions };
     let w = &mut writer;
     let amounts: Vec<u64> = (0..plan.items)
         .map(|_| if plan.small { w.random.worth(1, 9999) } else { value::item_cents(w.random) })
@@ -466,6 +489,29 @@ impl Message {
     /// The parts that are so.
     pub fn parts_that(&self, are: impl Fn(&Part) -> bool) -> Vec<usize> {
         (0..self.parts.len()).filter(|&at| are(&self.parts[at])).collect()
+    }
+
+    /// The parts that are the items' TxIds.
+    pub fn transactions(&self) -> Vec<usize> {
+        self.parts_that(|part| part.name == TRANSACTION && matches!(part.what, What::Value(_)))
+    }
+
+    /// Gives an item this TxId, in its record too.
+    pub fn set_transaction(&mut self, item: usize, bytes: &[u8]) {
+        let part = self.transactions()[item];
+        self.parts[part].say(Valid::new(bytes.to_vec(), 0));
+        let field = &mut self.records[item][..35];
+        field.fill(b' ');
+        field[..bytes.len().min(35)].copy_from_slice(&bytes[..bytes.len().min(35)]);
+    }
+
+    /// The first TxId that an earlier item has, if there is one: each compared with each.
+    pub fn second_transaction(&self) -> Option<usize> {
+        let parts = self.transactions();
+        let is_second = |at: &usize| {
+            parts[..*at].iter().any(|one| self.parts[*one].bytes == self.parts[parts[*at]].bytes)
+        };
+        (0..parts.len()).find(is_second).map(|at| parts[at])
     }
 
     /// The part that is the instructing agent's BIC.

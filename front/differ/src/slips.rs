@@ -3,10 +3,10 @@
 //! to 7; an item left out; an item doubled. Each must be refused, and it is known how. And every slip
 //! in the letters of an IBAN: refused too, but for three pairs that must be accepted.
 
-use crate::damage::{Case, Known};
+use crate::damage::{twice, Case, Known};
 use crate::kind::Kind;
 use crate::letters;
-use crate::message::{accepted, concat, Message, Plan, What};
+use crate::message::{accepted, Message, Part, Plan, What};
 use crate::random::Random;
 use crate::value;
 
@@ -129,9 +129,7 @@ fn left_out(message: &Message, give: Give) {
     for &(first, after) in &message.items {
         let mut other = message.clone();
         other.parts.drain(first..after);
-        let end = |part: &crate::message::Part| {
-            part.what == What::End && part.name == "FIToFICstmrDrctDbt"
-        };
+        let end = |part: &Part| part.what == What::End && part.name == "FIToFICstmrDrctDbt";
         let known = match message.items.len() {
             1 => Known::Refused { number: 4, place: other.place(other.parts_that(end)[0]) },
             _ => count_wrong(message),
@@ -140,17 +138,18 @@ fn left_out(message: &Message, give: Give) {
     }
 }
 
-/// Each item once more: right behind it, behind white space, before the first and behind the last.
+/// Each item once more: right behind it, behind white space, before the first and behind the last. 24
+/// at the second one of the two.
 fn doubled(message: &Message, give: Give) {
     let (top, bottom) = (message.items[0].0, message.items[message.items.len() - 1].1);
     for &(first, after) in &message.items {
-        let item = concat(&message.parts[first..after]);
+        let item = &message.parts[first..after];
         for white in ["", " ", "\n", "\r\n\t  "] {
             for at in [after, top, bottom] {
-                let (before, behind) = (&message.parts[..at], &message.parts[at..]);
-                let more = [white.as_bytes(), &item].concat();
-                let bytes = [concat(before), more, concat(behind)].concat();
-                give(bytes, "slip: item doubled", count_wrong(message));
+                let mut other = message.clone();
+                let white = Part::new(What::White, "", white.into());
+                other.parts.splice(at..at, [&[white], item].concat());
+                give(other.bytes(), "slip: item doubled", twice(&other));
             }
         }
     }

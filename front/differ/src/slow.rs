@@ -4,6 +4,7 @@
 
 use crate::kind::Kind;
 use std::borrow::Cow;
+use std::collections::BTreeSet;
 
 const DECLARATION: &str = "<?xml version=\"1.0\" encoding=\"UTF-8\"?>";
 
@@ -192,6 +193,8 @@ struct Run<'m> {
     items: Vec<(usize, usize)>,
     sum: u128,
     instrument: Option<Vec<u8>>,
+    /// The TxIds, in the order of their bytes.
+    transactions: BTreeSet<&'m [u8]>,
     /// The names of the groups that are open.
     path: Vec<&'static str>,
     /// The names of the groups that the header has had.
@@ -323,6 +326,7 @@ impl<'m> Run<'m> {
                 }
             }
             "IntrBkSttlmAmt" => self.sum += u128::from(worth),
+            "TxId" if !self.transactions.insert(bytes) => return Err((24, place)),
             _ => {}
         }
         let meaning = match kind {
@@ -388,6 +392,7 @@ impl Slow {
             items: Vec::new(),
             sum: 0,
             instrument: None,
+            transactions: BTreeSet::new(),
             path: Vec::new(),
             in_header: Vec::new(),
             said: Vec::new(),

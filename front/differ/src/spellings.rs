@@ -148,6 +148,10 @@ pub fn limits(give: Give) {
             part.say(Valid::new(longest_value(kind), 0));
         }
     }
+    // No two items have one TxId.
+    for (number, part) in longest.transactions().into_iter().enumerate() {
+        longest.parts[part].say(Valid::new(format!("{number:035}").into_bytes(), 0));
+    }
     let items = MOST_ITEMS as u64;
     give(made(&with_header(longest, items, items * ITEM_MOST), "longest plain form"));
 

@@ -11,6 +11,7 @@ use crate::kind::Kind;
 use crate::message::{accepted, concat, Message, Part, Plan, Spacing, Version, What};
 use crate::random::Random;
 use crate::spellings;
+use crate::twice;
 use crate::value::{self, WHITE};
 
 type Give<'a> = &'a mut dyn FnMut(Vec<u8>, &'static str, Known);
@@ -304,6 +305,7 @@ pub fn limits(mut each: impl FnMut(u64, Case)) {
     most_items(&most, &mut |bytes, damage, known| give(Case::new(bytes, damage, known)));
     spellings::limits(&mut give);
     long_values(&mut give);
+    twice::limits(&mut give);
 }
 
 /// Values of as many bytes as a message can have. The raw length of those that collapse is free; what

@@ -36,7 +36,7 @@ const OTHER: &[(&str, Way)] = &[
     ("optional element left out", left_out),
     ("optional element put in", put_in),
     ("item left out", item_left_out),
-    ("item doubled", item_doubled),
+    ("item doubled under another TxId", item_doubled),
     ("items exchanged", items_exchanged),
 ];
 
@@ -46,8 +46,8 @@ pub fn ways() -> impl Iterator<Item = (&'static str, bool)> {
     same.chain(OTHER.iter().map(|(way, _)| (*way, false)))
 }
 
-/// One pair of the run with this seed: the message of that case, and what was made from it. Every
-/// other time that one is written otherwise as well.
+/// One pair of the run with this seed: the message of that case, and what was made from it, with no TxId
+/// twice. Every other time that one is written otherwise as well.
 pub fn case(seed: u64, case: u64) -> Case {
     let (message, mut random) = damage::message(seed ^ 0x7419, case);
     loop {
@@ -55,6 +55,9 @@ pub fn case(seed: u64, case: u64) -> Case {
         let ways = if is_same { SAME } else { OTHER };
         let (way, make) = ways[random.below(ways.len())];
         let Some(made) = make(message.clone(), &mut random) else { continue };
+        if made.second_transaction().is_some() {
+            continue;
+        }
         let made = match random.once_in(2) {
             true => all_otherwise(made, &mut random).expect("it always fits"),
             false => made,
@@ -309,12 +312,15 @@ fn item_left_out(mut message: Message, random: &mut Random) -> Option<Message> {
     Some(with_header(message, count, cents))
 }
 
-/// One item twice, and a header that fits.
+/// One item twice, the second time under another TxId, and a header that fits.
 fn item_doubled(mut message: Message, random: &mut Random) -> Option<Message> {
     let item = message.items[random.below(message.items.len())];
     let (count, cents) = (message.count + 1, message.cents + cents_of(&message, item));
     let copy = message.parts[item.0..item.1].to_vec();
     message.parts.splice(item.1..item.1, copy);
+    let is_copy = |part: &usize| *part >= item.1;
+    let id = message.transactions().into_iter().find(is_copy).expect("the copy has a TxId");
+    message.parts[id].say(Valid::new(value::reference(random), 0));
     Some(with_header(message, count, cents))
 }
 

@@ -26,7 +26,7 @@ impl Places {
 
     /// The first item that has one though the header has one, or that has none though the header has
     /// none.
-    fn wrong(&self) -> Option<usize> {
+    pub(crate) fn wrong(&self) -> Option<usize> {
         self.items.iter().position(|&item| item == self.header)
     }
 }

@@ -322,6 +322,24 @@ pub fn reference(random: &mut Random) -> Vec<u8> {
     bytes
 }
 
+/// A legal reference nearly like this one: shorter, longer, of another case, or with another end. A new
+/// end is a letter or a digit, and so it is legal.
+pub fn near_reference(reference: &[u8], random: &mut Random) -> Vec<u8> {
+    let mut bytes = reference.to_vec();
+    match (random.below(4), bytes.len()) {
+        (0, 2..) => drop(bytes.pop()),
+        (1, ..35) => bytes.push(b'0'),
+        (2, length) => {
+            let at = random.below(length);
+            bytes[at] ^= if bytes[at].is_ascii_alphabetic() { 0x20 } else { 0 };
+            return bytes;
+        }
+        _ => {}
+    }
+    *bytes.last_mut().expect("no reference is empty") = random.of(LETTERS_DIGITS);
+    bytes
+}
+
 /// Replaces this byte where it stands first, last or behind itself.
 pub fn alone_and_inside(bytes: &mut [u8], byte: u8, random: &mut Random) {
     for at in 0..bytes.len() {

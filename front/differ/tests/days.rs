@@ -56,7 +56,7 @@ fn every_sort_every_call_and_every_number() {
     assert_eq!(sorts, days::sorts().collect());
     let due = [
         ("check", &[0, 29][..]),
-        ("enter", &[0, 2, 3, 14, 20, 21, 29]),
+        ("enter", &[0, 2, 3, 14, 20, 21, 24, 25, 29]),
         ("find", &[0, 29]),
         ("total", &[0, 29]),
         ("withdraw", &[0, 22, 29]),

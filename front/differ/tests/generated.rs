@@ -2,13 +2,13 @@
 
 use differ::ask::{other_names, plain_check};
 use differ::damage::{self, Known};
-use differ::face::RECORD;
+use differ::face::{INDEX, RECORD};
 use differ::kind::{Kind, CHECKED};
 use differ::message::{Message, Part, Version, What, INSTRUMENTS};
 use differ::random::Random;
 use differ::slow::Slow;
 use differ::value::{self, WHITE};
-use differ::{letters, slips, spellings, sweep, twins, typed, versions};
+use differ::{indexed, letters, slips, spellings, sweep, twice, twins, typed, versions};
 use std::collections::{BTreeMap, BTreeSet};
 
 /// The first messages that the gate's run of seed 1 is made from.
@@ -355,6 +355,103 @@ fn versions_in_every_way() {
     assert_eq!(seen, due.map(|(damage, answers)| (damage, in_both(answers))).into());
 }
 
+/// The values of all TxIds of a message.
+fn transactions(message: &Message) -> Vec<Vec<u8>> {
+    message.transactions().into_iter().map(|part| message.parts[part].bytes.clone()).collect()
+}
+
+/// No message that is made has a TxId twice, short as they may be; and each record has its item's.
+#[test]
+fn all_transactions_of_a_message_differ() {
+    for message in messages() {
+        let ids = transactions(&message);
+        assert_eq!(ids.len(), message.items.len());
+        assert_eq!(ids.iter().collect::<BTreeSet<_>>().len(), ids.len());
+        assert_eq!(message.second_transaction(), None);
+        for (id, record) in ids.iter().zip(&message.records) {
+            assert_eq!(record[..35], *format!("{:35}", text(id)).as_bytes());
+        }
+    }
+}
+
+/// What the sweep of TxIds that stand twice must have: each sort, and the answers known of it.
+const TWICE: [(&str, &str); 21] = [
+    ("no TxId twice", "accepted"),
+    ("TxId twice", "24"),
+    ("TxIds shared", "24 accepted"),
+    ("TxId twice, at a distance", "24"),
+    ("TxId twice, of each length", "24"),
+    ("TxIds nearly the same", "accepted"),
+    ("TxIds in other elements", "accepted"),
+    ("TxIds in other elements, one twice", "24"),
+    ("TxId twice, cut", "24 3"),
+    ("TxId twice, another end", "24 7"),
+    ("TxId twice, no reference", "7"),
+    ("TxId twice, a fault behind it", "24"),
+    ("TxId twice, an empty value", "10 24 7"),
+    ("TxId twice, count or total wrong", "24"),
+    ("TxId twice, bytes after the end", "24"),
+    ("TxId twice, payment type here and there", "23 24 4"),
+    ("TxId twice, local instruments mixed", "11 24"),
+    ("TxIds of one slot", "accepted"),
+    ("TxIds of one slot, one twice", "24"),
+    ("TxIds of few slots", "accepted"),
+    ("TxIds of few slots, one twice", "24"),
+];
+
+/// The sweep of TxIds that stand twice: each answer that it can have, known from its making, in both
+/// versions.
+#[test]
+fn transactions_twice_in_every_way() {
+    let mut seen: BTreeMap<&str, BTreeSet<String>> = BTreeMap::new();
+    let mut versions = BTreeSet::new();
+    twice::sweep(1, |_, case| {
+        let answer = match case.known {
+            Known::Refused { number, .. } => number.to_string(),
+            Known::Accepted { .. } => "accepted".into(),
+            Known::Bad | Known::Nothing => panic!("{} is known", case.damage),
+        };
+        if answer == "24" {
+            let is_08 = case.bytes.windows(6).any(|part| part == b"001.08");
+            let text = text(&case.bytes);
+            let is_typed = text.find("<PmtTpInf>") < text.find("<DrctDbtTxInf>");
+            versions.insert((is_08, is_typed));
+        }
+        seen.entry(case.damage).or_default().insert(answer);
+    });
+    let answers = |answers: &str| answers.split(' ').map(String::from).collect();
+    assert_eq!(seen, TWICE.map(|(damage, given)| (damage, answers(given))).into());
+    assert_eq!(versions.len(), 4, "{versions:?}");
+}
+
+/// TxIds that meet in the library's index: all different, all of one sum, and those about the last slot
+/// go on at the first.
+#[test]
+fn transactions_of_one_slot() {
+    for begin in [0, 1, 16_383] {
+        let ids = twice::in_slot(begin, 10_000);
+        assert_eq!(ids.iter().collect::<BTreeSet<_>>().len(), 10_000);
+        for id in &ids {
+            assert_eq!((twice::slot(id), plain::reference(id)), (begin, Ok(0)), "{}", text(id));
+        }
+    }
+    let ids = twice::about_slot(16_380, 200);
+    let slots: BTreeSet<usize> = ids.iter().map(|id| twice::slot(id)).collect();
+    assert_eq!(slots, (0..4).chain(16_380..16_384).collect());
+    assert_eq!(ids.iter().collect::<BTreeSet<_>>().len(), 200);
+}
+
+/// Every sort of rubbish in an index, of which each is another; one has the numbers of items.
+#[test]
+fn rubbish_of_every_sort() {
+    let all: BTreeSet<Vec<u32>> = (0..6).map(indexed::filled).collect();
+    assert_eq!(all.len(), 6);
+    assert!(all.iter().all(|index| index.len() == INDEX));
+    assert!(all.iter().any(|index| index.contains(&u32::MAX)) && all.contains(&vec![1; INDEX]));
+    assert!(all.contains(&(1..=INDEX as u32).collect::<Vec<u32>>()));
+    assert_eq!(indexed::LENGTHS, [0, 1, 16_383, 16_384, 16_385, 65_536]);
+}
+
 #[test]
 fn every_damage_and_every_number() {
     let mut damages = BTreeSet::new();
@@ -369,7 +466,7 @@ fn every_damage_and_every_number() {
     assert!(missing.is_empty(), "{missing:?}");
     // 1 and 12 are met at the limits.
     let met: Vec<u8> = numbers.into_iter().collect();
-    assert_eq!(met, [2, 3, 4, 6, 7, 8, 9, 10, 11, 14, 15, 16, 19, 23]);
+    assert_eq!(met, [2, 3, 4, 6, 7, 8, 9, 10, 11, 14, 15, 16, 19, 23, 24]);
     let mut at_limits = BTreeSet::new();
     let mut highest = 0;
     sweep::limits(|_, case| match case.known {
@@ -377,7 +474,7 @@ fn every_damage_and_every_number() {
         Known::Accepted { cents, .. } => highest = highest.max(cents),
         Known::Bad | Known::Nothing => {}
     });
-    assert!(at_limits.contains(&1) && at_limits.contains(&12), "{at_limits:?}");
+    assert!([1, 12, 24].iter().all(|number| at_limits.contains(number)), "{at_limits:?}");
     // The highest sum that a message can have: 10,000 times the highest amount.
     assert_eq!(highest, 999_999_999_990_000);
 }

@@ -1,7 +1,7 @@
 //! The day book: a lent list of entries and the number open, the open ones first in order of entry.
 //! The caller keeps both, and takes the number open from the answer of a call that changes it.
 
-use super::{answered, Words};
+use super::{answered, answered_with, own_index, Words};
 use std::mem::{align_of, offset_of, size_of};
 
 /// The most bulks that are open, and the fewest places that a book has.
@@ -36,6 +36,8 @@ extern "C" {
         opened: usize,
         message: *const u8,
         length: usize,
+        index: *mut u32,
+        index_length: usize,
         answer: *mut u64,
     );
     fn bulk_book_withdraw(
@@ -59,10 +61,18 @@ extern "C" {
 /// Enters a message: `0, number open, cents of the bulk`, its entry behind the open ones; or `number,
 /// place, 0` and every entry as lent.
 pub fn enter(entries: &mut [Entry], open: usize, message: &[u8]) -> Words {
+    enter_with(entries, open, message, &mut own_index())
+}
+
+/// The same with the caller's index; 29 comes before its 25.
+pub fn enter_with(entries: &mut [Entry], open: usize, message: &[u8], index: &mut [u32]) -> Words {
     let (lent, places) = (entries.as_mut_ptr(), entries.len());
     let (bytes, length) = (message.as_ptr(), message.len());
-    // SAFETY: the entries are lent mutably for the call, the message too, the answer is three words.
-    answered(|answer| unsafe { bulk_book_enter(lent, places, open, bytes, length, answer) })
+    // SAFETY: entries and index are lent mutably for the call, the message too, the answer is three
+    // words.
+    answered_with(index, |index, numbers, answer| unsafe {
+        bulk_book_enter(lent, places, open, bytes, length, index, numbers, answer)
+    })
 }
 
 /// Withdraws a key: `0, number open, cents of the bulk`, the open ones behind it one place further
@@ -158,5 +168,18 @@ mod tests {
         assert_eq!((enter(&mut book, 1, example), check(&book, 1)), ([20, 0, 0], [0, 0, 0]));
         assert_eq!(withdraw(&mut book, 1, &due), [0, 0, 1234]);
         assert_eq!((withdraw(&mut book, 0, &due), check(&book[1..], 0)), ([22, 0, 0], [29, 0, 0]));
+    }
+
+    /// A short index is 25, but where the book is none: 29.
+    #[test]
+    fn an_entry_with_the_caller_s_index() {
+        let example = include_bytes!("../../../samples/example.xml");
+        let mut book = empty();
+        let mut index = vec![7; crate::INDEX];
+        assert_eq!(enter_with(&mut book, 0, example, &mut index[1..]), [25, 0, 0]);
+        assert_eq!(enter_with(&mut book[1..], 0, example, &mut index[1..]), [29, 0, 0]);
+        assert_eq!((&index, &book), (&vec![7; crate::INDEX], &empty()));
+        assert_eq!(enter_with(&mut book, 0, example, &mut index), [0, 1, 1234]);
+        assert_eq!(index, vec![0; crate::INDEX]);
     }
 }

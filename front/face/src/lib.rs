@@ -1,6 +1,7 @@
 //! The C face of the proved library: the only unsafe code towards it. (The command has some of its
 //! own towards the system, front/bulk/src/system.rs.) The functions here are safe: each lends a slice
-//! for the call, and three words for the answer.
+//! for the call, and three words for the answer. Whatever judges a message lends an index too: one of
+//! its own, or, where its name ends in `_with`, the caller's.
 
 pub mod book;
 
@@ -11,6 +12,9 @@ pub type Words = [u64; 3];
 
 /// The bytes of one posting record, with its LF.
 pub const RECORD: usize = 320;
+
+/// The fewest numbers that an index has; with fewer it is 25.
+pub const INDEX: usize = 16_384;
 
 /// The folder that the library was linked from. What tests leave behind lies beside it.
 pub const FOLDER: &str = env!("BULK_FOLDER");
@@ -50,13 +54,29 @@ extern "C" {
     fn bulk_count(value: *const u8, length: usize, answer: *mut u64);
     fn bulk_item_amount(value: *const u8, length: usize, answer: *mut u64);
     fn bulk_header_amount(value: *const u8, length: usize, answer: *mut u64);
-    fn bulk_judge(message: *const u8, length: usize, answer: *mut u64);
-    fn bulk_item(message: *const u8, length: usize, i: u64, answer: *mut u64);
+    fn bulk_judge(
+        message: *const u8,
+        length: usize,
+        index: *mut u32,
+        index_length: usize,
+        answer: *mut u64,
+    );
+    fn bulk_judge_plainly(message: *const u8, length: usize, answer: *mut u64);
+    fn bulk_item(
+        message: *const u8,
+        length: usize,
+        i: u64,
+        index: *mut u32,
+        index_length: usize,
+        answer: *mut u64,
+    );
     fn bulk_records(
         message: *const u8,
         length: usize,
         area: *mut u8,
         area_length: usize,
+        index: *mut u32,
+        index_length: usize,
         answer: *mut u64,
     );
     fn bulk_plain(
@@ -64,6 +84,8 @@ extern "C" {
         length: usize,
         area: *mut u8,
         area_length: usize,
+        index: *mut u32,
+        index_length: usize,
         answer: *mut u64,
     );
 }
@@ -86,6 +108,27 @@ fn answered(call: impl FnOnce(*mut u64)) -> Words {
         end("it wrote no whole answer");
     }
     answer
+}
+
+/// Lends an index too. Where it has numbers enough, all of them are 0 afterwards, whatever they were;
+/// where it has not, it is as lent. It ends the program where that is otherwise.
+fn answered_with(index: &mut [u32], call: impl FnOnce(*mut u32, usize, *mut u64)) -> Words {
+    let is_short = index.len() < INDEX;
+    let lent = if is_short { index.to_vec() } else { Vec::new() };
+    let (numbers, length) = (index.as_mut_ptr(), index.len());
+    let words = answered(|answer| call(numbers, length, answer));
+    if is_short && *index != *lent {
+        end("it wrote into an index that is too short");
+    }
+    if !is_short && index.iter().any(|number| *number != 0) {
+        end("it left the index uncleared");
+    }
+    words
+}
+
+/// An index of just the numbers that are due, for one call.
+fn own_index() -> Vec<u32> {
+    vec![0; INDEX]
 }
 
 /// Ends the program at once, with a message: nothing is unwound, nothing more is written.
@@ -120,31 +163,63 @@ pub fn check(kind: Kind, value: &[u8]) -> Words {
 
 /// The judge: `0, count, cents`, or `number, place, 0`.
 pub fn judge(message: &[u8]) -> Words {
+    judge_with(message, &mut own_index())
+}
+
+/// The same with the caller's index; `25, 0, 0` where it is too short.
+pub fn judge_with(message: &[u8], index: &mut [u32]) -> Words {
+    // SAFETY: the message is lent for the call, the index mutably so, the answer is three words.
+    answered_with(index, |index, numbers, answer| unsafe {
+        bulk_judge(message.as_ptr(), message.len(), index, numbers, answer)
+    })
+}
+
+/// The judge without an index, by the plain search: it answers the same.
+pub fn judge_plainly(message: &[u8]) -> Words {
     // SAFETY: the message is lent for the call, the answer is three words.
-    answered(|answer| unsafe { bulk_judge(message.as_ptr(), message.len(), answer) })
+    answered(|answer| unsafe { bulk_judge_plainly(message.as_ptr(), message.len(), answer) })
 }
 
 /// Where item `i` lies, from 0: `0, start, end`, or `number, place, 0`. It judges the whole message.
 pub fn item(message: &[u8], i: u64) -> Words {
-    // SAFETY: the message is lent for the call, the answer is three words.
-    answered(|answer| unsafe { bulk_item(message.as_ptr(), message.len(), i, answer) })
+    item_with(message, i, &mut own_index())
+}
+
+/// The same with the caller's index.
+pub fn item_with(message: &[u8], i: u64, index: &mut [u32]) -> Words {
+    // SAFETY: the message is lent for the call, the index mutably so, the answer is three words.
+    answered_with(index, |index, numbers, answer| unsafe {
+        bulk_item(message.as_ptr(), message.len(), i, index, numbers, answer)
+    })
 }
 
 /// The records: `0, count, cents` and the area written, or `number, place, 0` and the area as lent.
 pub fn records(message: &[u8], area: &mut [u8]) -> Words {
+    records_with(message, area, &mut own_index())
+}
+
+/// The same with the caller's index.
+pub fn records_with(message: &[u8], area: &mut [u8], index: &mut [u32]) -> Words {
     let (lent, length) = (area.as_mut_ptr(), area.len());
-    // SAFETY: the message is lent for the call, the area mutably so, the answer is three words.
-    answered(|answer| unsafe {
-        bulk_records(message.as_ptr(), message.len(), lent, length, answer)
+    // SAFETY: the message is lent for the call, area and index mutably so, the answer is three words.
+    answered_with(index, |index, numbers, answer| unsafe {
+        bulk_records(message.as_ptr(), message.len(), lent, length, index, numbers, answer)
     })
 }
 
 /// The plain form: `0, length, 0` and the form at the area's start, or `number, place, 0` and the
 /// area as lent. Bytes behind the form are as lent.
 pub fn plain(message: &[u8], area: &mut [u8]) -> Words {
+    plain_with(message, area, &mut own_index())
+}
+
+/// The same with the caller's index.
+pub fn plain_with(message: &[u8], area: &mut [u8], index: &mut [u32]) -> Words {
     let (lent, length) = (area.as_mut_ptr(), area.len());
-    // SAFETY: the message is lent for the call, the area mutably so, the answer is three words.
-    answered(|answer| unsafe { bulk_plain(message.as_ptr(), message.len(), lent, length, answer) })
+    // SAFETY: the message is lent for the call, area and index mutably so, the answer is three words.
+    answered_with(index, |index, numbers, answer| unsafe {
+        bulk_plain(message.as_ptr(), message.len(), lent, length, index, numbers, answer)
+    })
 }
 
 #[cfg(test)]

@@ -1,5 +1,5 @@
 //! The day book (document 02, request 5): a bulk is entered, withdrawn, searched for, and the open
-//! total is asked. Nothing is allocated.
+//! total is asked. Nothing is allocated but by the judge.
 
 use crate::message::Refusal;
 use crate::value::HEADER_MOST;

@@ -2,7 +2,8 @@
 //! and 02.
 //!
 //! The message lies in lent bytes and is read once, left to right; the first fault met ends the
-//! reading. Nothing is allocated.
+//! reading. Nothing is allocated but a set of the TxIds (request 11): no index is lent, so there is no
+//! 25 here.
 
 #![forbid(unsafe_code)]
 #![warn(missing_docs)]

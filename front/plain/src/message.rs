@@ -4,6 +4,7 @@ use crate::value::{
     bic, bicfi, code, count, creditor_id, date, end_to_end, header_amount, iban, item_amount,
     number, reference, text140, text70, time,
 };
+use std::collections::HashSet;
 
 /// A refusal: "Each gives its number and a place".
 pub type Refusal = (u8, usize);
@@ -46,6 +47,17 @@ struct PaymentType<'m> {
     instrument: &'m [u8],
     /// SeqTp.
     sequence: &'m [u8],
+}
+
+/// What the items read so far leave for those that follow.
+#[derive(Default)]
+struct Before<'m> {
+    /// The first item's LclInstrm.
+    instrument: Option<&'m [u8]>,
+    /// The TxIds. Each is looked up by all its bytes.
+    transactions: HashSet<&'m [u8]>,
+    /// The running sum.
+    sum: u64,
 }
 
 /// InstrId, where there is one, EndToEndId and TxId.
@@ -105,21 +117,20 @@ pub fn read<'m, const ACCEPTED: bool>(
     let header = cursor.group_header()?;
 
     let mut items = 0;
-    let mut sum = 0;
-    let mut instrument = None;
+    let mut before = Before::default();
     let mut next = Some(cursor.tag(ITEM)?);
     while let Some(start) = next {
         if items == MOST_ITEMS {
             return Err((number::TOO_MANY, start));
         }
-        let item = cursor.item(start, &header, &mut instrument, &mut sum)?;
+        let item = cursor.item(start, &header, &mut before)?;
         each(items, &item);
         items += 1;
         next = cursor.first_of(ITEM, b"</FIToFICstmrDrctDbt>")?;
     }
 
-    cursor.ending(&header, items as u64, sum)?;
-    Ok((items as u64, sum))
+    cursor.ending(&header, items as u64, before.sum)?;
+    Ok((items as u64, before.sum))
 }
 
 /// The message from the place where reading stands.
@@ -252,6 +263,12 @@ impl<'m, const ACCEPTED: bool> Cursor<'m, ACCEPTED> {
         self.fixed(tag, number::TAG)
     }
 
+    /// A value whose worth is not wanted: of an accepted message it is taken as it lies.
+    #[inline]
+    fn judged(&mut self, kind: impl Fn(&[u8]) -> Result<u64, u8>) -> Result<Value<'m>, Refusal> {
+        self.value(|bytes| if ACCEPTED { Ok(0) } else { kind(bytes) })
+    }
+
     /// What stands between a value's start tag, already taken, and the end of its end tag.
     #[inline]
     fn value_and_end<const N: usize>(
@@ -259,7 +276,7 @@ impl<'m, const ACCEPTED: bool> Cursor<'m, ACCEPTED> {
         kind: impl Fn(&[u8]) -> Result<u64, u8>,
         end: &[u8; N],
     ) -> Result<Value<'m>, Refusal> {
-        let value = self.value(|bytes| if ACCEPTED { Ok(0) } else { kind(bytes) })?;
+        let value = self.judged(kind)?;
         self.end_tag(end)?;
         Ok(value)
     }
@@ -352,19 +369,19 @@ impl<'m, const ACCEPTED: bool> Cursor<'m, ACCEPTED> {
         })
     }
 
-    /// "DrctDbtTxInf (1 or more)", from behind its start tag at `start`. `instrument` is the first
-    /// item's LclInstrm once it is known, `sum` the running sum.
+    /// "DrctDbtTxInf (1 or more)", from behind its start tag at `start`, with what the items before it
+    /// left.
     #[inline]
     fn item(
         &mut self,
         start: usize,
         header: &Header<'m>,
-        instrument: &mut Option<&'m [u8]>,
-        sum: &mut u64,
+        before: &mut Before<'m>,
     ) -> Result<Item<'m>, Refusal> {
-        let (instruction, end_to_end, transaction) = self.payment_identification()?;
-        let payment_type = self.type_of_item(header, instrument)?;
-        let cents = self.amount(sum)?;
+        let (instruction, end_to_end, transaction) =
+            self.payment_identification(&mut before.transactions)?;
+        let payment_type = self.type_of_item(header, &mut before.instrument)?;
+        let cents = self.amount(&mut before.sum)?;
         self.element(b"<ChrgBr>", code::charge_bearer, b"</ChrgBr>")?;
         let collection_date = self.element(b"<ReqdColltnDt>", date, b"</ReqdColltnDt>")?.bytes;
         let [mandate, signature_date, creditor_id] = self.direct_debit()?;
@@ -391,9 +408,14 @@ impl<'m, const ACCEPTED: bool> Cursor<'m, ACCEPTED> {
         })
     }
 
-    /// "PmtId: InstrId (0 or 1), EndToEndId, TxId". Answers the three.
+    /// "PmtId: InstrId (0 or 1), EndToEndId, TxId". Answers the three. Since request 11 it is 24 "if two
+    /// items have equal TxId bytes .., at the earliest second one", "after 7 of that TxId, place its first
+    /// byte".
     #[inline]
-    fn payment_identification(&mut self) -> Result<Identification<'m>, Refusal> {
+    fn payment_identification(
+        &mut self,
+        transactions: &mut HashSet<&'m [u8]>,
+    ) -> Result<Identification<'m>, Refusal> {
         self.tag(b"<PmtId>")?;
         let mut instruction = None;
         if self.first_of(b"<InstrId>", b"<EndToEndId>")?.is_some() {
@@ -401,9 +423,14 @@ impl<'m, const ACCEPTED: bool> Cursor<'m, ACCEPTED> {
             self.tag(b"<EndToEndId>")?;
         }
         let end_to_end = self.value_and_end(end_to_end, b"</EndToEndId>")?.bytes;
-        let transaction = self.element(b"<TxId>", reference, b"</TxId>")?.bytes;
+        self.tag(b"<TxId>")?;
+        let transaction = self.judged(reference)?;
+        if !ACCEPTED && !transactions.insert(transaction.bytes) {
+            return Err((number::TRANSACTION_AGAIN, transaction.place));
+        }
+        self.end_tag(b"</TxId>")?;
         self.tag(b"</PmtId>")?;
-        Ok((instruction, end_to_end, transaction))
+        Ok((instruction, end_to_end, transaction.bytes))
     }
 
     /// PmtTpInf of an item, or nothing where the header has one: "and then no item has it; otherwise

@@ -2,6 +2,7 @@
 //! points of documents 01 and 02.
 
 mod recorded;
+mod twice;
 mod typed;
 mod versions;
 
@@ -36,9 +37,25 @@ fn one_item(amount: &str, instrument: &str) -> String {
 
 const CLOSE: &str = "</FIToFICstmrDrctDbt></Document>";
 
-/// A message of these items.
+/// These items, each with a TxId of its own: `T1`, `T2` and so on.
+fn numbered(items: &[String]) -> String {
+    let number = |(at, item): (usize, &String)| {
+        item.replacen("<TxId>T1<", &format!("<TxId>T{}<", at + 1), 1)
+    };
+    items.iter().enumerate().map(number).collect()
+}
+
+/// These records, of items so numbered.
+fn numbered_records<R: AsRef<str>>(records: &[R]) -> Vec<String> {
+    let number = |(at, record): (usize, &R)| {
+        format!("{:35}{}", format!("T{}", at + 1), &record.as_ref()[35..])
+    };
+    records.iter().enumerate().map(number).collect()
+}
+
+/// A message of these items, so numbered.
 fn whole(count: &str, total: &str, items: &[String]) -> String {
-    format!("{ROOT}{}{}{CLOSE}", header(count, total), items.concat())
+    format!("{ROOT}{}{}{CLOSE}", header(count, total), numbered(items))
 }
 
 /// The number and the place of a message that must be refused.
@@ -755,7 +772,7 @@ fn record_areas() {
     }
     let mut area = [7; 640];
     assert_eq!(records(two.as_bytes(), &mut area), Verdict::Accepted { count: 2, cents: 2468 });
-    assert_eq!(area.as_slice(), RECORD.repeat(2).as_bytes());
+    assert_eq!(area.as_slice(), numbered_records(&[RECORD; 2]).concat().as_bytes());
     // Refused at the end only: no record is written.
     let mut area = [7; 640];
     assert_eq!(
@@ -777,8 +794,8 @@ fn limits() {
     assert_eq!(judge(&longest), Verdict::Refused { number: 1, place: 0 });
 
     // 10,000 items, and one more.
-    let item = one_item("999999999.99", "CORE");
-    let most = format!("{ROOT}{}{}", header("10000", "9999999999900.00"), item.repeat(10_000));
+    let items = numbered(&vec![one_item("999999999.99", "CORE"); 10_000]);
+    let most = format!("{ROOT}{}{items}", header("10000", "9999999999900.00"));
     let accepted = Verdict::Accepted { count: 10_000, cents: 999_999_999_990_000 };
     assert_eq!(judge(format!("{most}{CLOSE}").as_bytes()), accepted);
     assert_eq!(refused(&format!("{most} <DrctDbtTxInf")), (3, most.len() + 14));
@@ -926,7 +943,9 @@ fn the_longest_plain_form() {
     }
     assert_eq!((header.len() - "<FIToFICstmrDrctDbt>".len(), item.len()), (363, 1_354));
     let root = versions::as_08(ROOT);
-    let longest = format!("{root}{header}{}{CLOSE}", item.repeat(10_000));
+    let number = |number| item.replacen("<TxId>AAAAA", &format!("<TxId>{number:05}"), 1);
+    let items: String = (1..=10_000).map(number).collect();
+    let longest = format!("{root}{header}{items}{CLOSE}");
     let form = plain(&longest).expect("it is accepted");
     assert_eq!(form, format!("{DECLARATION}{longest}"));
     assert_eq!(form.len(), 13_540_518);

@@ -43,6 +43,8 @@ pub mod number {
     pub const COUNTRY_LENGTH: u8 = 19;
     /// an item's PmtTpInf though the header has one
     pub const TYPE_AGAIN: u8 = 23;
+    /// a TxId that an earlier item has
+    pub const TRANSACTION_AGAIN: u8 = 24;
 }
 
 use number::{CHECK_DIGITS, CODE, COUNTRY_LENGTH, FORM, RANGE};

@@ -187,6 +187,19 @@ pub fn evening_items() -> Vec<String> {
     items.split_inclusive(END).map(str::to_string).collect()
 }
 
+/// A bulk with another TxId for the second of each two items that have the same.
+pub fn without_doubles(message: &str) -> String {
+    let mut seen = std::collections::HashSet::new();
+    let mut pieces = message.split("<TxId>");
+    let mut text = pieces.next().unwrap().to_string();
+    for (number, piece) in pieces.enumerate() {
+        let (id, rest) = piece.split_once('<').unwrap();
+        let id = if seen.insert(id) { id.to_string() } else { format!("{id}-{number}") };
+        text += &format!("<TxId>{id}<{rest}");
+    }
+    text
+}
+
 /// So many items, all different, each of 1.00 euro.
 pub fn many_items(count: usize) -> Vec<String> {
     let item = evening_items()[0].replacen("845.00", "1.00", 1);

@@ -79,7 +79,7 @@ fn each_item_has_its_own_instruction() {
     ] {
         let message = whole("3", "37.02", &values.map(item));
         let due = values.map(|value| with_field(255, 35, value.unwrap_or("")));
-        assert_eq!(records_of(&message, 3), due, "{values:?}");
+        assert_eq!(records_of(&message, 3), numbered_records(&due), "{values:?}");
     }
 }
 
@@ -93,7 +93,7 @@ fn the_local_instrument_of_the_header_or_of_the_items() {
         let in_header =
             in_items.replace(&own, "").replacen("<InstgAgt>", &format!("{own}<InstgAgt>"), 1);
         assert_ne!(in_header, in_items);
-        let due = vec![with_field(290, 4, code); 2];
+        let due = numbered_records(&[with_field(290, 4, code), with_field(290, 4, code)]);
         assert_eq!(records_of(&in_items, 2), due);
         assert_eq!(records_of(&in_header, 2), due);
     }

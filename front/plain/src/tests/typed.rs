@@ -17,7 +17,7 @@ fn typed(in_header: bool, in_items: &[bool]) -> String {
     let without = one_item("12.00", "CORE").replacen(payment_type(), "", 1);
     let item = |&is_in: &bool| if is_in { one_item("12.00", "CORE") } else { without.clone() };
     let items: Vec<String> = in_items.iter().map(item).collect();
-    format!("{ROOT}{header}{}{CLOSE}", items.concat())
+    format!("{ROOT}{header}{}{CLOSE}", numbered(&items))
 }
 
 /// What stands in the header in place of `<InstgAgt>`.
@@ -171,7 +171,7 @@ fn records_take_the_header_s_sequence_type() {
         let accepted = Verdict::Accepted { count: 2, cents: 2400 };
         assert_eq!(records(message.as_bytes(), &mut area), accepted, "{code}");
         let record = RECORD.replace("00000001234", "00000001200").replace("RCUR", code);
-        assert_eq!(area[..640], *record.repeat(2).as_bytes());
+        assert_eq!(area[..640], *numbered_records(&[&record, &record]).concat().as_bytes());
         assert_eq!(area[640..], [0xAA; 8]);
     }
     // A refusal leaves the area.
