@@ -4,14 +4,19 @@ use mathlib.Core.Bool.{Bool, true, false, not}
 use mathlib.Core.List.{List, [], _∷_, _++_}
 use Prim.Native.Nat.{ℕ, zero, suc, _+_, _-_, _≤_, _<_}
 use native.Mathlib.Omega.{arith}
-use borrow.Author.Tests.{lt-ltb, le-ltb, le-leb, lt-leb, leb-true}
-use lib.Dec.{ltb, leb}
+use borrow.Author.Tests.{lt-ltb, le-ltb, le-leb, lt-leb, leb-true, eqb-true}
+use lib.Dec.{ltb, leb, eqb}
 use lib.ListN.{length, take, drop, getD, set}
 use lib.Seq.{length-take-le}
-use Rattle.text.specs.Truth.{either, pick, allOf}
-use Rattle.text.proofs.Truths.{never, fails, passes, pass, lastly}
+use Rattle.text.specs.Truth.{both, either, pick, allOf}
+use Rattle.text.proofs.Truths.{never, both-true, fails, passes, pass, lastly}
 use Rattle.reading.specs.Verdict.{Judged, accepted, refused}
-use Rattle.naming.specs.Key.{Keyed as KeyedBulk}
+use Rattle.reading.specs.Judged.{judged}
+use Rattle.items.proofs.Sums.{bulk-most}
+use Rattle.naming.specs.Key.{Keyed as KeyedBulk, keyed}
+use Rattle.judge.specs.Index.{orShort}
+use Rattle.judge.proofs.Index.{made-of, in-room, accepted-room}
+use Rattle.keys.specs.Indexed.{unkeyed, keyedWith}
 use Rattle.judge.specs.declared.Verdict.the-variants.{Accepted, Refused}
 use Rattle.judge.specs.Verdict.{meant}
 use Rattle.keys.specs.declared.Keyed.{Keyed}
@@ -22,18 +27,53 @@ use Rattle.book.specs.declared.Entry.{Entry}
 use Rattle.book.specs.declared.Ask.the-variants.{Withdraw, Enter, Unfit}
 use Rattle.book.specs.declared.Answer.{Answer}
 use Rattle.book.specs.declared.Outcome as acting
-use Rattle.book.specs.Book.{Key, Book, mostOpen, openIn, isOpen, twoEqual, sumOf, isBook, firstAt, without, centsOf}
+use Rattle.book.specs.Book.{Key, Book, mostOpen, openIn, isOpen, twoEqual, sumOf, openTotal, isBook, firstAt, without, centsOf}
 use Rattle.book.specs.Calls.{Told, done, refusal, Outcome, unchanged, Bulk, bulk, unfit, bulkOf, added, enters, entered, lessened, withdraws, withdrawn, Call, enter, withdraw, called, asked}
-use Rattle.book.specs.Code.{callAs, callFor, answerFor, outcomeOf, noEntry, capped, bookOf, calledOn, askedOn, shifted}
-use Rattle.book.proofs.Lists.{open-first, shifted-is, cents-at, capped-test}
+use Rattle.book.specs.Stored.{Stored, agrees, Carried, asLent, carried, kept, stands}
+use Rattle.book.specs.Code.{inRange, callAs, callFor, answerFor, outcomeOf, noEntry, capped, bookOf, storedOf, calledOn, askedOn, sumIs, shifted}
+use Rattle.book.proofs.Lists.{open-first, shifted-is, cents-at, cents-within, capped-test}
 
 -- ---- the call that enters a message
-module _ (x : KeyedBulk) (k : Keyed) (e : keyedAs k ≡ x) where
-  pub unfit-call : (n p : ℕ) (y : Entry) → k .verdict ≡ Refused n p → callFor (Unfit n p) y ≡ enter (bulkOf x)
+module _ (index m : List ℕ) (k : Keyed) (e : keyedAs k ≡ keyedWith index m) where
+  pub unfit-call : (n p : ℕ) (y : Entry) → k .verdict ≡ Refused n p → callFor (Unfit n p) y ≡ enter (bulkOf (keyedWith index m))
   unfit-call n p y f = rw (← e, f)
 
-  pub fit-call : (n c : ℕ) → k .verdict ≡ Accepted n c → callFor Enter (record { key = k .key; cents = c }) ≡ enter (bulkOf x)
-  fit-call n c f = rw (← e, f)
+  -- no accepted bulk has more cents than a header can say
+  in-range : (n c : ℕ) → k .verdict ≡ Accepted n c → c ≤ most Total
+  unfolding keyed
+  in-range n c f =
+      let j : meant (k .verdict) ≡ orShort index (refused 25 0) (judged m) =
+      ap (λ (x : KeyedBulk). x .verdict) e ∙ made-of (λ (x : KeyedBulk). x .verdict) index (unkeyed 25 0) (keyed m) in
+      let r = accepted-room index (k .verdict) (judged m) j n c f in
+      let z : judged m ≡ accepted n c = sym (j ∙ in-room index (refused 25 0) (judged m) r) ∙ ap meant f in
+      omega (arith, bulk-most m n c z)
+
+  pub fit-call : (n c : ℕ) → k .verdict ≡ Accepted n c → callFor Enter (record { key = k .key; cents = c }) ≡ enter (bulkOf (keyedWith index m))
+  fit-call n c f = rw (← e, f, le-leb c (most Total) (in-range n c f))
+
+-- ---- no book, or another total than summing gives: 29, whatever the call
+none-called : (c : Call) (b : Book) → isBook b ≡ false → called c b ≡ unchanged 29 0 b
+unfolding entered withdrawn
+none-called (enter x) b e = rw e
+none-called (withdraw k) b e = rw e
+
+pub none-kept : (c : Call) (s : Stored) → stands s ≡ false → kept c s ≡ asLent 29 0 s
+unfolding kept
+none-kept c s = go (isBook (s .book)) (agrees s) refl
+  where
+    go : (i a : Bool) → isBook (s .book) ≡ i → both i a ≡ false → pick a (carried c (s .total) (called c (s .book))) (asLent 29 0 s) ≡ asLent 29 0 s
+    go i false z e = refl
+    go true true z e = never (cc)
+    go false true z e = rw (none-called c (s .book) z)
+
+-- ---- a checked book, and whether its sum is what is stored
+pub sum-stands : (s : Stored) → sumIs (answerFor (asked (s .book)) (s .book .number)) (s .total) ≡ stands s
+unfolding asked
+sum-stands s = go (isBook (s .book))
+  where
+    go : (i : Bool) → sumIs (answerFor (pick i (done (openTotal (s .book))) (refusal 29 0)) (s .book .number)) (s .total) ≡ both i (agrees s)
+    go true = refl
+    go false = refl
 
 module _ (b : List Entry) (n : ℕ) (long : length b ≡ mostOpen) where
   -- ---- whether they are a book
@@ -51,6 +91,15 @@ module _ (b : List Entry) (n : ℕ) (long : length b ≡ mostOpen) where
       ap (λ (x : ℕ). leb x (most Total)) g ∙ (capped-test (sumOf (take n b))
       ∙ sym (pass _ _ _ (le-leb mostOpen (length b) (omega arith)) (pass _ _ _ (le-leb n mostOpen few) (pass _ _ _ (ap not (sym e ∙ h)) (lastly _ _ refl)))))
 
+  -- what a book is known by
+  pub book-few : isBook (bookOf b n) ≡ true → n ≤ mostOpen
+  unfolding isBook
+  book-few e = leb-true n mostOpen (passes _ e 1)
+
+  is-least : isBook (bookOf b n) ≡ true → leb (sumOf (take n b)) (most Total) ≡ true
+  unfolding isBook
+  is-least e = passes _ e 3
+
   module _ (few : n ≤ mostOpen) where
     -- a key is open where the search for it ends before the number open
     open-is : (k : Key) (r : ℕ) → r ≡ 0 + firstAt k (take n b) → isOpen k (take n b) ≡ ltb r n
@@ -58,59 +107,93 @@ module _ (b : List Entry) (n : ℕ) (long : length b ≡ mostOpen) where
         let z : r ≡ firstAt k (take n b) = omega arith in
         open-first k (take n b) ∙ rw (z, length-take-le n b (omega arith))
 
-    -- ---- an entry
-    module _ (e : Entry) (r : ℕ) (at : r ≡ 0 + firstAt (e .key) (take n b)) where
-      pub key-open : (o : acting.Outcome) → o ≡ outcomeOf (unchanged 20 0 (bookOf b n)) → r < n → o ≡ outcomeOf (enters (bulk e) (bookOf b n))
-      key-open o f h = f ∙ rw (open-is (e .key) r at, lt-ltb r n h)
+    module _ (t : ℕ) where
+      -- ---- an entry
+      module _ (e : Entry) where
+        abbrev Enters : acting.Outcome
+        Enters = outcomeOf (carried (enter (inRange e)) t (enters (inRange e) (bookOf b n)))
 
-      pub all-open : (o : acting.Outcome) → o ≡ outcomeOf (unchanged 21 0 (bookOf b n)) → n ≤ r → mostOpen ≤ n → o ≡ outcomeOf (enters (bulk e) (bookOf b n))
-      all-open o f h g = f ∙ rw (open-is (e .key) r at, le-ltb r n h, le-leb mostOpen n g)
+        pub out-of-range : (o : acting.Outcome) → o ≡ outcomeOf (asLent 9 0 (storedOf b n t)) → most Total < e .cents → o ≡ Enters
+        out-of-range o f h = f ∙ rw (lt-leb (e .cents) (most Total) h)
 
-      pub new-entry : n ≤ r → n < mostOpen → outcomeOf (record { told = done (e .cents); book = added e (bookOf b n) }) ≡ outcomeOf (enters (bulk e) (bookOf b n))
-      new-entry h g = rw (open-is (e .key) r at, le-ltb r n h, lt-leb mostOpen n g)
+        module _ (within : e .cents ≤ most Total) (r : ℕ) (at : r ≡ 0 + firstAt (e .key) (take n b)) where
+          pub key-open : (o : acting.Outcome) → o ≡ outcomeOf (asLent 20 0 (storedOf b n t)) → r < n → o ≡ Enters
+          key-open o f h = f ∙ rw (le-leb (e .cents) (most Total) within, open-is (e .key) r at, lt-ltb r n h)
 
-    -- ---- a withdrawal
-    module _ (k : Key) (r : ℕ) (at : r ≡ 0 + firstAt k (take n b)) where
-      pub not-open : (o : acting.Outcome) → o ≡ outcomeOf (unchanged 22 0 (bookOf b n)) → n ≤ r → o ≡ outcomeOf (withdraws k (bookOf b n))
-      not-open o f h = f ∙ rw (open-is k r at, le-ltb r n h)
+          pub all-open : (o : acting.Outcome) → o ≡ outcomeOf (asLent 21 0 (storedOf b n t)) → n ≤ r → mostOpen ≤ n → o ≡ Enters
+          all-open o f h g = f ∙ rw (le-leb (e .cents) (most Total) within, open-is (e .key) r at, le-ltb r n h, le-leb mostOpen n g)
 
-      pub gone : (l : List Entry) → r < n → l ≡ shifted r n b
-          → record { answer = record { number = 0; place = 0; opened = n - 1; cents = getD b r noEntry .cents }; entries = l } ≡ outcomeOf (withdraws k (bookOf b n))
-      gone l h g =
-          let z : r ≡ firstAt k (take n b) = omega arith in
-          rw (open-is k r at, lt-ltb r n h, g, z, shifted-is k n b (omega arith) (omega arith), cents-at k n b (omega arith) (omega arith))
+          pub new-entry : n ≤ r → n < mostOpen → outcomeOf (record { told = done (e .cents); stored = record { book = added e (bookOf b n); total = t + e .cents } }) ≡ Enters
+          new-entry h g = rw (le-leb (e .cents) (most Total) within, open-is (e .key) r at, le-ltb r n h, lt-leb mostOpen n g)
+
+      -- ---- a withdrawal
+      module _ (k : Key) (r : ℕ) (at : r ≡ 0 + firstAt k (take n b)) where
+        abbrev Withdraws : acting.Outcome
+        Withdraws = outcomeOf (carried (withdraw k) t (withdraws k (bookOf b n)))
+
+        pub not-open : (o : acting.Outcome) → o ≡ outcomeOf (asLent 22 0 (storedOf b n t)) → n ≤ r → o ≡ Withdraws
+        not-open o f h = f ∙ rw (open-is k r at, le-ltb r n h)
+
+        -- the cents found are those of the entry
+        cents-found : r < n → getD b r noEntry .cents ≡ centsOf k (take n b)
+        cents-found h =
+            let z : r ≡ firstAt k (take n b) = omega arith in
+            rw z (cents-at k n b (omega arith) (omega arith))
+
+        pub less-fits : t ≡ sumOf (take n b) → r < n → getD b r noEntry .cents ≤ t
+        less-fits e h = omega (arith, cents-found h, cents-within k (take n b))
+
+        pub gone : (l : List Entry) → r < n → l ≡ shifted r n b
+            → record {
+              kept = record { answer = record { number = 0; place = 0; opened = n - 1; cents = getD b r noEntry .cents }; total = t - getD b r noEntry .cents };
+              entries = l;
+            } ≡ Withdraws
+        gone l h g =
+            let z : r ≡ firstAt k (take n b) = omega arith in
+            rw (open-is k r at, lt-ltb r n h, g, cents-found h, z, shifted-is k n b (omega arith) (omega arith))
 
   -- ---- any call
-  none-called : (c : Call) → isBook (bookOf b n) ≡ false → called c (bookOf b n) ≡ unchanged 29 0 (bookOf b n)
-  unfolding entered withdrawn
-  none-called (enter x) e = rw e
-  none-called (withdraw k) e = rw e
+  module _ (t : ℕ) where
+    pub not-kept : isBook (bookOf b n) ≡ false → false ≡ stands (storedOf b n t)
+    not-kept e = rw e
 
-  module _ (places : ℕ) (c : Call) where
-    pub few-places : (o : acting.Outcome) → o ≡ outcomeOf (unchanged 29 0 (bookOf b n)) → places < mostOpen → o ≡ outcomeOf (calledOn places c (bookOf b n))
-    unfolding calledOn
-    few-places o f h = f ∙ rw (lt-leb mostOpen places h)
+    pub kept-tells : (s : ℕ) → isBook (bookOf b n) ≡ true → s ≡ capped (sumOf (take n b)) → eqb t s ≡ stands (storedOf b n t)
+    kept-tells s is e = rw (is, e, is-least is)
 
-    pub no-book : (o : acting.Outcome) → o ≡ outcomeOf (unchanged 29 0 (bookOf b n)) → isBook (bookOf b n) ≡ false → o ≡ outcomeOf (calledOn places c (bookOf b n))
-    unfolding calledOn
-    no-book o f h = f ∙ go (leb mostOpen places)
-      where
-        go : (t : Bool) → outcomeOf (unchanged 29 0 (bookOf b n)) ≡ outcomeOf (pick t (called c (bookOf b n)) (unchanged 29 0 (bookOf b n)))
-        go true = ap outcomeOf (sym (none-called c h))
-        go false = refl
+    module _ (places : ℕ) (c : Call) where
+      pub few-places : (o : acting.Outcome) → o ≡ outcomeOf (asLent 29 0 (storedOf b n t)) → places < mostOpen → o ≡ outcomeOf (calledOn places c (storedOf b n t))
+      unfolding calledOn
+      few-places o f h = f ∙ rw (lt-leb mostOpen places h)
 
-  module _ (places : ℕ) (enough : mostOpen ≤ places) (is : isBook (bookOf b n) ≡ true) (o : acting.Outcome) where
-    pub enter-called : (x : Bulk) → o ≡ outcomeOf (enters x (bookOf b n)) → o ≡ outcomeOf (calledOn places (enter x) (bookOf b n))
-    unfolding calledOn entered
-    enter-called x f = f ∙ rw (le-leb mostOpen places enough, is)
+      pub no-book : (o : acting.Outcome) → o ≡ outcomeOf (asLent 29 0 (storedOf b n t)) → stands (storedOf b n t) ≡ false → o ≡ outcomeOf (calledOn places c (storedOf b n t))
+      unfolding calledOn
+      no-book o f h = f ∙ go (leb mostOpen places)
+        where
+          go : (u : Bool) → outcomeOf (asLent 29 0 (storedOf b n t)) ≡ outcomeOf (pick u (kept c (storedOf b n t)) (asLent 29 0 (storedOf b n t)))
+          go true = ap outcomeOf (sym (none-kept c (storedOf b n t) h))
+          go false = refl
 
-    pub withdraw-called : (k : Key) → o ≡ outcomeOf (withdraws k (bookOf b n)) → o ≡ outcomeOf (calledOn places (withdraw k) (bookOf b n))
-    unfolding calledOn withdrawn
-    withdraw-called k f = f ∙ rw (le-leb mostOpen places enough, is)
+    module _ (is : stands (storedOf b n t) ≡ true) where
+      book-is : isBook (bookOf b n) ≡ true
+      book-is = both-true (isBook (bookOf b n)) (agrees (storedOf b n t)) is .0
 
-  is-least : isBook (bookOf b n) ≡ true → leb (sumOf (take n b)) (most Total) ≡ true
-  unfolding isBook
-  is-least e = passes _ e 3
+      pub kept-few : n ≤ mostOpen
+      kept-few = book-few book-is
+
+      pub kept-sum : t ≡ sumOf (take n b)
+      kept-sum = eqb-true t (sumOf (take n b)) (both-true (isBook (bookOf b n)) (agrees (storedOf b n t)) is .1)
+
+      pub kept-within : t ≤ most Total
+      kept-within = omega (arith, kept-sum, leb-true (sumOf (take n b)) (most Total) (is-least book-is))
+
+      module _ (places : ℕ) (enough : mostOpen ≤ places) (o : acting.Outcome) where
+        pub enter-called : (x : Bulk) → o ≡ outcomeOf (carried (enter x) t (enters x (bookOf b n))) → o ≡ outcomeOf (calledOn places (enter x) (storedOf b n t))
+        unfolding calledOn kept entered
+        enter-called x f = f ∙ rw (le-leb mostOpen places enough, both-true (isBook (bookOf b n)) (agrees (storedOf b n t)) is .1, book-is)
+
+        pub withdraw-called : (k : Key) → o ≡ outcomeOf (carried (withdraw k) t (withdraws k (bookOf b n))) → o ≡ outcomeOf (calledOn places (withdraw k) (storedOf b n t))
+        unfolding calledOn kept withdrawn
+        withdraw-called k f = f ∙ rw (le-leb mostOpen places enough, both-true (isBook (bookOf b n)) (agrees (storedOf b n t)) is .1, book-is)
 
   -- ---- the open total
   module _ (places : ℕ) (a : Answer) where
@@ -126,11 +209,7 @@ module _ (b : List Entry) (n : ℕ) (long : length b ≡ mostOpen) where
         go true = refl
         go false = refl
 
-  pub total-asked : (places s : ℕ) → mostOpen ≤ places → isBook (bookOf b n) ≡ true → s ≡ capped (sumOf (take n b)) → answerFor (done s) n ≡ answerFor (askedOn places (bookOf b n)) n
+  pub total-asked : (places s : ℕ) → mostOpen ≤ places → isBook (bookOf b n) ≡ true → s ≡ capped (sumOf (take n b))
+      → answerFor (done s) n ≡ answerFor (askedOn places (bookOf b n)) n
   unfolding askedOn asked
   total-asked places s h is e = rw (le-leb mostOpen places h, is, e, is-least is)
-
-  -- what a book is known by
-  pub book-few : isBook (bookOf b n) ≡ true → n ≤ mostOpen
-  unfolding isBook
-  book-few e = leb-true n mostOpen (passes _ e 1)

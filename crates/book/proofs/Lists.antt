@@ -160,3 +160,12 @@ cents-at k (suc n) (x ∷ l) h g = go (hasKey k x) g (cents-at k n l (omega arit
         → getD (x ∷ l) (pick b 0 (suc (firstAt k (take n l)))) noEntry .cents ≡ pick b (x .cents) (centsOf k (take n l))
     go true g r = refl
     go false g r = r (omega arith)
+
+-- which are no more than the sum
+pub cents-within : (k : Key) (l : List Entry) → centsOf k l ≤ sumOf l
+cents-within k [] = omega arith
+cents-within k (x ∷ l) = go (hasKey k x) (cents-within k l)
+  where
+    go : (b : Bool) → centsOf k l ≤ sumOf l → pick b (x .cents) (centsOf k l) ≤ x .cents + sumOf l
+    go true r = omega arith
+    go false r = omega arith

@@ -14,15 +14,21 @@ use Rattle.book.specs.declared.Ask.{Ask}
 use Rattle.book.specs.declared.Ask.the-variants.{Withdraw, Enter, Unfit}
 use Rattle.book.specs.declared.Call as asking
 use Rattle.book.specs.declared.Answer.{Answer}
+use Rattle.book.specs.declared.Kept.{Kept}
 use Rattle.book.specs.declared.Outcome as acting
 use Rattle.book.specs.declared.Found.{Found}
 use Rattle.book.specs.Book.{Key, Book, mostOpen, openTotal}
-use Rattle.book.specs.Calls.{Told, done, refusal, Outcome, unchanged, bulk, unfit, Call, enter, withdraw, called, Searched, at, nowhere, none, asked}
+use Rattle.book.specs.Calls.{Told, done, refusal, Bulk, bulk, unfit, Call, enter, withdraw, Searched, at, nowhere, none, asked}
+use Rattle.book.specs.Stored.{Stored, Carried, asLent, kept}
+
+-- no header says more cents than its range has, so the judge lets no such bulk through: 9
+abbrev pub inRange : Entry → Bulk
+inRange e = pick (leb (e .cents) (most Total)) (bulk e) (unfit 9 0)
 
 -- the paper's call for each of the code's
 abbrev pub callFor : Ask → Entry → Call
 callFor Withdraw e = withdraw (e .key)
-callFor Enter e = enter (bulk e)
+callFor Enter e = enter (inRange e)
 callFor (Unfit n p) e = enter (unfit n p)
 
 abbrev pub callAs : asking.Call → Call
@@ -33,11 +39,12 @@ abbrev pub answerFor : Told → ℕ → Answer
 answerFor (done c) n = record { number = 0; place = 0; opened = n; cents = c }
 answerFor (refusal k p) n = record { number = k; place = p; opened = n; cents = 0 }
 
-abbrev pub answerOf : Outcome → Answer
-answerOf o = answerFor (o .told) (o .book .number)
+-- with the stored total afterwards, and with the entries
+abbrev pub keptOf : Carried → Kept
+keptOf o = record { answer = answerFor (o .told) (o .stored .book .number); total = o .stored .total }
 
-abbrev pub outcomeOf : Outcome → acting.Outcome
-outcomeOf o = record { answer = answerOf o; entries = o .book .entries }
+abbrev pub outcomeOf : Carried → acting.Outcome
+outcomeOf o = record { kept = keptOf o; entries = o .stored .book .entries }
 
 abbrev pub foundOf : Searched → Found
 foundOf (at i) = record { number = 0; place = 0; found = true; at = i }
@@ -56,18 +63,25 @@ noEntry = record { key = []; cents = 0 }
 abbrev pub capped : ℕ → ℕ
 capped n = pick (leb n (most Total)) n (suc (most Total))
 
--- a list of entries, n of them open
+-- a list of entries, n of them open; and with t stored
 abbrev pub bookOf : List Entry → ℕ → Book
 bookOf l n = record { entries = l; number = n }
 
+abbrev pub storedOf : List Entry → ℕ → ℕ → Stored
+storedOf l n t = record { book = bookOf l n; total = t }
+
 -- ---- the first 64 entries of a list that has so many places: no book where they are fewer
-unfoldable pub calledOn : ℕ → Call → Book → Outcome
-calledOn places c b = pick (leb mostOpen places) (called c b) (unchanged 29 0 b)
+unfoldable pub calledOn : ℕ → Call → Stored → Carried
+calledOn places c s = pick (leb mostOpen places) (kept c s) (asLent 29 0 s)
 
 unfoldable pub askedOn : ℕ → Book → Told
 askedOn places b = pick (leb mostOpen places) (asked b) (refusal 29 0)
 
--- what a search answers, where the book was asked before it
+-- a checked book whose sum is t
+abbrev pub sumIs : Answer → ℕ → Bool
+sumIs a t = both (eqb (a .number) 0) (eqb t (a .cents))
+
+-- what a search answers, where the book was checked before it
 unfoldable pub foundFor : Answer → ℕ → Found
 foundFor a i =
     pick (eqb (a .number) 0)

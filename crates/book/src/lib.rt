@@ -6,9 +6,13 @@ ghost use Prim.Native.Nat.{_+_, _≤_, _<_};
 ghost use lib.ListN.{length, take, drop, getD};
 ghost use Rattle.twice.specs.Twice.{cleared};
 ghost use Rattle.keys.specs.Indexed.{keyedWith};
+ghost use mathlib.Core.List.{List};
+ghost use Rattle.money.specs.declared.Range.the-variants.{Total};
+ghost use Rattle.money.specs.Amount.{most};
 ghost use Rattle.book.specs.Book.{mostOpen, hasKey, isOpen, twoEqual, sumOf, isBook, firstAt};
-ghost use Rattle.book.specs.Calls.{refusal, bulk, bulkOf, enter, withdraw, enters, withdraws};
-ghost use Rattle.book.specs.Code.{callAs, answerFor, answerOf, outcomeOf, blankEntry, capped, bookOf, calledOn, askedOn, foundFor, shifted};
+ghost use Rattle.book.specs.Calls.{refusal, bulkOf, enter, withdraw, enters, withdraws};
+ghost use Rattle.book.specs.Stored.{asLent, carried, shown, stands};
+ghost use Rattle.book.specs.Code.{inRange, callAs, answerFor, outcomeOf, blankEntry, capped, bookOf, storedOf, calledOn, askedOn, foundFor, shifted};
 
 // How many bulks are open at most, and how many places a book has at least.
 pub const MOST: usize = 64;
@@ -33,7 +37,7 @@ pub struct Call {
     pub entry: Entry,
 }
 
-// A refusal's number and place, or 0; the number open afterwards; the cents of the bulk, or those of all open ones where these are asked.
+// A refusal's number and place, or 0; the number open afterwards; the cents of the bulk, or those of all open ones where the book is asked or checked.
 pub struct Answer {
     pub number: u8,
     pub place: usize,
@@ -41,9 +45,15 @@ pub struct Answer {
     pub cents: u64,
 }
 
-// What is answered, and the first 64 entries afterwards.
-pub struct Outcome {
+// What is answered, and the stored total afterwards.
+pub struct Kept {
     pub answer: Answer,
+    pub total: u64,
+}
+
+// The same with the first 64 entries afterwards.
+pub struct Outcome {
+    pub kept: Kept,
     pub entries: [Entry; MOST],
 }
 
@@ -139,41 +149,62 @@ fn is_book(b: [Entry; MOST], opened: usize) -> bool
     sum(b, opened) <= money::MOST_TOTAL
 }
 
-// A refusal, with the entries as they are.
-fn refuse(b: [Entry; MOST], opened: usize, number: u8, place: usize) -> Outcome
-    ensures { λ r. ⌜ r ≡ outcomeOf (record { told = refusal number place; book = bookOf b opened }) ⌝ }
+// Whether they are one, and the stored total is what summing gives.
+fn is_kept(b: [Entry; MOST], opened: usize, total: u64) -> bool
+    ensures { λ r. ⌜ r ≡ stands (storedOf b opened total) ⌝ }
+{
+    if !is_book(b, opened) {
+        return false;
+    }
+    total == sum(b, opened)
+}
+
+// A refusal, with the entries and the stored total as they are.
+fn refuse(b: [Entry; MOST], opened: usize, total: u64, number: u8, place: usize) -> Outcome
+    ensures { λ r. ⌜ r ≡ outcomeOf (asLent number place (storedOf b opened total)) ⌝ }
 {
     Outcome {
-        answer: Answer {
-            number,
-            place,
-            opened,
-            cents: 0,
+        kept: Kept {
+            answer: Answer {
+                number,
+                place,
+                opened,
+                cents: 0,
+            },
+            total,
         },
         entries: b,
     }
 }
 
-// An entry behind the open ones: 20 where its key is open already, 21 where 64 are open.
-fn enter_in(b: [Entry; MOST], opened: usize, e: Entry) -> Outcome
-    requires { ⌜ opened ≤ mostOpen ⌝ }
-    ensures { λ r. ⌜ r ≡ outcomeOf (enters (bulk e) (bookOf b opened)) ⌝ }
+// An entry behind the open ones: 20 where its key is open already, 21 where 64 are open. No header says more cents than its range has, so the sum does not overflow.
+fn enter_in(b: [Entry; MOST], opened: usize, total: u64, e: Entry) -> Outcome
+    requires { ⌜ (opened ≤ mostOpen) × (total ≤ most Total) ⌝ }
+    ensures { λ r. ⌜ r ≡ outcomeOf (carried (enter (inRange e)) total (enters (inRange e) (bookOf b opened))) ⌝ }
 {
+    let cents = e.cents;
+    if money::MOST_TOTAL < cents {
+        return refuse(b, opened, total, 9, 0);
+    }
+    let more = total + cents;
     let key = e.key;
     if find_from(b, 0, opened, key) < opened {
-        return refuse(b, opened, 20, 0);
+        return refuse(b, opened, total, 20, 0);
     }
     if MOST <= opened {
-        return refuse(b, opened, 21, 0);
+        return refuse(b, opened, total, 21, 0);
     }
     let mut out = b;
     out[opened] = e;
     Outcome {
-        answer: Answer {
-            number: 0,
-            place: 0,
-            opened: opened + 1,
-            cents: e.cents,
+        kept: Kept {
+            answer: Answer {
+                number: 0,
+                place: 0,
+                opened: opened + 1,
+                cents,
+            },
+            total: more,
         },
         entries: out,
     }
@@ -195,51 +226,68 @@ fn shift(b: [Entry; MOST], at: usize, opened: usize) -> [Entry; MOST]
 }
 
 // The first entry with the key goes; 22 where none has it.
-fn withdraw_in(b: [Entry; MOST], opened: usize, key: [u8; keys::LENGTH]) -> Outcome
-    requires { ⌜ opened ≤ mostOpen ⌝ }
-    ensures { λ r. ⌜ r ≡ outcomeOf (withdraws key (bookOf b opened)) ⌝ }
+fn withdraw_in(b: [Entry; MOST], opened: usize, total: u64, key: [u8; keys::LENGTH]) -> Outcome
+    requires { ⌜ (opened ≤ mostOpen) × (total ≡ sumOf (take opened b)) ⌝ }
+    ensures { λ r. ⌜ r ≡ outcomeOf (carried (withdraw key) total (withdraws key (bookOf b opened))) ⌝ }
 {
     let at = find_from(b, 0, opened, key);
     if opened <= at {
-        return refuse(b, opened, 22, 0);
+        return refuse(b, opened, total, 22, 0);
     }
     let e = b[at];
     let rest = shift(b, at, opened);
+    let cents = e.cents;
+    let less = total - cents;
     Outcome {
-        answer: Answer {
-            number: 0,
-            place: 0,
-            opened: opened - 1,
-            cents: e.cents,
+        kept: Kept {
+            answer: Answer {
+                number: 0,
+                place: 0,
+                opened: opened - 1,
+                cents,
+            },
+            total: less,
         },
         entries: rest,
     }
 }
 
-// A call on the first 64 entries of a list of so many places, so many of them open: 29 first, where they are no book.
-pub fn act_on(b: [Entry; MOST], places: usize, opened: usize, call: Call) -> Outcome
-    ensures { λ r. ⌜ r ≡ outcomeOf (calledOn places (callAs call) (bookOf b opened)) ⌝ }
+// A call on the first 64 entries of a list of so many places, so many of them open: 29 first, where they are no book or the stored total is wrong.
+pub fn act_on(b: [Entry; MOST], places: usize, opened: usize, total: u64, call: Call) -> Outcome
+    ensures { λ r. ⌜ r ≡ outcomeOf (calledOn places (callAs call) (storedOf b opened total)) ⌝ }
 {
     if places < MOST {
-        return refuse(b, opened, 29, 0);
+        return refuse(b, opened, total, 29, 0);
     }
-    if !is_book(b, opened) {
-        return refuse(b, opened, 29, 0);
+    if !is_kept(b, opened, total) {
+        return refuse(b, opened, total, 29, 0);
     }
     let ask = call.ask;
     let e = call.entry;
     match ask {
-        Ask::Unfit(number, place) => refuse(b, opened, number, place),
-        Ask::Enter => enter_in(b, opened, e),
+        Ask::Unfit(number, place) => refuse(b, opened, total, number, place),
+        Ask::Enter => enter_in(b, opened, total, e),
         Ask::Withdraw => {
             let key = e.key;
-            withdraw_in(b, opened, key)
+            withdraw_in(b, opened, total, key)
         }
     }
 }
 
-// The open total of the first 64 entries of a list of so many places; 29 where they are no book.
-pub fn ask_on(b: [Entry; MOST], places: usize, opened: usize) -> Answer
+// The open total: the stored one as it stands, whatever the entries are.
+pub fn show(opened: usize, total: u64) -> Answer
+    ensures { λ r. ⌜ ((l : List Entry) → r ≡ answerFor (shown (storedOf l opened total)) opened) ⌝ }
+{
+    Answer {
+        number: 0,
+        place: 0,
+        opened,
+        cents: total,
+    }
+}
+
+// What summing gives of the first 64 entries of a list of so many places; 29 where they are no book.
+pub fn check_on(b: [Entry; MOST], places: usize, opened: usize) -> Answer
     ensures { λ r. ⌜ r ≡ answerFor (askedOn places (bookOf b opened)) opened ⌝ }
 {
     if places < MOST {
@@ -268,7 +316,7 @@ fn none(opened: usize) -> Answer
     }
 }
 
-// What a search answers that came to a place, where the book was asked before it.
+// What a search answers that came to a place, where the book was checked before it.
 pub fn found_at(a: Answer, at: usize) -> Found
     ensures { λ r. ⌜ r ≡ foundFor a at ⌝ }
 {

@@ -1,2 +1,3 @@
 pub mod Tells
 pub mod One
+pub mod Numbers

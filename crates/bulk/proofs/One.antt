@@ -1,4 +1,4 @@
--- Two answers of the C face that one contract allows are equal, word for word; and so are the area and the entries of a book.
+-- Two answers of the C face that one contract allows are equal, word for word; and so are the area, and the numbers and the entries of a book.
 use mathlib.Core.Path.{_≡_, sym, ap, _∙_}
 use mathlib.Core.List.{List}
 use Prim.Native.Nat.{ℕ}
@@ -8,10 +8,10 @@ use Rattle.records.specs.Indexed.{recordedWith}
 use Rattle.forms.specs.Written.{Outcome}
 use Rattle.plain.proofs.Once.{one-written-with}
 use Rattle.book.specs.declared.Entry.{Entry}
-use Rattle.book.specs.Calls.{Call, called, Searched}
-use Rattle.book.specs.Book.{Book}
-use Rattle.book.specs.Code.{answerOf, foundOf}
-use Rattle.bulk.specs.Told.{told, toldVerdict, toldExtent, toldWritten, PlainTold, toldCall, toldFound}
+use Rattle.book.specs.Calls.{Call, Searched}
+use Rattle.book.specs.Stored.{Stored, kept}
+use Rattle.book.specs.Code.{keptOf, foundOf}
+use Rattle.bulk.specs.Told.{told, toldVerdict, toldExtent, toldWritten, PlainTold, toldCall, toldFound, numbersOf}
 
 module _ (x y : List ℕ) where
   pub one-told : (g : Given) → x ≡ told g → y ≡ told g → x ≡ y
@@ -32,10 +32,11 @@ module _ (x y : List ℕ) where
       let e = one-written-with i m a (record { answer = k .answer; area = b }) (record { answer = l .answer; area = c }) (k .wrote) (l .wrote) in
       (k .told ∙ ap (λ (o : Outcome). toldWritten (o .answer)) e ∙ sym (l .told), ap (λ (o : Outcome). o .area) e)
 
-  -- a book: a change, with its entries afterwards; and a search
-  pub one-told-call : (c : Call) (b : Book) (l k : List Entry) → x ≡ toldCall (answerOf (called c b)) → l ≡ called c b .book .entries → y ≡ toldCall (answerOf (called c b))
-      → k ≡ called c b .book .entries → (x ≡ y) × (l ≡ k)
-  one-told-call c b l k d e f g = (d ∙ sym f, e ∙ sym g)
+  -- a book: a change, with its numbers and its entries afterwards; and a search
+  pub one-told-call : (c : Call) (b : Stored) (i j : List ℕ) (l k : List Entry)
+      → x ≡ toldCall (keptOf (kept c b) .answer) → i ≡ numbersOf (kept c b .stored) → l ≡ kept c b .stored .book .entries
+      → y ≡ toldCall (keptOf (kept c b) .answer) → j ≡ numbersOf (kept c b .stored) → k ≡ kept c b .stored .book .entries → (x ≡ y) × (i ≡ j) × (l ≡ k)
+  one-told-call c b i j l k d e f g h m = (d ∙ sym g, e ∙ sym h, f ∙ sym m)
 
   pub one-told-found : (s : Searched) → x ≡ toldFound (foundOf s) → y ≡ toldFound (foundOf s) → x ≡ y
   one-told-found s e f = e ∙ sym f

@@ -7,8 +7,8 @@
 --   refused                      the refusal's number, its place, 0
 -- and for each call of the day book:
 --   a bulk is entered or withdrawn   0, the number open afterwards, the bulk's cents
---   the open total                   0, the number open, the cents
---   the lent book is one             0, 0, 0
+--   the open total, as it is stored  0, the number open, the cents
+--   the lent book is one             0, 0, 0, else 29, 0, 0
 --   an entry has the key             0, 1, its place
 --   none has it                      0, 0, 0
 --   refused                          the refusal's number, its place, 0
@@ -22,8 +22,12 @@ use Rattle.answers.specs.Given.{Given, yes, worth, refused}
 use Rattle.reading.specs.Verdict.{Judged, accepted, refused as denied, Located, lies, notThere}
 use Rattle.forms.specs.Written.{Answered, written, refused as notWritten}
 use Rattle.plain.specs.Indexed.{WroteWith}
+use lib.ListN.{getD}
+use Rattle.book.specs.declared.Entry.{Entry}
 use Rattle.book.specs.declared.Answer.{Answer}
 use Rattle.book.specs.declared.Found.{Found}
+use Rattle.book.specs.Stored.{Stored}
+use Rattle.book.specs.Code.{storedOf}
 
 abbrev pub told : Given → List ℕ
 told yes = 0 ∷ 0 ∷ 0 ∷ []
@@ -51,8 +55,16 @@ pub record PlainTold (i m a words b : List ℕ) : Type 0 where
 abbrev pub toldCall : Answer → List ℕ
 toldCall a = pick (eqb (a .number) 0) (0 ∷ a .opened ∷ a .cents ∷ []) (a .number ∷ a .place ∷ 0 ∷ [])
 
-abbrev pub toldIs : Answer → List ℕ
-toldIs a = a .number ∷ a .place ∷ 0 ∷ []
+abbrev pub toldIs : Bool → List ℕ
+toldIs true = 0 ∷ 0 ∷ 0 ∷ []
+toldIs false = 29 ∷ 0 ∷ 0 ∷ []
 
 abbrev pub toldFound : Found → List ℕ
 toldFound r = pick (r .found) (0 ∷ 1 ∷ r .at ∷ []) (r .number ∷ r .place ∷ 0 ∷ [])
+
+-- ---- a lent book: its entries, and beside them two numbers, the number open and the stored total
+abbrev pub lentBook : List Entry → List ℕ → Stored
+lentBook l o = storedOf l (getD o 0 0) (getD o 1 0)
+
+abbrev pub numbersOf : Stored → List ℕ
+numbersOf s = s .book .number ∷ s .total ∷ []

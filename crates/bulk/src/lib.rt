@@ -3,12 +3,15 @@
 use answers::Answer;
 use book::Entry;
 use book::Found;
+use book::Kept;
 use judge::Extent;
 use judge::Verdict;
 use money::Range;
 use plain::Written;
 use words::Field;
 ghost use mathlib.Core.Path.{_≡_};
+ghost use mathlib.Core.List.{List, [], _∷_};
+ghost use lib.ListN.{getD};
 ghost use Rattle.answers.specs.Given.{given};
 ghost use Rattle.words.specs.Reference.{referenceGiven};
 ghost use Rattle.words.specs.EndToEnd.{endToEndGiven};
@@ -20,12 +23,13 @@ ghost use Rattle.money.specs.Amount.{amountGiven};
 ghost use Rattle.accounts.specs.Iban.{ibanGiven};
 ghost use Rattle.accounts.specs.Identifier.{identifierGiven};
 ghost use Rattle.accounts.specs.Bic.{bicGiven, bicfiGiven};
-ghost use Rattle.bulk.specs.Told.{told, toldVerdict, toldExtent, toldWritten, PlainTold, toldCall, toldIs, toldFound};
+ghost use Rattle.bulk.specs.Told.{told, toldVerdict, toldExtent, toldWritten, PlainTold, toldCall, toldIs, toldFound, lentBook, numbersOf};
 ghost use Rattle.plain.specs.Answer.{answered};
 ghost use Rattle.twice.specs.Twice.{cleared};
 ghost use Rattle.keys.specs.Indexed.{keyedWith};
-ghost use Rattle.book.specs.Calls.{bulkOf, enter, withdraw, called, asked, searched};
-ghost use Rattle.book.specs.Code.{answerFor, answerOf, foundOf, bookOf};
+ghost use Rattle.book.specs.Calls.{bulkOf, enter, withdraw, searched};
+ghost use Rattle.book.specs.Stored.{kept, shown, stands};
+ghost use Rattle.book.specs.Code.{answerFor, keptOf, foundOf, sumIs};
 ghost use Rattle.judge.specs.Verdict.{meant, located};
 ghost use Rattle.reading.specs.Judged.{judged};
 ghost use Rattle.judge.specs.Index.{judgedWith, itemWith};
@@ -236,6 +240,27 @@ pub extern "C" fn bulk_header_amount(value: &[u8], answer: &mut [u64; 3])
     tell(money::amount(Range::Total, value), answer);
 }
 
+// The number open, of the two numbers that are lent beside the entries.
+fn number_in(numbers: [u64; 2]) -> usize
+    ensures { λ r. ⌜ r ≡ getD numbers 0 0 ⌝ }
+{
+    numbers[0] as usize
+}
+
+// The stored total, of the same.
+fn total_in(numbers: [u64; 2]) -> u64
+    ensures { λ r. ⌜ r ≡ getD numbers 1 0 ⌝ }
+{
+    numbers[1]
+}
+
+// The two numbers where they lie.
+fn numbers_at(numbers: &[u64; 2]) -> [u64; 2]
+    ensures { λ r. ⌜ r ≡ now (numbers .entry) ⌝ }
+{
+    *numbers
+}
+
 // Writes the three words of a call of the day book.
 fn tell_call(answer: &mut [u64; 3], a: book::Answer)
     ensures { λ _. ⌜ now (answer .exit) ≡ toldCall a ⌝ }
@@ -247,11 +272,24 @@ fn tell_call(answer: &mut [u64; 3], a: book::Answer)
     *answer = [a.number as u64, a.place as u64, 0];
 }
 
-// Writes the three words of whether a lent book is one.
-fn tell_is(answer: &mut [u64; 3], a: book::Answer)
-    ensures { λ _. ⌜ now (answer .exit) ≡ toldIs a ⌝ }
+// The same, and the number open and the stored total afterwards.
+fn tell_kept<'a>(numbers: &'a mut [u64; 2], answer: &'a mut [u64; 3], k: Kept)
+    ensures { λ _. ⌜ (now (numbers .exit) ≡ k .answer .opened ∷ k .total ∷ []) × (now (answer .exit) ≡ toldCall (k .answer)) ⌝ }
 {
-    *answer = [a.number as u64, a.place as u64, 0];
+    let a = k.answer;
+    *numbers = [a.opened as u64, k.total];
+    tell_call(answer, a);
+}
+
+// Writes the three words of whether a lent book is one.
+fn tell_is(answer: &mut [u64; 3], a: book::Answer, total: u64)
+    ensures { λ _. ⌜ now (answer .exit) ≡ toldIs (sumIs a total) ⌝ }
+{
+    if a.number == 0 && total == a.cents {
+        *answer = [0, 0, 0];
+        return;
+    }
+    *answer = [29, 0, 0];
 }
 
 // Writes the three words of a search.
@@ -265,69 +303,80 @@ fn tell_found(answer: &mut [u64; 3], r: Found)
     *answer = [r.number as u64, r.place as u64, 0];
 }
 
-// A message is entered into the day book: 0, the number open, the bulk's cents; or number, place, 0, and the book as lent. The index is cleared.
+// A message is entered into the day book: 0, the number open, the bulk's cents; or number, place, 0, and the book as lent. `numbers` holds the number open and the open total.
+// The index is cleared.
 #[no_mangle]
 pub extern "C" fn bulk_book_enter<'a>(
     entries: &'a mut [Entry],
-    opened: usize,
+    numbers: &'a mut [u64; 2],
     message: &'a [u8],
     index: &'a mut [u32],
     answer: &'a mut [u64; 3],
 )
-    ensures { λ _. ⌜ (now (answer .exit) ≡ toldCall (answerOf (called (enter (bulkOf (keyedWith (now (index .entry)) (now (message .entry))))) (bookOf (now (entries .entry)) opened))))
-        × (now (entries .exit) ≡ called (enter (bulkOf (keyedWith (now (index .entry)) (now (message .entry))))) (bookOf (now (entries .entry)) opened) .book .entries)
+    ensures { λ _. ⌜ (now (answer .exit) ≡ toldCall (keptOf (kept (enter (bulkOf (keyedWith (now (index .entry)) (now (message .entry))))) (lentBook (now (entries .entry)) (now (numbers .entry)))) .answer))
+        × (now (numbers .exit) ≡ numbersOf (kept (enter (bulkOf (keyedWith (now (index .entry)) (now (message .entry))))) (lentBook (now (entries .entry)) (now (numbers .entry))) .stored))
+        × (now (entries .exit) ≡ kept (enter (bulkOf (keyedWith (now (index .entry)) (now (message .entry))))) (lentBook (now (entries .entry)) (now (numbers .entry))) .stored .book .entries)
         × (now (index .exit) ≡ cleared (now (index .entry))) ⌝ }
 {
     let call = book::entering(message, index);
-    let a = daybook::act(entries, opened, call);
-    tell_call(answer, a);
+    let o = *numbers;
+    let k = daybook::act(entries, number_in(o), total_in(o), call);
+    tell_kept(numbers, answer, k);
 }
 
 // A key is withdrawn from the day book: 0, the number open, the bulk's cents; or number, 0, 0, and the book as lent.
 #[no_mangle]
 pub extern "C" fn bulk_book_withdraw<'a>(
     entries: &'a mut [Entry],
-    opened: usize,
+    numbers: &'a mut [u64; 2],
     key: &'a [u8; 60],
     answer: &'a mut [u64; 3],
 )
-    ensures { λ _. ⌜ (now (answer .exit) ≡ toldCall (answerOf (called (withdraw (now (key .entry))) (bookOf (now (entries .entry)) opened))))
-        × (now (entries .exit) ≡ called (withdraw (now (key .entry))) (bookOf (now (entries .entry)) opened) .book .entries) ⌝ }
+    ensures { λ _. ⌜ (now (answer .exit) ≡ toldCall (keptOf (kept (withdraw (now (key .entry))) (lentBook (now (entries .entry)) (now (numbers .entry)))) .answer))
+        × (now (numbers .exit) ≡ numbersOf (kept (withdraw (now (key .entry))) (lentBook (now (entries .entry)) (now (numbers .entry))) .stored))
+        × (now (entries .exit) ≡ kept (withdraw (now (key .entry))) (lentBook (now (entries .entry)) (now (numbers .entry))) .stored .book .entries) ⌝ }
 {
     let call = book::withdrawing(book::key_at(key));
-    let a = daybook::act(entries, opened, call);
-    tell_call(answer, a);
+    let o = *numbers;
+    let k = daybook::act(entries, number_in(o), total_in(o), call);
+    tell_kept(numbers, answer, k);
 }
 
-// The first open entry with the key: 0, 1, its place; 0, 0, 0 where there is none; or 29, 0, 0.
+// The first open entry with the key: 0, 1, its place; 0, 0, 0 where there is none; or 29, 0, 0. The stored total is not looked at.
 #[no_mangle]
 pub extern "C" fn bulk_book_find<'a>(
     entries: &'a [Entry],
-    opened: usize,
+    numbers: &'a [u64; 2],
     key: &'a [u8; 60],
     answer: &'a mut [u64; 3],
 )
-    ensures { λ _. ⌜ now (answer .exit) ≡ toldFound (foundOf (searched (now (key .entry)) (bookOf (now (entries .entry)) opened))) ⌝ }
+    ensures { λ _. ⌜ now (answer .exit) ≡ toldFound (foundOf (searched (now (key .entry)) (lentBook (now (entries .entry)) (now (numbers .entry)) .book))) ⌝ }
 {
     let k = book::key_at(key);
-    let r = daybook::find(entries, opened, k);
+    let o = numbers_at(numbers);
+    let r = daybook::find(entries, number_in(o), k);
     tell_found(answer, r);
 }
 
-// The open total: 0, the number open, the cents; or 29, 0, 0.
+// The open total as it is stored: 0, the number open, the cents. It is no sum, and no entry is looked at.
 #[no_mangle]
-pub extern "C" fn bulk_book_total<'a>(entries: &'a [Entry], opened: usize, answer: &'a mut [u64; 3])
-    ensures { λ _. ⌜ now (answer .exit) ≡ toldCall (answerFor (asked (bookOf (now (entries .entry)) opened)) opened) ⌝ }
+pub extern "C" fn bulk_book_total<'a>(numbers: &'a [u64; 2], answer: &'a mut [u64; 3])
+    ensures { λ _. ⌜ ((l : List Entry) → now (answer .exit) ≡ toldCall (answerFor (shown (lentBook l (now (numbers .entry)))) (getD (now (numbers .entry)) 0 0))) ⌝ }
 {
-    let a = daybook::ask(entries, opened);
-    tell_call(answer, a);
+    let o = numbers_at(numbers);
+    tell_call(answer, book::show(number_in(o), total_in(o)));
 }
 
-// Whether the lent book is one: 0, 0, 0; or 29, 0, 0.
+// Whether an entry and a withdrawal take the lent book for one: 0, 0, 0; or 29, 0, 0.
 #[no_mangle]
-pub extern "C" fn bulk_book_check<'a>(entries: &'a [Entry], opened: usize, answer: &'a mut [u64; 3])
-    ensures { λ _. ⌜ now (answer .exit) ≡ toldIs (answerFor (asked (bookOf (now (entries .entry)) opened)) opened) ⌝ }
+pub extern "C" fn bulk_book_check<'a>(
+    entries: &'a [Entry],
+    numbers: &'a [u64; 2],
+    answer: &'a mut [u64; 3],
+)
+    ensures { λ _. ⌜ now (answer .exit) ≡ toldIs (stands (lentBook (now (entries .entry)) (now (numbers .entry)))) ⌝ }
 {
-    let a = daybook::ask(entries, opened);
-    tell_is(answer, a);
+    let o = numbers_at(numbers);
+    let a = daybook::check(entries, number_in(o));
+    tell_is(answer, a, total_in(o));
 }

@@ -20,8 +20,10 @@ use Rattle.book.specs.declared.Outcome as acting
 use Rattle.book.specs.Book.{Key, Book, mostOpen, openIn, isOpen, twoEqual, sumOf, openTotal, isBook, firstAt, without, centsOf}
 use Rattle.book.specs.Calls.{Told, done, refusal, Outcome, unchanged, inBook, Bulk, bulk, unfit, enters, entered, withdraws, withdrawn, Call, enter, withdraw, called, asked, Searched, at}
 use Rattle.book.specs.Calls.{nowhere, none, searched}
-use Rattle.book.specs.Code.{answerFor, answerOf, outcomeOf, foundOf, blankEntry, bookOf, calledOn, askedOn, foundFor}
+use Rattle.book.specs.Stored.{Stored, agrees, Carried, asLent, totalAfter, carried, kept}
+use Rattle.book.specs.Code.{answerFor, keptOf, outcomeOf, foundOf, blankEntry, bookOf, storedOf, calledOn, askedOn, foundFor}
 use Rattle.book.proofs.Lists.{open-first}
+use Rattle.book.proofs.Answers.{none-kept}
 use Rattle.daybook.specs.Lent.{firstPlaces, replaced}
 
 module _ (ys : List Entry) (n : ℕ) where
@@ -40,11 +42,6 @@ module _ (ys : List Entry) (n : ℕ) where
       rw (drop-of-length-le ys {i = mostOpen} z)
       (ap (λ (l : List Entry). l ++ []) (take-take (length ys) mostOpen (ys ++ replicate mostOpen blankEntry) z ∙ (take-append-le (length ys) ys (replicate mostOpen blankEntry) (omega
       arith) ∙ take-all (length ys) ys (omega arith))) ∙ append-nil ys)
-
-  called-none : (b : Book) → isBook b ≡ false → (c : Call) → called c b ≡ unchanged 29 0 b
-  unfolding entered withdrawn
-  called-none b e (enter x) = rw e
-  called-none b e (withdraw k) = rw e
 
   -- ---- room enough: the first 64 places hold all that is open
   module _ (room : mostOpen ≤ length ys) where
@@ -129,39 +126,59 @@ module _ (ys : List Entry) (n : ℕ) where
       called-along (enter x) = rw (book-same, is) (enters-along x)
       called-along (withdraw k) = rw (book-same, is) (withdraws-along k)
 
-    along : (c : Call) → Along (called c held) (called c lent)
-    along c = go (isBook lent) refl
-      where
-        go : (t : Bool) → isBook lent ≡ t → Along (called c held) (called c lent)
-        go true is = called-along is c
-        go false e = rw (called-none held (book-same ∙ e) c, called-none lent e c) (same-along 29 0)
-
-    answered : (g f : Outcome) → Along g f → answerOf g ≡ answerOf f
-    answered g f a = rw (a .told, a .number)
-
     filled : (bs : List Entry) → length bs ≡ mostOpen → replaced bs ys ≡ bs ++ drop mostOpen ys
     unfolding replaced
     filled bs long = rw (take-all (length ys) bs (omega arith))
 
-  -- ---- a call
-  pub lent-called : (c : Call) (o : acting.Outcome) → o ≡ outcomeOf (calledOn (length ys) c (bookOf (firstPlaces ys) n)) → length (o .entries) ≡ mostOpen
-      → (o .answer ≡ answerOf (called c lent)) × (replaced (o .entries) ys ≡ called c lent .book .entries)
-  unfolding calledOn
-  lent-called c o e long = elim (lt-or-ge (length ys) mostOpen) [ inl h ↦ small h | inr h ↦ large h ]
-    where
-      small : length ys < mostOpen → (o .answer ≡ answerOf (called c lent)) × (replaced (o .entries) ys ≡ called c lent .book .entries)
-      small h =
-          let z : o ≡ outcomeOf (unchanged 29 0 (bookOf (firstPlaces ys) n)) = e ∙ rw (lt-leb mostOpen (length ys) h) in
-          rw (called-none lent (few-none h) c, z) (refl, few-same h)
+  -- ---- a call, with t stored
+  module _ (t : ℕ) where
+    abbrev lent-stored : Stored
+    lent-stored = storedOf ys n t
 
-      large : mostOpen ≤ length ys → (o .answer ≡ answerOf (called c lent)) × (replaced (o .entries) ys ≡ called c lent .book .entries)
-      large h =
-          let z : o ≡ outcomeOf (called c (held h)) = e ∙ rw (le-leb mostOpen (length ys) h, first-is h) in
-          let a = along h c in (
-            ap (λ (u : acting.Outcome). u .answer) z ∙ answered h (called c (held h)) (called c lent) a,
-            filled h (o .entries) long ∙ (ap (λ (u : acting.Outcome). u .entries ++ drop mostOpen
-                ys) z ∙ a .entries),
-          )
+    abbrev Agree : Carried → Carried → Type 0
+    Agree g f = (keptOf g ≡ keptOf f) × (g .stored .book .entries ++ drop mostOpen ys ≡ f .stored .book .entries)
+
+    module _ (room : mostOpen ≤ length ys) (c : Call) where
+      abbrev held-stored : Stored
+      held-stored = storedOf (first room) n t
+
+      lent-agree : (k p : ℕ) → Agree (asLent k p held-stored) (asLent k p lent-stored)
+      lent-agree k p = (refl, take-append-drop mostOpen ys)
+
+      carried-agree : (g f : Outcome) → Along room g f → Agree (carried c t g) (carried c t f)
+      carried-agree g f a = (rw (a .told, a .number), a .entries)
+
+      agree : Agree (kept c held-stored) (kept c lent-stored)
+      unfolding kept
+      agree = go (isBook lent) refl
+        where
+          then : (i : Bool) → isBook lent ≡ true → agrees lent-stored ≡ i
+              → Agree (pick i (carried c t (called c (held room))) (asLent 29 0 held-stored)) (pick i (carried c t (called c lent)) (asLent 29 0 lent-stored))
+          then true is e = carried-agree (called c (held room)) (called c lent) (called-along room is c)
+          then false is e = lent-agree 29 0
+
+          go : (i : Bool) → isBook lent ≡ i → Agree (kept c held-stored) (kept c lent-stored)
+          go true is = rw (open-same room (book-few room is)) (then (agrees lent-stored) is refl)
+          go false e = rw (none-kept c held-stored (rw (book-same room, e)), none-kept c lent-stored (rw e)) (lent-agree 29 0)
+
+    pub lent-called : (c : Call) (o : acting.Outcome) → o ≡ outcomeOf (calledOn (length ys) c (storedOf (firstPlaces ys) n t)) → length (o .entries) ≡ mostOpen
+        → (o .kept ≡ keptOf (kept c lent-stored)) × (replaced (o .entries) ys ≡ kept c lent-stored .stored .book .entries)
+    unfolding calledOn
+    lent-called c o e long = elim (lt-or-ge (length ys) mostOpen) [ inl h ↦ small h | inr h ↦ large h ]
+      where
+        small : length ys < mostOpen → (o .kept ≡ keptOf (kept c lent-stored)) × (replaced (o .entries) ys ≡ kept c lent-stored .stored .book .entries)
+        small h =
+            let z : o ≡ outcomeOf (asLent 29 0 (storedOf (firstPlaces ys) n t)) = e ∙ rw (lt-leb mostOpen (length ys) h) in
+            rw (none-kept c lent-stored (rw (few-none h)), z) (refl, few-same h)
+
+        large : mostOpen ≤ length ys → (o .kept ≡ keptOf (kept c lent-stored)) × (replaced (o .entries) ys ≡ kept c lent-stored .stored .book .entries)
+        large h =
+            let z : o ≡ outcomeOf (kept c (held-stored h c)) = e ∙ rw (le-leb mostOpen (length ys) h, first-is h) in
+            let a = agree h c in (
+              ap (λ (u : acting.Outcome). u .kept) z ∙ a .0,
+              filled h (o .entries) long ∙ (ap (λ (u : acting.Outcome). u .entries ++ drop mostOpen
+                  ys) z ∙ a .1),
+            )
 
   -- ---- the open total
   pub lent-asked : askedOn (length ys) (bookOf (firstPlaces ys) n) ≡ asked lent

@@ -3,13 +3,15 @@ use book::Answer;
 use book::Call;
 use book::Entry;
 use book::Found;
+use book::Kept;
 use book::Outcome;
 ghost use mathlib.Core.Path.{_≡_};
 ghost use Prim.Native.Nat.{_≤_};
 ghost use lib.ListN.{length, take};
 ghost use Rattle.book.specs.Book.{firstAt};
-ghost use Rattle.book.specs.Calls.{called, asked, searched};
-ghost use Rattle.book.specs.Code.{callAs, answerFor, answerOf, foundOf, bookOf};
+ghost use Rattle.book.specs.Calls.{asked, searched};
+ghost use Rattle.book.specs.Stored.{kept};
+ghost use Rattle.book.specs.Code.{callAs, answerFor, keptOf, foundOf, bookOf, storedOf};
 ghost use Rattle.daybook.specs.Lent.{firstPlaces, replaced, fewer};
 
 // The smaller of two numbers.
@@ -71,41 +73,41 @@ fn entries_of(o: Outcome) -> [Entry; book::MOST]
     e
 }
 
-// The answer of an outcome.
-fn answer_of(o: Outcome) -> Answer
-    ensures { λ r. ⌜ r ≡ o .answer ⌝ }
+// The answer of an outcome, with the stored total.
+fn kept_of(o: Outcome) -> Kept
+    ensures { λ r. ⌜ r ≡ o .kept ⌝ }
 {
-    let a = o.answer;
-    a
+    let k = o.kept;
+    k
 }
 
-// A call that changes the book: an entry or a withdrawal.
-pub fn act(entries: &mut [Entry], opened: usize, call: Call) -> Answer
-    ensures { λ r. ⌜ (r ≡ answerOf (called (callAs call) (bookOf (now (entries .entry)) opened)))
-        × (now (entries .exit) ≡ called (callAs call) (bookOf (now (entries .entry)) opened) .book .entries) ⌝ }
+// A call that changes the book: an entry or a withdrawal. The open total is stored beside the number open.
+pub fn act(entries: &mut [Entry], opened: usize, total: u64, call: Call) -> Kept
+    ensures { λ r. ⌜ (r ≡ keptOf (kept (callAs call) (storedOf (now (entries .entry)) opened total)))
+        × (now (entries .exit) ≡ kept (callAs call) (storedOf (now (entries .entry)) opened total) .stored .book .entries) ⌝ }
 {
     let places = entries.len();
     let b = copy_in(entries);
-    let o = book::act_on(b, places, opened, call);
+    let o = book::act_on(b, places, opened, total, call);
     let e = entries_of(o);
     copy_out(entries, e);
-    answer_of(o)
+    kept_of(o)
 }
 
-// The open total, or 29 where the lent book is none.
-pub fn ask(entries: &[Entry], opened: usize) -> Answer
+// What summing gives, or 29 where the lent book is none.
+pub fn check(entries: &[Entry], opened: usize) -> Answer
     ensures { λ r. ⌜ r ≡ answerFor (asked (bookOf (now (entries .entry)) opened)) opened ⌝ }
 {
     let places = entries.len();
     let b = copy_in(entries);
-    book::ask_on(b, places, opened)
+    book::check_on(b, places, opened)
 }
 
-// The first open entry with the key, or that there is none; 29 where the lent book is none.
+// The first open entry with the key, or that there is none; 29 where the lent book is none. The stored total is not looked at.
 pub fn find(entries: &[Entry], opened: usize, key: [u8; keys::LENGTH]) -> Found
     ensures { λ r. ⌜ r ≡ foundOf (searched key (bookOf (now (entries .entry)) opened)) ⌝ }
 {
-    let a = ask(entries, opened);
+    let a = check(entries, opened);
     let at = search(entries, opened, key);
     book::found_at(a, at)
 }

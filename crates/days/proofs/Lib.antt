@@ -3,3 +3,4 @@ pub mod Total
 pub mod Kept
 pub mod Again
 pub mod Stays
+pub mod Stored

@@ -62,10 +62,26 @@ smalls-changed b c o k h s (same n p) = s
 smalls-changed b c o k h s (more e y z) = rw (open-added e b (omega (arith, k .room))) (smalls-more (openIn b) e s h)
 smalls-changed b c o k h s (less q y) = rw (open-lessened q b (omega (arith, k .room, k .few)) y) (smalls-less q (openIn b) s)
 
-stays : (l : List Call) (b : Book) → AllMade l → Kept b → Smalls (openIn b) → isBook (after l b) ≡ true
-stays [] b a k s = is-book b k (omega (arith, smalls-sum (openIn b) s, length-take-le (b .number) (b .entries) (omega (arith, k .room, k .few)), k .few))
-stays (c ∷ l) b a k s = stays l (called c b .book) (a .1) (kept-called c b k) (smalls-changed b c (called c b) k (made-small c (a .0)) s (changed c b))
+-- a book of small entries: so it is one, and stays one
+pub record Fair (b : Book) : Type 0 where
+  pub kept : Kept b
+  pub smalls : Smalls (openIn b)
+
+pub fair-empty : (ys : List Entry) → mostOpen ≤ length ys → Fair (empty ys)
+fair-empty ys h = record { kept = record { room = h; few = omega arith; different = refl }; smalls = tt }
+
+pub fair-called : (c : Call) (b : Book) → Made c → Fair b → Fair (called c b .book)
+fair-called c b m f = record { kept = kept-called c b (f .kept); smalls = smalls-changed b c (called c b) (f .kept) (made-small c m) (f .smalls) (changed c b) }
+
+pub fair-is : (b : Book) → Fair b → isBook b ≡ true
+fair-is b f =
+    let k = f .kept in
+    is-book b k (omega (arith, smalls-sum (openIn b) (f .smalls), length-take-le (b .number) (b .entries) (omega (arith, k .room, k .few)), k .few))
+
+stays : (l : List Call) (b : Book) → AllMade l → Fair b → isBook (after l b) ≡ true
+stays [] b a f = fair-is b f
+stays (c ∷ l) b a f = stays l (called c b .book) (a .1) (fair-called c b (a .0) f)
 
 -- **After any calls of this library from an empty book of at least 64 places the book is one**: 29 never comes.
 pub day-stays : (l : List Call) (ys : List Entry) → AllMade l → mostOpen ≤ length ys → isBook (after l (empty ys)) ≡ true
-day-stays l ys a h = stays l (empty ys) a (record { room = h; few = omega arith; different = refl }) tt
+day-stays l ys a h = stays l (empty ys) a (fair-empty ys h)

@@ -21,10 +21,10 @@ use Rattle.book.proofs.Answer as N
 use Rattle.book.proofs.Answer.Laws as N′
 use Rattle.book.proofs.Found as F
 use Rattle.book.proofs.Found.Laws as F′
-use Rattle.daybook.proofs.ask as ak
-use Rattle.daybook.proofs.ask.Symbol as ak-def
-use Rattle.daybook.proofs.ask.Symbol.{name as #ak}
-use Rattle.daybook.proofs.ask.Met as ak-thm
+use Rattle.daybook.proofs.check as ch
+use Rattle.daybook.proofs.check.Symbol as ch-def
+use Rattle.daybook.proofs.check.Symbol.{name as #ch}
+use Rattle.daybook.proofs.check.Met as ch-thm
 use Rattle.daybook.proofs.search as se
 use Rattle.daybook.proofs.search.Symbol as se-def
 use Rattle.daybook.proofs.search.Symbol.{name as #se}
@@ -52,8 +52,8 @@ slots = (F′.mir, valueLocal) ∷ (slice, valueLocal) ∷ (word, valueLocal) �
 
 module _ {M : Type 1} (𝓤 : URA M) (H : Heap 𝓤) (A : Atoms 𝓤) (mem : Memory → SProp 𝓤) (run : Routine → Fun 𝓤) where
   -- the contracts that the proof cites
-  abbrev Ask : Contract 𝓤
-  Ask = tripleOf 𝓤 H A ak.signature (ak.spec 𝓤 H A mem run)
+  abbrev Check : Contract 𝓤
+  Check = tripleOf 𝓤 H A ch.signature (ch.spec 𝓤 H A mem run)
 
   abbrev Search : Contract 𝓤
   Search = tripleOf 𝓤 H A se.signature (se.spec 𝓤 H A mem run)
@@ -97,11 +97,11 @@ module _ {M : Type 1} (𝓤 : URA M) (H : Heap 𝓤) (A : Atoms 𝓤) (W : Given
       fjoin ! $
       frame ! $ owned ! F.the-row (Is F.the-row) (LL.makes F.the-type F′.the-plain 𝓤 H A) r (v ∷ []) gr $ done !
 
-  abbrev ak-at : Ask 𝓤 H A mem run .Ghost
-  ak-at = (((κ, tt), (q, tt), tt, (y, (n, tt)), (s ∷ [], (vint w64 n ∷ [], tt))), tt)
+  abbrev ch-at : Check 𝓤 H A mem run .Ghost
+  ch-at = (((κ, tt), (q, tt), tt, (y, (n, tt)), (s ∷ [], (vint w64 n ∷ [], tt))), tt)
 
-  ak-asks : ent 𝓤 (⋆ 𝓤 H A ((‵ (flft κ q) ⊛ ‵ ftrue) ∷ ‵ (ShrSlice (named 0) κ R .own y (s ∷ [])) ∷ [])) (Ask 𝓤 H A mem run .pre ak-at)
-  ak-asks = qed W ((‵ (flft κ q) ⊛ ‵ ftrue) ∷ ‵ (ShrSlice (named 0) κ R .own y (s ∷ [])) ∷ []) ∵ nothing ! $ owned ! usize (Is usize) (uint-makes 𝓤 H A W w64) n _ (refl, n-fits) $ fjoin ! $
+  ch-asks : ent 𝓤 (⋆ 𝓤 H A ((‵ (flft κ q) ⊛ ‵ ftrue) ∷ ‵ (ShrSlice (named 0) κ R .own y (s ∷ [])) ∷ [])) (Check 𝓤 H A mem run .pre ch-at)
+  ch-asks = qed W ((‵ (flft κ q) ⊛ ‵ ftrue) ∷ ‵ (ShrSlice (named 0) κ R .own y (s ∷ [])) ∷ []) ∵ nothing ! $ owned ! usize (Is usize) (uint-makes 𝓤 H A W w64) n _ (refl, n-fits) $ fjoin ! $
       move ! (2 ∷ 0 ∷ []) $ fjoin ! $ move ! (1 ∷ 0 ∷ []) $ join ! $ frame ! $ done !
 
   abbrev se-at : Search 𝓤 H A mem run .Ghost
@@ -119,21 +119,21 @@ module _ {M : Type 1} (𝓤 : URA M) (H : Heap 𝓤) (A : Atoms 𝓤) (W : Given
       qed W [] ∵ nothing ! $ owned ! usize (Is usize) (uint-makes 𝓤 H A W w64) i (w ∷ []) gi $ fjoin ! $
       owned ! N.the-row (Is N.the-row) (LL.makes N.the-type N′.the-plain 𝓤 H A) a (v ∷ []) ga $ fjoin ! $ nothing ! $ join ! $ frame ! $ done !
 
-  walk : (𝓣 : Tables 𝓤 H) → Triple 𝓤 (𝓣 .C #ak) (Ask 𝓤 H A mem run) → Triple 𝓤 (𝓣 .C #se) (Search 𝓤 H A mem run) → Triple 𝓤 (𝓣 .C #fa) (FoundAt 𝓤 H A mem run)
+  walk : (𝓣 : Tables 𝓤 H) → Triple 𝓤 (𝓣 .C #ch) (Check 𝓤 H A mem run) → Triple 𝓤 (𝓣 .C #se) (Search 𝓤 H A mem run) → Triple 𝓤 (𝓣 .C #fa) (FoundAt 𝓤 H A mem run)
       → ent 𝓤 (onEntry 𝓤 H A f.signature (κ, tt) (q, tt) x at) (WpFn 𝓤 H (𝓣 .C) (𝓣 .Λ) code.function (s ∷ vint w64 n ∷ kval k ∷ []) Post)
-  walk 𝓣 known-ak known-se known-fa =
+  walk 𝓣 known-ch known-se known-fa =
       qed W ((‵ (flft κ q) ⊛ ‵ ftrue) ∷ ‵ (owns (ShrSlice (named 0) κ R ∷ usize ∷ KR ∷ []) x at) ∷ []) ∵ enter ! (𝓣 .C) (𝓣 .Λ) code.function (s ∷ vint w64 n ∷ kval k ∷ []) _ $
       allocs-all ! slots _ (λ p. params1 ! $ pass1 ! (init ! 8 refl (tt, (tt, (record { fits = gn .0 }, tt)))) $ pass1 ! (init ! 6 refl (tt, record { fits = n-fits })) $
       pass1 ! (init ! 4 refl (ktyped 𝓤 H A W k gk)) $ pass0 ! $
       move ! (13 ∷ []) $ fsplit ! $ use1 W (‵ (ShrSlice (named 0) κ R .own y (s ∷ [])) ⊛ ‵ (ShrSlice (named 0) κ R .own y (s ∷ []))) (shr-slice-copy 𝓤 H A W (named 0) κ R .twice y (s
       ∷ [])) $ split ! $ use1 W (‵ (ShrSlice (named 0) κ R .own y (s ∷ [])) ⊛ ‵ (ShrSlice (named 0) κ R .own y (s ∷ []))) (shr-slice-copy 𝓤 H A W (named 0) κ R .twice y (s ∷ [])) $
       split ! $
-      move ! (16 ∷ 0 ∷ []) $ use2 W (raw (Ask 𝓤 H A mem run .pre ak-at)) ak-asks $
-      calls-at ! (fmOf 𝓤 H (W .laws) 𝓣) (Ask 𝓤 H A mem run) known-ak ak-at (and-then ! (load ! (from ! (stop !)) (look ! 12 refl)) (and-then ! (load ! (from ! (stop !)) (look ! 10 refl))
+      move ! (16 ∷ 0 ∷ []) $ use2 W (raw (Check 𝓤 H A mem run .pre ch-at)) ch-asks $
+      calls-at ! (fmOf 𝓤 H (W .laws) 𝓣) (Check 𝓤 H A mem run) known-ch ch-at (and-then ! (load ! (from ! (stop !)) (look ! 12 refl)) (and-then ! (load ! (from ! (stop !)) (look ! 10 refl))
       (no-more !))) (λ v₄.
       use1 W (later (some (λ (r : Answer). ((‵ (flft κ q) ⊛ ‵ ftrue) ⊛ ‵ (N.the-row .own r (v₄
-      ∷ []))) ⊛ raw (ensured 𝓤 H A ak.ended (ak.clauses 𝓤 H A mem run) (κ, tt) (y, (n, tt)) tt r)))) (id⊢ 𝓤 _) $ await ! tt $ pick ! (λ a.
-      split ! $ move ! (1 ∷ []) $ use1 W (raw (fact 𝓤 (a ≡ Asked))) (exE 𝓤 _ (λ ws. snd∗ 𝓤 (sem 𝓤 H A (lasts ak.ended (κ, tt) (y, (n, tt)) ws)) (fact 𝓤 (a ≡ Asked)))) $
+      ∷ []))) ⊛ raw (ensured 𝓤 H A ch.ended (ch.clauses 𝓤 H A mem run) (κ, tt) (y, (n, tt)) tt r)))) (id⊢ 𝓤 _) $ await ! tt $ pick ! (λ a.
+      split ! $ move ! (1 ∷ []) $ use1 W (raw (fact 𝓤 (a ≡ Asked))) (exE 𝓤 _ (λ ws. snd∗ 𝓤 (sem 𝓤 H A (lasts ch.ended (κ, tt) (y, (n, tt)) ws)) (fact 𝓤 (a ≡ Asked)))) $
       heard ! (a ≡ Asked) (λ e₁.
       split ! $ move ! (1 ∷ []) $ peeks ! N.the-row (Is N.the-row) (shows 𝓤 H A N.the-row) a (v₄ ∷ []) (λ ga. let-go ! $
       land ! (from ! (stop !)) (init ! 6 refl (LL.lawful N.the-type N′.the-laws 𝓤 H A W .typed a (v₄ ∷ []) ga .0)) $
@@ -155,7 +155,7 @@ module _ {M : Type 1} (𝓤 : URA M) (H : Heap 𝓤) (A : Atoms 𝓤) (W : Given
       move ! (13 ∷ 14 ∷ 11 ∷ 12 ∷ 9 ∷ 10 ∷ 7 ∷ 8 ∷ 5 ∷ 6 ∷ 3 ∷ 4 ∷ []) $ frees-all ! slots p $ keep ! (0 ∷ 1 ∷ []) $ by ! (exits r v₀ gr (told a i r e₁ e₂ e₃))))))))))))
 
 module _ {M : Type 1} (𝓤 : URA M) (H : Heap 𝓤) (A : Atoms 𝓤) (W : Given 𝓤 H A) (mem : Memory → SProp 𝓤) (run : Routine
-    → Fun 𝓤) (𝓣 : Tables 𝓤 H) (known-ak : Triple 𝓤 (𝓣 .C #ak) (Ask 𝓤 H A mem run)) (known-se : Triple 𝓤 (𝓣 .C #se) (Search 𝓤 H A mem run)) (known-fa : Triple 𝓤 (𝓣 .C #fa) (FoundAt 𝓤 H A mem
+    → Fun 𝓤) (𝓣 : Tables 𝓤 H) (known-ch : Triple 𝓤 (𝓣 .C #ch) (Check 𝓤 H A mem run)) (known-se : Triple 𝓤 (𝓣 .C #se) (Search 𝓤 H A mem run)) (known-fa : Triple 𝓤 (𝓣 .C #fa) (FoundAt 𝓤 H A mem
     run)) where
   walks : Walks 𝓤 H A f.ended stayed (WpFn 𝓤 H (𝓣 .C) (𝓣 .Λ) code.function) (f.clauses 𝓤 H A mem run)
   walks = walked 𝓤 H A f.ended stayed (f.clauses 𝓤 H A mem run) (WpFn 𝓤 H (𝓣 .C) (𝓣 .Λ) code.function) (λ κs. (slice-vals, (uint-vals w64, (kvals, tt)))) (λ κs. (
@@ -164,7 +164,7 @@ module _ {M : Type 1} (𝓤 : URA M) (H : Heap 𝓤) (A : Atoms 𝓤) (W : Given
     (uint-tells w64, (ktells, tt)),
   ))
       (λ κs qs bounds a g are. via 𝓤 _ (fst∗ 𝓤 _ (emp 𝓤)) (walk 𝓤 H A W mem run (κs .0) (qs .0) (a .0 .ptr .0) (a .0 .ptr .1) (a .0 .name) (a .0 .now) (a .1 .0) (a .1 .1 .0) (are .0 .0 .1)
-      (are .1 .0 .1) (are .1 .1 .0) 𝓣 known-ak known-se known-fa))
+      (are .1 .0 .1) (are .1 .1 .0) 𝓣 known-ch known-se known-fa))
 
   meets : Meets 𝓤 H A f.signature (WpFn 𝓤 H (𝓣 .C) (𝓣 .Λ) code.function) (f.spec 𝓤 H A mem run)
   meets = walk-meets 𝓤 H A f.ended stayed W (
@@ -180,6 +180,6 @@ find-spec 𝓤 H 𝓜 𝓖 𝓡 =
     entered 𝓤 H (tripleOf 𝓤 H (𝓖 .A) f.signature (f.spec 𝓤 H (𝓖 .A) (𝓜 .mem) (𝓡 .run)))
     (tables 𝓤 H 𝓜 𝓡 code.env .C) (tables 𝓤 H 𝓜 𝓡 code.env .Λ) #find code.function (code.unfolded 𝓤 H 𝓜 𝓡)
     (meets 𝓤 H (𝓖 .A) (givenOf 𝓤 H 𝓜 𝓖) (𝓜 .mem) (𝓡 .run) (tablesOf 𝓤 H 𝓜 (tables 𝓤 H 𝓜 𝓡 code.env))
-    (cited 𝓤 H (Ask 𝓤 H (𝓖 .A) (𝓜 .mem) (𝓡 .run)) 𝓜 𝓡 code.env #ak ak-def.routine code.calls-daybook·ask (ak-thm.met 𝓤 H 𝓜 𝓖 𝓡))
+    (cited 𝓤 H (Check 𝓤 H (𝓖 .A) (𝓜 .mem) (𝓡 .run)) 𝓜 𝓡 code.env #ch ch-def.routine code.calls-daybook·check (ch-thm.met 𝓤 H 𝓜 𝓖 𝓡))
     (cited 𝓤 H (Search 𝓤 H (𝓖 .A) (𝓜 .mem) (𝓡 .run)) 𝓜 𝓡 code.env #se se-def.routine code.calls-daybook·search (se-thm.met 𝓤 H 𝓜 𝓖 𝓡))
     (cited 𝓤 H (FoundAt 𝓤 H (𝓖 .A) (𝓜 .mem) (𝓡 .run)) 𝓜 𝓡 code.env #fa fa-def.routine code.calls-book·found-at (fa-thm.met 𝓤 H 𝓜 𝓖 𝓡)))

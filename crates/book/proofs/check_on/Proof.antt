@@ -1,9 +1,9 @@
--- `book::ask_on` meets its contract.
+-- `book::check_on` meets its contract.
 use Rattle.text.proofs.Truths.{yes-not, no-not}
 use Rattle.book.proofs.Answers.{few-asked, none-asked, total-asked, book-few}
 use borrow.Author.Needs.{needs}
-use Rattle.book.proofs.ask_on.Statement.{statement}
-use Rattle.book.proofs.ask_on.Tie as tie
+use Rattle.book.proofs.check_on.Statement.{statement}
+use Rattle.book.proofs.check_on.Tie as tie
 
 none-requires : tie.Need-none-requires
 none-requires c κs = search needs
@@ -26,8 +26,8 @@ sum-requires c κs = book-few (c .before .before .before .args .b) (c .before .b
 returns-3 : tie.Need-returns-3
 returns-3 c = total-asked (c .before .before .before .before .args .b) (c .before .before .before .before .args .opened) (c .before .before .before .before .good .0 .1 .0 .1) (c .before .before .before .before .args .places) _ (c .before .before .before .if1 .left) (yes-not (c .before .before .is-book .ensures) (c .before .if2 .left)) (c .sum .ensures)
 
-pub ask-on-spec : {M : Type 1} → statement M
-ask-on-spec =
+pub check-on-spec : {M : Type 1} → statement M
+check-on-spec =
     tie.close
     (tie.spec
     none-requires
