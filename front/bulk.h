@@ -79,11 +79,12 @@ void bulk_header_amount(const uint8_t *value, size_t length, uint64_t answer[BUL
 
 /* ---- The day book.
  *
- * The open bulks are a lent list of entries and the number open, the open ones first in order of entry. The caller keeps both: an
- * empty book is 64 places or more, whatever they hold, and 0 open; of an entry or a withdrawal that holds, the answer tells the
- * number open afterwards. Every call first looks whether what is lent is a book: at least 64 places, at most 64 open, no two open
- * keys equal, the open sums together at most 99,999,999,999,999,999 cents. If it is none, the answer is 29, 0, 0. A refusal leaves
- * every entry as lent. */
+ * The open bulks are a lent list of entries, the open ones first in order of entry, and beside it two numbers: the number open and
+ * the open total. An empty book is 64 places or more, whatever they hold, and the numbers 0 and 0. An entry and a withdrawal that hold
+ * change the list and both numbers; a refusal leaves every entry and both numbers as lent. An entry, a withdrawal and a search first
+ * look whether what is lent is a book: at least 64 places, at most 64 open, no two open keys equal, the open sums together at most
+ * 99,999,999,999,999,999 cents; an entry and a withdrawal also whether the stored total is what summing gives. If not, the answer is
+ * 29, 0, 0. */
 
 /* The bytes of a key. */
 #define BULK_KEY 60
@@ -108,25 +109,33 @@ typedef struct bulk_entry {
     uint64_t cents;
 } bulk_entry;
 
+/* What stands beside the entries: two words, 16 bytes, aligned to 8. Whoever makes a book by hand stores the sum of its open ones. */
+typedef struct bulk_numbers {
+    uint64_t open;
+    uint64_t total;
+} bulk_numbers;
+
 /* A message is entered: 0, the number open afterwards, the bulk's cents, and its entry stands behind the open ones, every other place
  * as lent; or number, place, 0: 29; 25; the judge's own with its place; 20, its key is open already; 21, 64 are open. */
-void bulk_book_enter(bulk_entry *entries, size_t places, size_t opened, const uint8_t *message, size_t length, uint32_t *index,
+void bulk_book_enter(bulk_entry *entries, size_t places, bulk_numbers *numbers, const uint8_t *message, size_t length, uint32_t *index,
                      size_t index_length, uint64_t answer[BULK_ANSWER]);
 
 /* A key is withdrawn: 0, the number open afterwards, the bulk's cents, and the open ones behind it stand one place further down;
  * places past those that are still open keep what they held, also the one that has become free. Or number, 0, 0: 29; 22, the key is
  * not open. The key lies apart from the entries: one of an entry is copied first. */
-void bulk_book_withdraw(bulk_entry *entries, size_t places, size_t opened, const uint8_t key[BULK_KEY], uint64_t answer[BULK_ANSWER]);
+void bulk_book_withdraw(bulk_entry *entries, size_t places, bulk_numbers *numbers, const uint8_t key[BULK_KEY],
+                        uint64_t answer[BULK_ANSWER]);
 
-/* The first open entry with the key: 0, 1, its place from 0; 0, 0, 0 where there is none; or 29, 0, 0. */
-void bulk_book_find(const bulk_entry *entries, size_t places, size_t opened, const uint8_t key[BULK_KEY],
+/* The first open entry with the key: 0, 1, its place from 0; 0, 0, 0 where there is none; or 29, 0, 0. The stored total is not looked
+ * at. */
+void bulk_book_find(const bulk_entry *entries, size_t places, const bulk_numbers *numbers, const uint8_t key[BULK_KEY],
                     uint64_t answer[BULK_ANSWER]);
 
-/* The open total: 0, the number open, the cents; or 29, 0, 0. */
-void bulk_book_total(const bulk_entry *entries, size_t places, size_t opened, uint64_t answer[BULK_ANSWER]);
+/* The open total as it is stored: 0, the number open, the cents. No entry is looked at, and 29 never comes. */
+void bulk_book_total(const bulk_numbers *numbers, uint64_t answer[BULK_ANSWER]);
 
-/* Whether what is lent is a book: 0, 0, 0; or 29, 0, 0. */
-void bulk_book_check(const bulk_entry *entries, size_t places, size_t opened, uint64_t answer[BULK_ANSWER]);
+/* Whether an entry and a withdrawal take what is lent for a book: 0, 0, 0; or 29, 0, 0. */
+void bulk_book_check(const bulk_entry *entries, size_t places, const bulk_numbers *numbers, uint64_t answer[BULK_ANSWER]);
 
 #ifdef __cplusplus
 }

@@ -20,14 +20,14 @@ static void hold(const char *what, const uint64_t answer[BULK_ANSWER], uint64_t 
 
 /* The index of most calls, between numbers that are not lent: it has rubbish in it before each call, and zeros behind it. */
 #define BESIDE 3
-static uint32_t numbers[BESIDE + BULK_INDEX + BESIDE];
-static uint32_t *const lent = numbers + BESIDE;
+static uint32_t slots[BESIDE + BULK_INDEX + BESIDE];
+static uint32_t *const lent = slots + BESIDE;
 
 /* Fills the index and what stands beside it. */
 static void fill(uint32_t rubbish)
 {
     for (size_t i = 0; i < BESIDE + BULK_INDEX + BESIDE; i++) {
-        numbers[i] = rubbish + (uint32_t)i;
+        slots[i] = rubbish + (uint32_t)i;
     }
 }
 
@@ -37,8 +37,8 @@ static void hold_index(const char *what, uint32_t rubbish, size_t many, int is_c
     for (size_t i = 0; i < BESIDE + BULK_INDEX + BESIDE; i++) {
         int is_lent = i >= BESIDE && i < BESIDE + many;
         uint32_t must = is_lent && is_cleared ? 0 : rubbish + (uint32_t)i;
-        if (numbers[i] != must) {
-            printf("%s: number %d beside or of the index is %u, and not %u\n", what, (int)i, (unsigned)numbers[i], (unsigned)must);
+        if (slots[i] != must) {
+            printf("%s: number %d beside or of the index is %u, and not %u\n", what, (int)i, (unsigned)slots[i], (unsigned)must);
             wrong++;
             return;
         }
@@ -244,20 +244,26 @@ typedef union book {
 } book;
 
 static book open_bulks, due;
+static bulk_numbers numbers;
 
 /* The layout by which this file is compiled is the one that the header names. */
 static void check_layout(void)
 {
     if (sizeof(bulk_entry) != ENTRY || sizeof(book) != PLACES * ENTRY || offsetof(bulk_entry, key) != 0 ||
-        offsetof(bulk_entry, unused) != 60 || offsetof(bulk_entry, cents) != 64) {
-        printf("bulk_entry: not the layout of the header\n");
+        offsetof(bulk_entry, unused) != 60 || offsetof(bulk_entry, cents) != 64 || sizeof(bulk_numbers) != 16 ||
+        offsetof(bulk_numbers, open) != 0 || offsetof(bulk_numbers, total) != 8) {
+        printf("bulk_entry, bulk_numbers: not the layout of the header\n");
         wrong++;
     }
 }
 
-/* Holds every place to what is due there: the key at 0, the cents at 64. */
-static void hold_book(const char *what)
+/* Holds every place to what is due there: the key at 0, the cents at 64; and the two numbers. */
+static void hold_book(const char *what, uint64_t opened, uint64_t total)
 {
+    if (numbers.open != opened || numbers.total != total) {
+        printf("%s: the number open or the total is not as it must be\n", what);
+        wrong++;
+    }
     for (size_t i = 0; i < PLACES; i++) {
         const uint8_t *is = open_bulks.bytes + ENTRY * i, *must = due.bytes + ENTRY * i;
         if (memcmp(is, must, BULK_KEY) != 0 || memcmp(is + 64, must + 64, 8) != 0) {
@@ -287,7 +293,7 @@ static void make_entry(book *of, size_t place, size_t i, uint64_t cents)
 }
 
 /* Enters the example with number i in its MsgId. */
-static void enter(const uint8_t *message, size_t length, size_t opened, size_t i, uint64_t answer[BULK_ANSWER])
+static void enter(const uint8_t *message, size_t length, size_t i, uint64_t answer[BULK_ANSWER])
 {
     static uint8_t numbered[65536];
     uint8_t *id = numbered + behind(message, "<MsgId>");
@@ -295,7 +301,7 @@ static void enter(const uint8_t *message, size_t length, size_t opened, size_t i
     id[3] = (uint8_t)('0' + i / 10);
     id[4] = (uint8_t)('0' + i % 10);
     fill((uint32_t)i);
-    bulk_book_enter(open_bulks.entries, PLACES, opened, numbered, length, lent, BULK_INDEX, answer);
+    bulk_book_enter(open_bulks.entries, PLACES, &numbers, numbered, length, lent, BULK_INDEX, answer);
     hold_index("enter", (uint32_t)i, BULK_INDEX, 1);
 }
 
@@ -305,27 +311,28 @@ static void check_enter(const uint8_t *message, size_t length)
     uint64_t answer[BULK_ANSWER];
     memset(open_bulks.bytes, 7, sizeof open_bulks);
     memset(due.bytes, 7, sizeof due);
+    numbers.open = numbers.total = 0;
     for (size_t i = 0; i < BULK_BOOK; i++) {
-        enter(message, length, i, i, answer);
+        enter(message, length, i, answer);
         hold("enter", answer, 0, i + 1, 1234);
         make_entry(&due, i, i, 1234);
-        hold_book("enter");
-        enter(message, length, i + 1, i, answer);
+        hold_book("enter", i + 1, 1234 * (i + 1));
+        enter(message, length, i, answer);
         hold("enter, open already", answer, 20, 0, 0);
     }
-    enter(message, length, BULK_BOOK, 99, answer);
+    enter(message, length, 99, answer);
     hold("enter, 64 open", answer, 21, 0, 0);
-    enter(message, length - 1, BULK_BOOK, 99, answer);
+    enter(message, length - 1, 99, answer);
     hold("enter, refused by the judge", answer, 3, length - 1, 0);
-    hold_book("enter, refused");
+    hold_book("enter, refused", BULK_BOOK, 64 * 1234);
     fill(9);
-    bulk_book_enter(open_bulks.entries, PLACES, BULK_BOOK, message, length, lent, BULK_INDEX - 1, answer);
+    bulk_book_enter(open_bulks.entries, PLACES, &numbers, message, length, lent, BULK_INDEX - 1, answer);
     hold("enter, an index too short", answer, 25, 0, 0);
-    bulk_book_enter(open_bulks.entries, BULK_BOOK - 1, 0, message, length, lent, BULK_INDEX - 1, answer);
+    bulk_book_enter(open_bulks.entries, BULK_BOOK - 1, &numbers, message, length, lent, BULK_INDEX - 1, answer);
     hold("enter, no book and an index too short", answer, 29, 0, 0);
     hold_index("enter, an index too short", 9, BULK_INDEX - 1, 0);
-    hold_book("enter, an index too short");
-    bulk_book_enter(open_bulks.entries, BULK_BOOK - 1, 0, message, length, lent, BULK_INDEX, answer);
+    hold_book("enter, an index too short", BULK_BOOK, 64 * 1234);
+    bulk_book_enter(open_bulks.entries, BULK_BOOK - 1, &numbers, message, length, lent, BULK_INDEX, answer);
     hold("enter, no book", answer, 29, 0, 0);
     hold_index("enter, no book", 9, BULK_INDEX, 1);
 }
@@ -336,31 +343,33 @@ static void check_withdraw(const uint8_t *message, size_t length)
     uint64_t answer[BULK_ANSWER];
     uint8_t key[BULK_KEY];
     make_key(key, 99);
-    bulk_book_find(open_bulks.entries, PLACES, BULK_BOOK, key, answer);
+    bulk_book_find(open_bulks.entries, PLACES, &numbers, key, answer);
     hold("find, none", answer, 0, 0, 0);
-    bulk_book_withdraw(open_bulks.entries, PLACES, BULK_BOOK, key, answer);
+    bulk_book_withdraw(open_bulks.entries, PLACES, &numbers, key, answer);
     hold("withdraw, not open", answer, 22, 0, 0);
-    hold_book("withdraw, not open");
+    hold_book("withdraw, not open", BULK_BOOK, 64 * 1234);
     make_key(key, 10);
-    bulk_book_find(open_bulks.entries, PLACES, BULK_BOOK, key, answer);
+    bulk_book_find(open_bulks.entries, PLACES, &numbers, key, answer);
     hold("find", answer, 0, 1, 10);
-    bulk_book_withdraw(open_bulks.entries, PLACES, BULK_BOOK, key, answer);
+    bulk_book_withdraw(open_bulks.entries, PLACES, &numbers, key, answer);
     hold("withdraw", answer, 0, BULK_BOOK - 1, 1234);
     memmove(due.bytes + ENTRY * 10, due.bytes + ENTRY * 11, ENTRY * (BULK_BOOK - 11));
-    hold_book("withdraw");
-    enter(message, length, BULK_BOOK - 1, 10, answer);
+    hold_book("withdraw", BULK_BOOK - 1, 63 * 1234);
+    enter(message, length, 10, answer);
     hold("enter again", answer, 0, BULK_BOOK, 1234);
     make_entry(&due, BULK_BOOK - 1, 10, 1234);
-    hold_book("enter again");
+    hold_book("enter again", BULK_BOOK, 64 * 1234);
 }
 
-/* Asks for the total of a book, and whether it is one: so many cents, or 29. */
-static void check_total(const char *what, size_t places, size_t opened, uint64_t number, uint64_t cents)
+/* Whether so many entries, with so much stored, are a book; and that asking answers what is stored, whatever they are. */
+static void check_stored(const char *what, size_t places, uint64_t opened, uint64_t total, uint64_t number)
 {
     uint64_t answer[BULK_ANSWER];
-    bulk_book_total(open_bulks.entries, places, opened, answer);
-    hold(what, answer, number, number ? 0 : opened, cents);
-    bulk_book_check(open_bulks.entries, places, opened, answer);
+    numbers.open = opened;
+    numbers.total = total;
+    bulk_book_total(&numbers, answer);
+    hold(what, answer, 0, opened, total);
+    bulk_book_check(open_bulks.entries, places, &numbers, answer);
     hold(what, answer, number, 0, 0);
 }
 
@@ -368,23 +377,43 @@ static void check_total(const char *what, size_t places, size_t opened, uint64_t
 static void check_handmade(void)
 {
     static const uint64_t most = 99999999999999999;
-    check_total("64 open", PLACES, BULK_BOOK, 0, 64 * 1234);
-    check_total("no open", BULK_BOOK, 0, 0, 0);
-    check_total("63 places", BULK_BOOK - 1, 0, 29, 0);
+    check_stored("64 open", PLACES, BULK_BOOK, 64 * 1234, 0);
+    check_stored("no open", BULK_BOOK, 0, 0, 0);
+    check_stored("63 places", BULK_BOOK - 1, 0, 0, 29);
     make_entry(&open_bulks, BULK_BOOK, 99, 1);
-    check_total("65 open", PLACES, BULK_BOOK + 1, 29, 0);
+    check_stored("65 open", PLACES, BULK_BOOK + 1, 64 * 1234 + 1, 29);
     make_entry(&open_bulks, 0, 1, 1);
     make_entry(&open_bulks, 1, 2, most - 3);
     make_entry(&open_bulks, 2, 3, 2);
-    check_total("the highest sum", PLACES, 3, 0, most);
+    check_stored("the highest sum", PLACES, 3, most, 0);
     make_entry(&open_bulks, 2, 3, 3);
-    check_total("a sum above", PLACES, 3, 29, 0);
-    check_total("a sum above, but not of the open ones", PLACES, 2, 0, most - 2);
+    check_stored("a sum above", PLACES, 3, most + 1, 29);
+    check_stored("a sum above, but not of the open ones", PLACES, 2, most - 2, 0);
     make_entry(&open_bulks, 2, 3, UINT64_MAX - (most - 3));
-    check_total("a sum that would wrap", PLACES, 3, 29, 0);
+    check_stored("a sum that would wrap", PLACES, 3, 0, 29);
     make_entry(&open_bulks, 2, 1, 1);
-    check_total("two keys equal", PLACES, 3, 29, 0);
-    check_total("two keys equal, one of them not open", PLACES, 2, 0, most - 2);
+    check_stored("two keys equal", PLACES, 3, most - 1, 29);
+    check_stored("two keys equal, one of them not open", PLACES, 2, most - 2, 0);
+    check_stored("another total than summing gives", PLACES, 2, most - 3, 29);
+}
+
+/* With a cent too little stored: 29 for an entry and a withdrawal, and all stays; the key is still found. */
+static void check_wrong_total(const uint8_t *message, size_t length)
+{
+    uint64_t answer[BULK_ANSWER];
+    uint8_t key[BULK_KEY];
+    make_entry(&open_bulks, 0, 1, 5);
+    memcpy(due.bytes, open_bulks.bytes, sizeof due);
+    numbers.open = 1;
+    numbers.total = 4;
+    enter(message, length, 99, answer);
+    hold("enter, another total", answer, 29, 0, 0);
+    make_key(key, 1);
+    bulk_book_withdraw(open_bulks.entries, PLACES, &numbers, key, answer);
+    hold("withdraw, another total", answer, 29, 0, 0);
+    hold_book("another total", 1, 4);
+    bulk_book_find(open_bulks.entries, PLACES, &numbers, key, answer);
+    hold("find, another total", answer, 0, 1, 0);
 }
 
 /* The record of the example, in an area too small and in one that is larger. */
@@ -498,6 +527,7 @@ int main(int words, char **word)
     check_enter(message, length);
     check_withdraw(message, length);
     check_handmade();
+    check_wrong_total(message, length);
     check_records(message, length, record);
     check_no_instruction(message, length, record);
     check_plain(message, length);

@@ -8,14 +8,14 @@ use crate::show::{self, shown};
 use crate::trouble::Trouble;
 use crate::verdict::{Judged, Verdict};
 use crate::{euro, out, pages, read, Status};
-use face::book::{self, Entry, Key, KEY};
+use face::book::{self, Entry, Key, Numbers, KEY};
 use std::ffi::OsStr;
 use std::os::unix::ffi::OsStrExt;
 
-/// The open bulks: the entries and the number open.
+/// The open bulks: the entries, and beside them the number open and the open total.
 struct Book {
     entries: Vec<Entry>,
-    open: usize,
+    numbers: Numbers,
 }
 
 /// What a call answered.
@@ -44,7 +44,7 @@ struct Made<'a> {
 /// Makes the calls of a script one after the other, and tells what each came to.
 pub fn book(call: &Call, script: &OsStr) -> Result<Status, Trouble> {
     let lines = script::read(script)?;
-    let mut book = Book { entries: book::empty(), open: 0 };
+    let mut book = Book { entries: book::empty(), numbers: Numbers::default() };
     let mut status = Status::Accepted;
     for line in &lines {
         let message = match &line.ask {
@@ -87,20 +87,29 @@ impl Book {
             Ask::Total => (Answer::Total, None),
             Ask::List => (Answer::List, None),
         };
-        match book::total(&self.entries, self.open) {
-            [0, open, cents] if open == self.open as u64 => {
-                Ok(Made { line, answer, judged, open: &self.entries[..self.open], cents })
+        match book::total(&self.numbers) {
+            [0, _, cents] if self.sum() == Some(cents) => {
+                Ok(Made { line, answer, judged, open: self.open(), cents })
             }
             _ => Err(Trouble::Disagreement),
         }
     }
 
+    /// The open entries.
+    fn open(&self) -> &[Entry] {
+        &self.entries[..self.numbers.open as usize]
+    }
+
+    /// What the open entries come to: what is told is the stored total, and it must be this.
+    fn sum(&self) -> Option<u64> {
+        self.open().iter().try_fold(0_u64, |sum, entry| sum.checked_add(entry.cents))
+    }
+
     /// Enters a message. What the book keeps of it must be what the command read of it.
     fn enter(&mut self, judged: &Judged) -> Result<Answer, Trouble> {
-        match book::enter(&mut self.entries, self.open, judged.message) {
-            [0, open, cents] => {
-                self.open = open as usize;
-                let last = self.entries[..self.open].last();
+        match book::enter(&mut self.entries, &mut self.numbers, judged.message) {
+            [0, _, cents] => {
+                let last = self.open().last();
                 let is_own = last.is_some_and(|entry| entry.key == key(&own_key(judged)));
                 match judged.verdict {
                     Verdict::Accepted { cents: own, .. } if own == cents && is_own => {
@@ -115,18 +124,15 @@ impl Book {
 
     /// Withdraws a key.
     fn withdraw(&mut self, key: &Key) -> Answer {
-        match book::withdraw(&mut self.entries, self.open, key) {
-            [0, open, cents] => {
-                self.open = open as usize;
-                Answer::Withdrawn { cents }
-            }
+        match book::withdraw(&mut self.entries, &mut self.numbers, key) {
+            [0, _, cents] => Answer::Withdrawn { cents },
             [number, place, _] => Answer::Refused { number, place },
         }
     }
 
     /// Looks for a key.
     fn find(&self, key: &Key) -> Answer {
-        match book::find(&self.entries, self.open, key) {
+        match book::find(&self.entries, &self.numbers, key) {
             [0, 0, _] => Answer::None,
             [0, _, place] => {
                 let place = place as usize;

@@ -1,5 +1,6 @@
 //! The day book: the library, the plain day book and what is known of a day are held against each
-//! other, call by call: the answer, the number open, and every place of the lent list.
+//! other, call by call: the answer, the number open, the stored total, and every place of the lent
+//! list.
 
 use crate::ask::Asker;
 use crate::days::{Bulk, Call, Day};
@@ -7,15 +8,20 @@ use crate::face::Words;
 use crate::indexed::filled;
 use crate::tally::Name;
 use crate::value::HEADER_MOST;
-use ::face::book::{self, Entry, Key, BOOK};
+use ::face::book::{self, Entry, Key, Numbers, BOOK};
 
 /// So many entries stand before and behind the lent ones, and must stay.
 const BESIDE: usize = 2;
 
-/// The library's book: the lent list between entries that are not lent, and the number open.
+/// The library's book: the lent list between entries that are not lent, and the lent numbers.
 struct Library {
     all: Vec<Entry>,
-    open: usize,
+    numbers: Numbers,
+}
+
+/// The numbers of a day, as they are lent first.
+fn numbers(day: &Day) -> Numbers {
+    Numbers { open: day.open as u64, total: day.total }
 }
 
 impl Library {
@@ -23,37 +29,29 @@ impl Library {
     fn of(day: &Day) -> Library {
         let beside = Entry { key: [0xEE; book::KEY], unused: [0xEE; 4], cents: u64::MAX / 3 };
         let beside = vec![beside; BESIDE];
-        Library { all: [&beside, &day.entries[..], &beside].concat(), open: day.open }
+        Library { all: [&beside, &day.entries[..], &beside].concat(), numbers: numbers(day) }
     }
 
-    /// Makes a call. A number open comes from an answer that holds, and from no other.
+    /// Makes a call.
     fn call(&mut self, day: &Day, call: &Call) -> Words {
         let end = self.all.len() - BESIDE;
         let lent = &mut self.all[BESIDE..end];
-        let answer = match call {
+        match call {
             Call::Enter(bulk) => {
                 let bytes = &day.bulks[*bulk].bytes;
-                book::enter_with(
-                    lent,
-                    self.open,
-                    bytes,
-                    &mut filled(bytes.len().wrapping_add(self.open)),
-                )
+                let mut index = filled(bytes.len().wrapping_add(self.numbers.open as usize));
+                book::enter_with(lent, &mut self.numbers, bytes, &mut index)
             }
             Call::EnterShort(bulk, index) => {
                 let bytes = &day.bulks[*bulk].bytes;
                 let mut index = filled(bytes.len())[..*index].to_vec();
-                book::enter_with(lent, self.open, bytes, &mut index)
+                book::enter_with(lent, &mut self.numbers, bytes, &mut index)
             }
-            Call::Withdraw(key) => book::withdraw(lent, self.open, key),
-            Call::Find(key) => book::find(lent, self.open, key),
-            Call::Total => book::total(lent, self.open),
-            Call::Check => book::check(lent, self.open),
-        };
-        if let (Call::Enter(_) | Call::Withdraw(_), [0, open, _]) = (call, answer) {
-            self.open = open as usize;
+            Call::Withdraw(key) => book::withdraw(lent, &mut self.numbers, key),
+            Call::Find(key) => book::find(lent, &self.numbers, key),
+            Call::Total => book::total(&self.numbers),
+            Call::Check => book::check(lent, &self.numbers),
         }
-        answer
     }
 
     /// The lent entries, byte for byte.
@@ -75,10 +73,10 @@ fn bytes(entries: &[Entry]) -> Vec<u8> {
         .collect()
 }
 
-/// The plain day book: its own list of entries.
+/// The plain day book: its own list of entries, and its own numbers.
 pub struct Plain {
     entries: Vec<plain::book::Entry>,
-    pub open: usize,
+    pub numbers: Numbers,
 }
 
 /// A key as the plain day book has it.
@@ -99,27 +97,28 @@ impl Plain {
     pub fn of(day: &Day) -> Plain {
         let entry =
             |entry: &Entry| plain::book::Entry { key: plain_key(&entry.key), cents: entry.cents };
-        Plain { entries: day.entries.iter().map(entry).collect(), open: day.open }
+        Plain { entries: day.entries.iter().map(entry).collect(), numbers: numbers(day) }
     }
 
     /// Makes a call.
     pub fn call(&mut self, day: &Day, call: &Call) -> Words {
-        let mut book = plain::book::Book { entries: &mut self.entries, open: self.open };
+        let Numbers { open, total } = self.numbers;
+        let mut book = plain::book::Book { entries: &mut self.entries, open: open as usize, total };
         let answer = match call {
             Call::Enter(bulk) => book.enter(&day.bulks[*bulk].bytes).map(|cents| [1, cents]),
             // "a single entry's 29 still precedes it"
-            Call::EnterShort(..) => book.held().and(Err((25, 0))),
+            Call::EnterShort(..) => book.kept().and(Err((25, 0))),
             Call::Withdraw(key) => book.withdraw(&plain_key(key)).map(|cents| [1, cents]),
             Call::Find(key) => {
                 let found = book.find(&plain_key(key));
                 found.map(|at| at.map_or([0, 0], |at| [1, at as u64]))
             }
-            Call::Total => book.total().map(|cents| [book.open as u64, cents]),
-            Call::Check => book.held().map(|_| [0, 0]),
+            Call::Total => Ok([book.open as u64, book.total]),
+            Call::Check => book.kept().map(|_| [0, 0]),
         };
-        self.open = book.open;
+        self.numbers = Numbers { open: book.open as u64, total: book.total };
         match (answer, call) {
-            (Ok([_, cents]), Call::Enter(_) | Call::Withdraw(_)) => [0, self.open as u64, cents],
+            (Ok([_, cents]), Call::Enter(_) | Call::Withdraw(_)) => [0, self.numbers.open, cents],
             (Ok([one, other]), _) => [0, one, other],
             (Err((number, place)), _) => [u64::from(number), place as u64, 0],
         }
@@ -141,17 +140,21 @@ struct Known {
     entries: Vec<Entry>,
     open: usize,
     is_book: bool,
-    /// What was open first, and all accepted entries, less all accepted withdrawals.
-    total: i128,
+    is_summed: bool,
+    /// What was stored first, and all accepted entries, less all accepted withdrawals.
+    total: u64,
 }
 
 impl Known {
     /// The book of a day, as it is lent first.
     fn of(day: &Day) -> Known {
-        let Day { entries, open, is_book, .. } = day;
-        let first = if *is_book { &entries[..*open] } else { &[] };
-        let total = first.iter().map(|entry| i128::from(entry.cents)).sum();
-        Known { entries: entries.clone(), open: *open, is_book: *is_book, total }
+        let Day { open, total, is_book, is_summed, .. } = *day;
+        Known { entries: day.entries.clone(), open, is_book, is_summed, total }
+    }
+
+    /// The number open and what is stored.
+    fn numbers(&self) -> Numbers {
+        Numbers { open: self.open as u64, total: self.total }
     }
 
     /// Where a key is open.
@@ -162,12 +165,13 @@ impl Known {
     /// What a call must answer.
     fn call(&mut self, day: &Day, call: &Call) -> Words {
         match call {
+            Call::Total => [0, self.open as u64, self.total],
             _ if !self.is_book => [29, 0, 0],
+            Call::Find(key) => self.at(key).map_or([0, 0, 0], |at| [0, 1, at as u64]),
+            _ if !self.is_summed => [29, 0, 0],
             Call::Enter(bulk) => self.enter(&day.bulks[*bulk]),
             Call::EnterShort(..) => [25, 0, 0],
             Call::Withdraw(key) => self.at(key).map_or([22, 0, 0], |at| self.withdraw(at)),
-            Call::Find(key) => self.at(key).map_or([0, 0, 0], |at| [0, 1, at as u64]),
-            Call::Total => [0, self.open as u64, self.total as u64],
             Call::Check => [0, 0, 0],
         }
     }
@@ -182,8 +186,8 @@ impl Known {
         };
         self.entries[self.open] = entry;
         self.open += 1;
-        self.total += i128::from(entry.cents);
-        self.is_book = self.total <= i128::from(HEADER_MOST);
+        self.total += entry.cents;
+        self.is_book = self.total <= HEADER_MOST;
         [0, self.open as u64, entry.cents]
     }
 
@@ -193,7 +197,7 @@ impl Known {
         let entry = self.entries.remove(at);
         self.entries.insert(self.open - 1, last);
         self.open -= 1;
-        self.total -= i128::from(entry.cents);
+        self.total -= entry.cents;
         [0, self.open as u64, entry.cents]
     }
 }
@@ -209,13 +213,13 @@ impl Asker {
             let told = |what: &str| format!("{what}, call {at}: {}", day.call_text(call));
             let answers = [library.call(day, call), plain.call(day, call), known.call(day, call)];
             self.tally.met(answers[0][0]);
-            let opens = [library.open, plain.open, known.open];
+            let numbers = [library.numbers, plain.numbers, known.numbers()];
             let lists = [library.lent(), plain.lent(), bytes(&known.entries)];
             for (who, of) in [("plain", 1), ("known", 2)] {
                 let (one, other) = (("library", &answers[0]), (who, &answers[of]));
                 self.tally.hold(name, &|| told("answer"), text.as_bytes(), one, other);
-                let (one, other) = (("library", &opens[0]), (who, &opens[of]));
-                self.tally.hold(name, &|| told("number open"), text.as_bytes(), one, other);
+                let (one, other) = (("library", &numbers[0]), (who, &numbers[of]));
+                self.tally.hold(name, &|| told("numbers"), text.as_bytes(), one, other);
                 let (one, other) = (("library", &lists[0][..]), (who, &lists[of][..]));
                 let question = || told("places of 68 bytes");
                 self.tally.hold_areas(name, &question, text.as_bytes(), one, other);

@@ -31,8 +31,12 @@ pub struct Day {
     pub sort: &'static str,
     pub entries: Vec<Entry>,
     pub open: usize,
+    /// The open total, as it is stored.
+    pub total: u64,
     /// Whether that is a book, which is known from its making.
     pub is_book: bool,
+    /// Of a book: whether the stored total is what summing gives, which is known too.
+    pub is_summed: bool,
     pub bulks: Vec<Bulk>,
     pub calls: Vec<Call>,
 }
@@ -50,6 +54,7 @@ const DAYS: &[(&str, Make)] = &[
     ("two open keys equal", two_equal),
     ("a sum above the range", sum_above),
     ("a sum that would wrap", sum_wraps),
+    ("another total than summing gives", other_total),
 ];
 
 /// The names of all sorts.
@@ -65,18 +70,20 @@ pub fn day(seed: u64, number: u64) -> Day {
 }
 
 impl Day {
-    /// A day on these places, which are a book, with calls that name these bulks or what the places
-    /// hold.
+    /// A day on these places, which are a book, with the sum of its open ones stored, and with calls
+    /// that name these bulks or what the places hold.
     fn on(entries: Vec<Entry>, open: usize, bulks: Vec<Bulk>, random: &mut Random) -> Day {
         let many = random.between(1, 60);
         let calls = (0..many).map(|_| call(&bulks, &entries, random)).collect();
-        Day { sort: "", entries, open, is_book: true, bulks, calls }
+        let total = entries[..open].iter().map(|entry| entry.cents).sum();
+        Day { sort: "", entries, open, total, is_book: true, is_summed: true, bulks, calls }
     }
 
     /// The day as text, for whoever looks at a difference.
     pub fn text(&self) -> String {
         let (places, book) = (self.entries.len(), if self.is_book { "a book" } else { "no book" });
-        let mut text = format!("{}: {places} places, {} open, {book}\n", self.sort, self.open);
+        let Day { sort, open, total, .. } = self;
+        let mut text = format!("{sort}: {places} places, {open} open, {total} stored, {book}\n");
         for (at, entry) in self.entries.iter().enumerate() {
             text.push_str(&format!("{at} {}\n", entry_text(entry)));
         }
@@ -384,20 +391,44 @@ fn highest(random: &mut Random) -> Day {
     Day::on(entries, open, bulks, random)
 }
 
-/// No book: a book made by hand, of which something is otherwise.
-fn none(open: usize, random: &mut Random, break_it: impl FnOnce(&mut Day, &mut Random)) -> Day {
+/// A day on a book made by hand, in which every call is tried at least once.
+fn tried(open: usize, random: &mut Random) -> Day {
     let bulks = pool(3, random);
     let entries = book_of(random.worth(0, HEADER_MOST), open, &bulks, random);
     let mut day = Day::on(entries, open, bulks, random);
-    day.is_book = false;
-    // Every call is tried at least once.
     let keys = [some_key(&day.bulks, &day.entries, random), day.entries[0].key];
     let each = [Call::Withdraw(keys[0]), Call::Find(keys[1]), Call::Total, short(0, random)];
     day.calls.push(Call::Enter(0));
     day.calls.truncate(6);
     day.calls.extend(each);
     day.calls.push(Call::Check);
+    day
+}
+
+/// No book: a book made by hand, of which something is otherwise. What is stored is the sum, as far as
+/// it goes, or anything.
+fn none(open: usize, random: &mut Random, break_it: impl FnOnce(&mut Day, &mut Random)) -> Day {
+    let mut day = tried(open, random);
+    day.is_book = false;
     break_it(&mut day, random);
+    let opened = &day.entries[..day.open.min(day.entries.len())];
+    let sum = opened.iter().fold(0, |sum: u64, entry| sum.wrapping_add(entry.cents));
+    day.total = [sum, sum, random.bits()][random.below(3)];
+    day
+}
+
+/// A book made by hand, by chance without an open one, of which all is in order but what is stored.
+fn other_total(random: &mut Random) -> Day {
+    let open = if random.once_in(4) { 0 } else { some_open(random) };
+    let mut day = tried(open, random);
+    let sum = day.total;
+    let others =
+        [sum + 1, sum.wrapping_sub(1), 0, u64::MAX, random.bits(), random.worth(0, HEADER_MOST)];
+    day.total = others[random.below(others.len())];
+    if day.total == sum {
+        day.total = sum + 1;
+    }
+    day.is_summed = false;
     day
 }
 

@@ -1,5 +1,5 @@
-//! The day book (document 02, request 5): a bulk is entered, withdrawn, searched for, and the open
-//! total is asked. Nothing is allocated but by the judge.
+//! The day book (document 02, requests 5 and 12): a bulk is entered, withdrawn, searched for, and the
+//! open total, which is stored, is asked. Nothing is allocated but by the judge.
 
 use crate::message::Refusal;
 use crate::value::HEADER_MOST;
@@ -47,13 +47,15 @@ pub struct Book<'l> {
     pub entries: &'l mut [Entry],
     /// The number open.
     pub open: usize,
+    /// "Store the open total in the book beside the number open".
+    pub total: u64,
 }
 
 impl Book<'_> {
     /// Enters a message behind the open ones, and answers its cents. "29 first, from any call ..; for
     /// an entry the judge's own, then 20, key open already; 21, 64 open".
     pub fn enter(&mut self, message: &[u8]) -> Result<u64, Refusal> {
-        self.held()?;
+        self.kept()?;
         let bulk = bulk(message)?;
         if self.find(&bulk.key)?.is_some() {
             return Err(OPEN_ALREADY);
@@ -63,6 +65,7 @@ impl Book<'_> {
         }
         self.entries[self.open] = bulk;
         self.open += 1;
+        self.total += bulk.cents;
         Ok(bulk.cents)
     }
 
@@ -70,22 +73,27 @@ impl Book<'_> {
     /// others' order; places past the open ones keep what they held", also the last one, which the
     /// others have left.
     pub fn withdraw(&mut self, key: &Key) -> Result<u64, Refusal> {
+        self.kept()?;
         let at = self.find(key)?.ok_or(NOT_OPEN)?;
         let cents = self.entries[at].cents;
         self.entries.copy_within(at + 1..self.open, at);
         self.open -= 1;
+        self.total -= cents;
         Ok(cents)
     }
 
-    /// "A search answers the first entry with an equal key, or that there is none."
+    /// "A search answers the first entry with an equal key, or that there is none." It does not look at
+    /// the stored total.
     pub fn find(&self, key: &Key) -> Result<Option<usize>, Refusal> {
         Ok(self.held()?.iter().position(|entry| entry.key == *key))
     }
 
-    /// The open total.
-    pub fn total(&self) -> Result<u64, Refusal> {
-        // A book's sum is within the header's range, so it fits.
-        Ok(sum(self.held()?) as u64)
+    /// "29 is also given to an entry or withdrawal where the stored total is not what summing gives."
+    pub fn kept(&self) -> Result<(), Refusal> {
+        match sum(self.held()?) == u128::from(self.total) {
+            true => Ok(()),
+            false => Err(NO_BOOK),
+        }
     }
 
     /// The open ones of a book, or 29: "the lent book is none (under 64 places, over 64 open, two open

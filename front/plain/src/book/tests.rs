@@ -36,7 +36,7 @@ fn places(count: usize) -> Vec<Entry> {
 
 /// Whether so many of these entries, the first ones, are open in a book.
 fn is_book(mut entries: Vec<Entry>, open: usize) -> bool {
-    Book { entries: &mut entries, open }.held().is_ok()
+    Book { entries: &mut entries, open, total: 0 }.held().is_ok()
 }
 
 /// A book of these keys, each with its cents.
@@ -51,11 +51,11 @@ fn handmade(bulks: &[(&str, u64)]) -> Vec<Entry> {
 #[test]
 fn a_bulk_is_entered_behind_the_open_ones() {
     let mut entries = places(MOST);
-    let mut book = Book { entries: &mut entries, open: 0 };
-    assert_eq!(book.total(), Ok(0));
+    let mut book = Book { entries: &mut entries, open: 0, total: 0 };
+    assert_eq!(book.total, 0);
     assert_eq!(book.enter(message("A").as_bytes()), Ok(1234));
     assert_eq!(book.enter(message("B").as_bytes()), Ok(1234));
-    assert_eq!((book.open, book.total()), (2, Ok(2468)));
+    assert_eq!((book.open, book.total), (2, 2468));
     let entry = |msg_id| Entry { key: named(msg_id), cents: 1234 };
     assert_eq!(entries[..3], [entry("A"), entry("B"), HELD]);
     assert!(entries[2..].iter().all(|place| *place == HELD));
@@ -91,7 +91,7 @@ fn the_service_is_the_header_s() {
     let business = in_header.replacen("CORE", "B2B", 1);
     assert_eq!(key(business.as_bytes()), key_of("B2B", "MSG/1", "BANKDEFF", "2010-12-03"));
     let mut entries = places(MOST);
-    let mut book = Book { entries: &mut entries, open: 0 };
+    let mut book = Book { entries: &mut entries, open: 0, total: 0 };
     assert_eq!(book.enter(EXAMPLE.as_bytes()), Ok(1234));
     assert_eq!(book.enter(in_header.as_bytes()), Err(OPEN_ALREADY));
     assert_eq!(book.enter(business.as_bytes()), Ok(1234));
@@ -111,7 +111,7 @@ fn the_key_has_no_version() {
         assert_eq!(key(spelled.as_bytes()), named("MSG/1"));
     }
     let mut entries = places(MOST);
-    let mut book = Book { entries: &mut entries, open: 0 };
+    let mut book = Book { entries: &mut entries, open: 0, total: 0 };
     assert_eq!(book.enter(EXAMPLE.as_bytes()), Ok(1234));
     assert_eq!(book.enter(as_08(EXAMPLE).as_bytes()), Err(OPEN_ALREADY));
     let wider = as_08(EXAMPLE).replacen(">BANKDEFF<", ">1BNKDEFF999<", 1);
@@ -127,7 +127,7 @@ fn the_key_has_no_version() {
 #[test]
 fn each_part_tells_bulks_apart() {
     let mut entries = places(MOST);
-    let mut book = Book { entries: &mut entries, open: 0 };
+    let mut book = Book { entries: &mut entries, open: 0, total: 0 };
     let bulks = [
         EXAMPLE.to_string(),
         EXAMPLE.replacen("CORE", "B2B", 1),
@@ -153,16 +153,16 @@ fn each_part_tells_bulks_apart() {
 fn a_withdrawal_keeps_the_order_and_what_stands_past_the_open_ones() {
     let mut entries = handmade(&[("A", 1), ("B", 2), ("C", 3), ("D", 4)]);
     let before = entries.clone();
-    let mut book = Book { entries: &mut entries, open: 4 };
+    let mut book = Book { entries: &mut entries, open: 4, total: 10 };
     assert_eq!(book.withdraw(&named("B")), Ok(2));
-    assert_eq!((book.open, book.total()), (3, Ok(8)));
+    assert_eq!((book.open, book.total), (3, 8));
     assert_eq!(book.withdraw(&named("B")), Err((22, 0)));
     let mut due = before.clone();
     due[1] = before[2];
     due[2] = before[3];
     assert_eq!(entries, due);
     // The last one, and one that stands past the open ones.
-    let mut book = Book { entries: &mut entries, open: 3 };
+    let mut book = Book { entries: &mut entries, open: 3, total: 8 };
     assert_eq!(book.withdraw(&named("D")), Ok(4));
     assert_eq!(book.withdraw(&named("D")), Err((22, 0)));
     assert_eq!((book.open, entries), (2, due));
@@ -171,7 +171,7 @@ fn a_withdrawal_keeps_the_order_and_what_stands_past_the_open_ones() {
 #[test]
 fn a_search_answers_the_first_or_none() {
     let mut entries = handmade(&[("A", 1), ("B", 2), ("C", 3)]);
-    let book = Book { entries: &mut entries, open: 2 };
+    let book = Book { entries: &mut entries, open: 2, total: 3 };
     assert_eq!(book.find(&named("A")), Ok(Some(0)));
     assert_eq!(book.find(&named("B")), Ok(Some(1)));
     assert_eq!(book.find(&named("C")), Ok(None));
@@ -182,11 +182,11 @@ fn a_search_answers_the_first_or_none() {
 #[test]
 fn sixty_four_are_open_and_no_more() {
     let mut entries = places(MOST + 1);
-    let mut book = Book { entries: &mut entries, open: 0 };
+    let mut book = Book { entries: &mut entries, open: 0, total: 0 };
     for number in 0..64 {
         assert_eq!(book.enter(message(&number.to_string()).as_bytes()), Ok(1234));
     }
-    assert_eq!((book.open, book.total()), (64, Ok(64 * 1234)));
+    assert_eq!((book.open, book.total), (64, 64 * 1234));
     assert_eq!(book.enter(message("X").as_bytes()), Err((21, 0)));
     // 20 before 21, and the judge's own before both.
     assert_eq!(book.enter(message("7").as_bytes()), Err((20, 0)));
@@ -235,10 +235,10 @@ fn sums_at_the_upper_range() {
     assert!(!is_book(handmade(&[("A", u64::MAX), ("B", u64::MAX), ("C", 2)]), 3));
     // An entry may lift a book over the range; then it is none.
     let mut entries = handmade(&[("A", TOTAL)]);
-    let mut book = Book { entries: &mut entries, open: 1 };
-    assert_eq!(book.total(), Ok(TOTAL));
+    let mut book = Book { entries: &mut entries, open: 1, total: TOTAL };
     assert_eq!(book.enter(EXAMPLE.as_bytes()), Ok(1234));
-    assert_eq!((book.open, book.total()), (2, Err((29, 0))));
+    assert_eq!((book.open, book.total), (2, TOTAL + 1234));
+    assert_eq!(book.find(&named("A")), Err((29, 0)));
     assert_eq!(book.withdraw(&named("A")), Err((29, 0)));
 }
 
@@ -246,13 +246,31 @@ fn sums_at_the_upper_range() {
 #[test]
 fn no_call_goes_on_without_a_book() {
     let mut entries = places(63);
-    let mut book = Book { entries: &mut entries, open: 1 };
+    let mut book = Book { entries: &mut entries, open: 1, total: 7 };
     assert_eq!(book.enter(EXAMPLE.as_bytes()), Err((29, 0)));
     assert_eq!(book.enter(b"<"), Err((29, 0)));
     assert_eq!(book.withdraw(&HELD.key), Err((29, 0)));
     assert_eq!(book.find(&HELD.key), Err((29, 0)));
-    assert_eq!(book.total(), Err((29, 0)));
-    assert_eq!((book.open, entries), (1, places(63)));
+    assert_eq!((book.open, book.total, entries), (1, 7, places(63)));
+}
+
+/// "29 is also given to an entry or withdrawal where the stored total is not what summing gives", and
+/// nothing changes; a search does not look at it. A sum that would wrap to what is stored is no sum.
+#[test]
+fn another_total_than_summing_gives() {
+    for wrong in [0, 2, 4, u64::MAX] {
+        let mut entries = handmade(&[("A", 1), ("B", 2)]);
+        let before = entries.clone();
+        let mut book = Book { entries: &mut entries, open: 2, total: wrong };
+        assert_eq!(book.enter(EXAMPLE.as_bytes()), Err((29, 0)), "{wrong}");
+        assert_eq!(book.enter(b"<"), Err((29, 0)), "{wrong}");
+        assert_eq!(book.withdraw(&named("A")), Err((29, 0)), "{wrong}");
+        assert_eq!(book.withdraw(&named("X")), Err((29, 0)), "{wrong}");
+        assert_eq!((book.find(&named("B")), book.find(&named("X"))), (Ok(Some(1)), Ok(None)));
+        assert_eq!((book.open, book.total, entries), (2, wrong, before));
+    }
+    let mut entries = handmade(&[("A", u64::MAX), ("B", 8)]);
+    assert_eq!(Book { entries: &mut entries, open: 2, total: 7 }.kept(), Err((29, 0)));
 }
 
 /// What the judge refuses is refused with its own number and place, and the book stays.
@@ -260,11 +278,11 @@ fn no_call_goes_on_without_a_book() {
 fn the_judge_s_own_refusal() {
     let mut entries = handmade(&[("A", 1)]);
     let before = entries.clone();
-    let mut book = Book { entries: &mut entries, open: 1 };
+    let mut book = Book { entries: &mut entries, open: 1, total: 1 };
     let wrong = EXAMPLE.replacen("<NbOfTxs>1<", "<NbOfTxs>2<", 1);
     let place = wrong.find("2</NbOfTxs>").expect("the count stands there");
     assert_eq!(book.enter(wrong.as_bytes()), Err((14, place)));
-    assert_eq!((book.open, entries), (1, before));
+    assert_eq!((book.open, book.total, entries), (1, 1, before));
 }
 
 /// "After any calls from an empty book the open total is the sum of all accepted entries less the sum
@@ -272,7 +290,7 @@ fn the_judge_s_own_refusal() {
 #[test]
 fn the_open_total_after_any_calls() {
     let mut entries = places(MOST);
-    let mut book = Book { entries: &mut entries, open: 0 };
+    let mut book = Book { entries: &mut entries, open: 0, total: 0 };
     let mut due = 0;
     for step in 0..1000_u32 {
         let msg_id = format!("M{}", step.wrapping_mul(2_654_435_761) >> 25);
@@ -281,7 +299,7 @@ fn the_open_total_after_any_calls() {
         } else {
             due += book.enter(message(&msg_id).as_bytes()).unwrap_or(0);
         }
-        assert_eq!(book.total(), Ok(due), "step {step}");
+        assert_eq!(book.total, due, "step {step}");
     }
     assert!(due > 0);
 }
