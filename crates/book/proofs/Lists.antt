@@ -16,7 +16,7 @@ use Rattle.money.specs.declared.Range.the-variants.{Total}
 use Rattle.money.specs.Amount.{most}
 use Rattle.book.specs.declared.Entry.{Entry}
 use Rattle.book.specs.Book.{Key, hasKey, isOpen, twoEqual, sumOf, firstAt, without, centsOf}
-use Rattle.book.specs.Code.{noEntry, capped, pulled, shifted}
+use Rattle.book.specs.Code.{noEntry, capped, pulled, shifted, leftOut}
 
 -- ---- whether a key is open, by where the first entry that has it stands
 first-le : (k : Key) (l : List Entry) → firstAt k l ≤ length l
@@ -95,60 +95,64 @@ capped-test n = go (leb n (most Total)) refl
     go true e = e
     go false e = refl
 
--- ---- an entry is taken out by a loop that moves the next one down
-shifted-suc : (d : Entry) (i n : ℕ) (l : List Entry) → suc i < n → n ≤ length l → shifted i n l ≡ shifted (suc i) n (set l i (getD l (suc i) d))
-unfolding shifted pulled
-shifted-suc d i n [] h k = never (omega arith)
-shifted-suc d i n (x ∷ []) h k = never (omega arith)
-shifted-suc d zero zero (x ∷ y ∷ l) h k = never (omega arith)
-shifted-suc d zero (suc zero) (x ∷ y ∷ l) h k = never (omega arith)
-shifted-suc d zero (suc (suc n)) (x ∷ y ∷ l) h k = refl
-shifted-suc d (suc i) zero (x ∷ y ∷ l) h k = never (omega arith)
-shifted-suc d (suc i) (suc n) (x ∷ y ∷ l) h k = ap (λ (m : List Entry). x ∷ m) (shifted-suc d i n (y ∷ l) (omega arith) (omega arith))
+-- ---- one is taken out by a loop that moves the next one down
+module _ {A : Type 0} where
+  shifted-suc : (d : A) (i n : ℕ) (l : List A) → suc i < n → n ≤ length l → shifted i n l ≡ shifted (suc i) n (set l i (getD l (suc i) d))
+  unfolding shifted pulled
+  shifted-suc d i n [] h k = never (omega arith)
+  shifted-suc d i n (x ∷ []) h k = never (omega arith)
+  shifted-suc d zero zero (x ∷ y ∷ l) h k = never (omega arith)
+  shifted-suc d zero (suc zero) (x ∷ y ∷ l) h k = never (omega arith)
+  shifted-suc d zero (suc (suc n)) (x ∷ y ∷ l) h k = refl
+  shifted-suc d (suc i) zero (x ∷ y ∷ l) h k = never (omega arith)
+  shifted-suc d (suc i) (suc n) (x ∷ y ∷ l) h k = ap (λ (m : List A). x ∷ m) (shifted-suc d i n (y ∷ l) (omega arith) (omega arith))
 
-pub shifted-go : (d : Entry) (i n : ℕ) (l : List Entry) → i + 1 < n → n ≤ length l → shifted i n l ≡ shifted (i + 1) n (set l i (getD l (i + 1) d))
-shifted-go d i n l h k = rw add-one (shifted-suc d i n l (omega arith) k)
+  pub shifted-go : (d : A) (i n : ℕ) (l : List A) → i + 1 < n → n ≤ length l → shifted i n l ≡ shifted (i + 1) n (set l i (getD l (i + 1) d))
+  shifted-go d i n l h k = rw add-one (shifted-suc d i n l (omega arith) k)
 
-pub shifted-end : (i n : ℕ) (l : List Entry) → i < n → n ≤ i + 1 → shifted i n l ≡ l
-unfolding shifted pulled
-shifted-end zero zero l h k = never (omega arith)
-shifted-end zero (suc zero) l h k = refl
-shifted-end zero (suc (suc n)) l h k = never (omega arith)
-shifted-end (suc i) n [] h k = refl
-shifted-end (suc i) zero (x ∷ l) h k = refl
-shifted-end (suc i) (suc n) (x ∷ l) h k = ap (λ (m : List Entry). x ∷ m) (shifted-end i n l (omega arith) (omega arith))
+  pub shifted-end : (i n : ℕ) (l : List A) → i < n → n ≤ i + 1 → shifted i n l ≡ l
+  unfolding shifted pulled
+  shifted-end zero zero l h k = never (omega arith)
+  shifted-end zero (suc zero) l h k = refl
+  shifted-end zero (suc (suc n)) l h k = never (omega arith)
+  shifted-end (suc i) n [] h k = refl
+  shifted-end (suc i) zero (x ∷ l) h k = refl
+  shifted-end (suc i) (suc n) (x ∷ l) h k = ap (λ (m : List A). x ∷ m) (shifted-end i n l (omega arith) (omega arith))
 
--- the first of n goes
-pulled-is : (n : ℕ) (x : Entry) (l : List Entry) → n ≤ length l → pulled (suc n) (x ∷ l) ≡ take n l ++ drop n (x ∷ l)
-unfolding pulled
-pulled-is zero x l h = refl
-pulled-is (suc n) x [] h = never (omega arith)
-pulled-is (suc n) x (y ∷ l) h = ap (λ (m : List Entry). y ∷ m) (pulled-is n y l (omega arith))
+  pulled-is : (n : ℕ) (x : A) (l : List A) → n ≤ length l → pulled (suc n) (x ∷ l) ≡ take n l ++ drop n (x ∷ l)
+  unfolding pulled
+  pulled-is zero x l h = refl
+  pulled-is (suc n) x [] h = never (omega arith)
+  pulled-is (suc n) x (y ∷ l) h = ap (λ (m : List A). y ∷ m) (pulled-is n y l (omega arith))
+
+  -- the one at i goes
+  pub shifted-out : (i n : ℕ) (l : List A) → n ≤ length l → i < n → shifted i n l ≡ leftOut i (take n l) ++ drop (n - 1) l
+  unfolding shifted
+  shifted-out i zero l h g = never (omega arith)
+  shifted-out i (suc n) [] h g = never (omega arith)
+  shifted-out zero (suc n) (x ∷ l) h g =
+      let z : suc n - 1 ≡ n = omega arith in
+      rw z (pulled-is n x l (omega arith))
+  shifted-out (suc i) (suc n) (x ∷ l) h g = further n (shifted-out i n l (omega arith) (omega arith)) (omega arith)
+    where
+      further : (n : ℕ) → shifted i n l ≡ leftOut i (take n l) ++ drop (n - 1) l → i < n → x ∷ shifted i n l ≡ (x ∷ leftOut i (take n l)) ++ drop (suc n - 1) (x ∷ l)
+      further zero e h = never (omega arith)
+      further (suc n) e h =
+          let z : suc n - 1 ≡ n = omega arith in
+          let y : suc (suc n) - 1 ≡ suc n = omega arith in
+          rw y (ap (λ (m : List A). x ∷ m) (rw z at e))
 
 -- the first entry with the key goes
-pub shifted-is : (k : Key) (n : ℕ) (l : List Entry) → n ≤ length l → firstAt k (take n l) < n → shifted (firstAt k (take n l)) n l ≡ without k (take n l) ++ drop (n - 1) l
-unfolding shifted
-shifted-is k zero l h g = never (omega arith)
-shifted-is k (suc n) [] h g = never (omega arith)
-shifted-is k (suc n) (x ∷ l) h g = go (hasKey k x) refl g (shifted-is k n l (omega arith))
+pub first-out : (k : Key) (l : List Entry) → leftOut (firstAt k l) l ≡ without k l
+first-out k [] = refl
+first-out k (x ∷ l) = go (hasKey k x) (first-out k l)
   where
-    pulled-first : (n : ℕ) (x : Entry) (l : List Entry) → n ≤ length l → shifted 0 (suc n) (x ∷ l) ≡ take n l ++ drop n (x ∷ l)
-    pulled-first n x l h = pulled-is n x l h
+    go : (b : Bool) → leftOut (firstAt k l) l ≡ without k l → leftOut (pick b 0 (suc (firstAt k l))) (x ∷ l) ≡ pick b l (x ∷ without k l)
+    go true r = refl
+    go false r = ap (λ (m : List Entry). x ∷ m) r
 
-    further : (n f : ℕ) (w : List Entry) → shifted f n l ≡ w ++ drop (n - 1) l → f < n → shifted (suc f) (suc n) (x ∷ l) ≡ (x ∷ w) ++ drop (suc n - 1) (x ∷ l)
-    further zero f w e h = never (omega arith)
-    further (suc n) f w e h =
-        let z : suc n - 1 ≡ n = omega arith in
-        let y : suc (suc n) - 1 ≡ suc n = omega arith in
-        rw y (ap (λ (m : List Entry). x ∷ m) (rw z at e))
-
-    go : (b : Bool) → hasKey k x ≡ b → pick b 0 (suc (firstAt k (take n l))) < suc n
-        → (firstAt k (take n l) < n → shifted (firstAt k (take n l)) n l ≡ without k (take n l) ++ drop (n - 1) l)
-        → shifted (pick b 0 (suc (firstAt k (take n l)))) (suc n) (x ∷ l) ≡ pick b (take n l) (x ∷ without k (take n l)) ++ drop (suc n - 1) (x ∷ l)
-    go true e g r =
-        let z : suc n - 1 ≡ n = omega arith in
-        rw z (pulled-first n x l (omega arith))
-    go false e g r = further n (firstAt k (take n l)) (without k (take n l)) (r (omega arith)) (omega arith)
+pub shifted-is : (k : Key) (n : ℕ) (l : List Entry) → n ≤ length l → firstAt k (take n l) < n → shifted (firstAt k (take n l)) n l ≡ without k (take n l) ++ drop (n - 1) l
+shifted-is k n l h g = shifted-out (firstAt k (take n l)) n l h g ∙ ap (λ (m : List Entry). m ++ drop (n - 1) l) (first-out k (take n l))
 
 -- its cents
 pub cents-at : (k : Key) (n : ℕ) (l : List Entry) → n ≤ length l → firstAt k (take n l) < n → getD l (firstAt k (take n l)) noEntry .cents ≡ centsOf k (take n l)

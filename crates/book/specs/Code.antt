@@ -88,17 +88,23 @@ foundFor a i =
     (pick (ltb i (a .opened)) (foundOf (at i)) (foundOf nowhere))
     (foundOf (none (a .number) (a .place)))
 
--- ---- what the shifting loop leaves: the first n entries less the first of them, which the others follow down one place; the last of those places, and all past it, keep what they held
-unfoldable pub pulled : ℕ → List Entry → List Entry
+-- ---- what a shifting loop leaves: the first n of a list less the first of them, which the others follow down one place; the last of those places, and all past it, keep what they held
+unfoldable pub pulled : {A : Type 0} → ℕ → List A → List A
 pulled (suc (suc n)) (x ∷ y ∷ l) = y ∷ pulled (suc n) (y ∷ l)
 pulled (suc (suc n)) (x ∷ []) = x ∷ []
 pulled (suc (suc n)) [] = []
 pulled (suc zero) l = l
 pulled zero l = l
 
--- the first n entries less the one at i
-unfoldable pub shifted : ℕ → ℕ → List Entry → List Entry
+-- the first n less the one at i
+unfoldable pub shifted : {A : Type 0} → ℕ → ℕ → List A → List A
 shifted zero n l = pulled n l
 shifted (suc i) n [] = []
 shifted (suc i) zero (x ∷ l) = x ∷ l
 shifted (suc i) (suc n) (x ∷ l) = x ∷ shifted i n l
+
+-- a list without what stands at a place
+abbrev pub leftOut : {A : Type 0} → ℕ → List A → List A
+leftOut i [] = []
+leftOut zero (x ∷ l) = l
+leftOut (suc i) (x ∷ l) = x ∷ leftOut i l

@@ -99,6 +99,16 @@ fn find_from(b: [Entry; MOST], from: usize, opened: usize, key: [u8; keys::LENGT
     i
 }
 
+// Where the first of the open entries that has the key stands; the number open, or 64 where it is more, where none has it.
+pub fn place_of(b: [Entry; MOST], opened: usize, key: [u8; keys::LENGTH]) -> usize
+    ensures { λ r. ⌜ r ≡ firstAt key (take opened b) ⌝ }
+{
+    if MOST < opened {
+        return find_from(b, 0, MOST, key);
+    }
+    find_from(b, 0, opened, key)
+}
+
 // Whether two of the open entries have the same key.
 fn two_equal(b: [Entry; MOST], opened: usize) -> bool
     requires { ⌜ opened ≤ mostOpen ⌝ }

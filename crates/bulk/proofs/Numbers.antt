@@ -23,11 +23,18 @@ use Rattle.bulk.proofs.number_in.Symbol.{name as #ni}
 use Rattle.bulk.proofs.total_in as ti
 use Rattle.bulk.proofs.total_in.Symbol.{name as #ti}
 
+-- n words
+abbrev pub AW : ℕ → RattleType
+AW n = Array u64 n
+
+abbrev pub wty : ℕ → Ty
+wty n = tyArray (tyInt w64) n
+
 abbrev pub NR : RattleType
-NR = Array u64 2
+NR = AW 2
 
 abbrev pub nty : Ty
-nty = tyArray (tyInt w64) 2
+nty = wty 2
 
 abbrev pub nvals : List ℕ → List Val
 nvals = array-vals (uint-vals w64)

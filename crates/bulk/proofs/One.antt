@@ -11,7 +11,9 @@ use Rattle.book.specs.declared.Entry.{Entry}
 use Rattle.book.specs.Calls.{Call, Searched}
 use Rattle.book.specs.Stored.{Stored, kept}
 use Rattle.book.specs.Code.{keptOf, foundOf}
-use Rattle.bulk.specs.Told.{told, toldVerdict, toldExtent, toldWritten, PlainTold, toldCall, toldFound, numbersOf}
+use Rattle.twice.specs.Twice.{cleared}
+use Rattle.play.specs.Play.{Played}
+use Rattle.bulk.specs.Told.{told, toldVerdict, toldExtent, toldWritten, PlainTold, toldCall, toldFound, toldPlayed, numbersOf}
 
 module _ (x y : List ℕ) where
   pub one-told : (g : Given) → x ≡ told g → y ≡ told g → x ≡ y
@@ -40,3 +42,9 @@ module _ (x y : List ℕ) where
 
   pub one-told-found : (s : Searched) → x ≡ toldFound (foundOf s) → y ≡ toldFound (foundOf s) → x ≡ y
   one-told-found s e f = e ∙ sym f
+
+  -- a recording played back, with the numbers, the entries and the index t afterwards
+  pub one-told-played : (p : Played) (t i j m n : List ℕ) (l k : List Entry)
+      → x ≡ toldPlayed p → i ≡ numbersOf (p .stored) → l ≡ p .stored .book .entries → m ≡ cleared t
+      → y ≡ toldPlayed p → j ≡ numbersOf (p .stored) → k ≡ p .stored .book .entries → n ≡ cleared t → (x ≡ y) × (i ≡ j) × (l ≡ k) × (m ≡ n)
+  one-told-played p t i j m n l k a b c d e f g h = (a ∙ sym e, b ∙ sym f, c ∙ sym g, d ∙ sym h)

@@ -12,6 +12,9 @@
 --   an entry has the key             0, 1, its place
 --   none has it                      0, 0, 0
 --   refused                          the refusal's number, its place, 0
+-- and its ten words for a recording that is played back:
+--   played    0, the number of records, the eight sums of the table, row behind row
+--   refused   the refusal's number, its place, eight times 0
 use Prim.Native.Nat.{ℕ}
 use mathlib.Core.Path.{_≡_}
 use mathlib.Core.Bool.{Bool, true, false}
@@ -26,8 +29,11 @@ use lib.ListN.{getD}
 use Rattle.book.specs.declared.Entry.{Entry}
 use Rattle.book.specs.declared.Answer.{Answer}
 use Rattle.book.specs.declared.Found.{Found}
+use Rattle.book.specs.Calls.{Told, done, refusal}
 use Rattle.book.specs.Stored.{Stored}
 use Rattle.book.specs.Code.{storedOf}
+use Rattle.accounts.specs.Lengths.{inOne}
+use Rattle.play.specs.Play.{Played}
 
 abbrev pub told : Given → List ℕ
 told yes = 0 ∷ 0 ∷ 0 ∷ []
@@ -68,3 +74,11 @@ lentBook l o = storedOf l (getD o 0 0) (getD o 1 0)
 
 abbrev pub numbersOf : Stored → List ℕ
 numbersOf s = s .book .number ∷ s .total ∷ []
+
+-- ---- a recording that is played back
+abbrev pub toldTable : Told → List (List ℕ) → List ℕ
+toldTable (done records) t = 0 ∷ records ∷ inOne t
+toldTable (refusal number place) t = number ∷ place ∷ inOne t
+
+unfoldable pub toldPlayed : Played → List ℕ
+toldPlayed p = toldTable (p .told) (p .table)

@@ -1,5 +1,5 @@
 // The C face and nothing else: every public function once more, under its exported C name.
-// Each takes any bytes, and writes all three words of `answer` by the table of specs/Told.antt.
+// Each takes any bytes, and writes all three words of `answer`, `bulk_play` all ten, by the table of specs/Told.antt.
 use answers::Answer;
 use book::Entry;
 use book::Found;
@@ -23,7 +23,7 @@ ghost use Rattle.money.specs.Amount.{amountGiven};
 ghost use Rattle.accounts.specs.Iban.{ibanGiven};
 ghost use Rattle.accounts.specs.Identifier.{identifierGiven};
 ghost use Rattle.accounts.specs.Bic.{bicGiven, bicfiGiven};
-ghost use Rattle.bulk.specs.Told.{told, toldVerdict, toldExtent, toldWritten, PlainTold, toldCall, toldIs, toldFound, lentBook, numbersOf};
+ghost use Rattle.bulk.specs.Told.{told, toldVerdict, toldExtent, toldWritten, PlainTold, toldCall, toldIs, toldFound, toldPlayed, lentBook, numbersOf};
 ghost use Rattle.plain.specs.Answer.{answered};
 ghost use Rattle.twice.specs.Twice.{cleared};
 ghost use Rattle.keys.specs.Indexed.{keyedWith};
@@ -34,6 +34,8 @@ ghost use Rattle.judge.specs.Verdict.{meant, located};
 ghost use Rattle.reading.specs.Judged.{judged};
 ghost use Rattle.judge.specs.Index.{judgedWith, itemWith};
 ghost use Rattle.records.specs.Indexed.{recordedWith};
+ghost use Rattle.play.specs.Play.{playedWith};
+ghost use Rattle.play.specs.Code.{playedOn};
 
 // Writes the three words.
 fn tell(a: Answer, answer: &mut [u64; 3])
@@ -379,4 +381,71 @@ pub extern "C" fn bulk_book_check<'a>(
     let o = numbers_at(numbers);
     let a = daybook::check(entries, number_in(o));
     tell_is(answer, a, total_in(o));
+}
+
+// Plays a recording back into the first 64 entries of a list that has so many places, and gives them back; writes the ten words and the two numbers.
+fn play_told<'a>(
+    recording: &'a [u8],
+    buffer: &'a [u8],
+    ends: &'a [u64],
+    b: [Entry; book::MOST],
+    places: usize,
+    numbers: &'a mut [u64; 2],
+    index: &'a mut [u32],
+    answer: &'a mut [u64; 10],
+) -> [Entry; book::MOST]
+    ensures { λ r. ⌜ (now (answer .exit) ≡ toldPlayed (playedOn places (now (index .entry)) (now (recording .entry)) (now (buffer .entry)) (now (ends .entry)) (lentBook b (now (numbers .entry)))))
+        × (now (numbers .exit) ≡ numbersOf (playedOn places (now (index .entry)) (now (recording .entry)) (now (buffer .entry)) (now (ends .entry)) (lentBook b (now (numbers .entry))) .stored))
+        × (r ≡ playedOn places (now (index .entry)) (now (recording .entry)) (now (buffer .entry)) (now (ends .entry)) (lentBook b (now (numbers .entry))) .stored .book .entries)
+        × (now (index .exit) ≡ cleared (now (index .entry))) ⌝ }
+{
+    let o = *numbers;
+    let p = play::play(
+        recording,
+        buffer,
+        ends,
+        b,
+        places,
+        number_in(o),
+        total_in(o),
+        index,
+    );
+    let t = p.table;
+    *numbers = [p.opened as u64, p.total];
+    *answer = [
+        p.number as u64,
+        p.place as u64,
+        t[0],
+        t[1],
+        t[2],
+        t[3],
+        t[4],
+        t[5],
+        t[6],
+        t[7],
+    ];
+    let e = p.entries;
+    e
+}
+
+// A recording is played back into the day book: 0, the number of records, the eight sums of the table; or number, place and eight times 0. The index is cleared.
+#[no_mangle]
+pub extern "C" fn bulk_play<'a>(
+    recording: &'a [u8],
+    buffer: &'a [u8],
+    ends: &'a [u64],
+    entries: &'a mut [Entry],
+    numbers: &'a mut [u64; 2],
+    index: &'a mut [u32],
+    answer: &'a mut [u64; 10],
+)
+    ensures { λ _. ⌜ (now (answer .exit) ≡ toldPlayed (playedWith (now (index .entry)) (now (recording .entry)) (now (buffer .entry)) (now (ends .entry)) (lentBook (now (entries .entry)) (now (numbers .entry)))))
+        × (now (numbers .exit) ≡ numbersOf (playedWith (now (index .entry)) (now (recording .entry)) (now (buffer .entry)) (now (ends .entry)) (lentBook (now (entries .entry)) (now (numbers .entry))) .stored))
+        × (now (entries .exit) ≡ playedWith (now (index .entry)) (now (recording .entry)) (now (buffer .entry)) (now (ends .entry)) (lentBook (now (entries .entry)) (now (numbers .entry))) .stored .book .entries)
+        × (now (index .exit) ≡ cleared (now (index .entry))) ⌝ }
+{
+    let places = entries.len();
+    let b = daybook::copy_in(entries);
+    let e = play_told(recording, buffer, ends, b, places, numbers, index, answer);
+    daybook::copy_out(entries, e);
 }

@@ -35,7 +35,7 @@ module _ (ys : List Entry) (n : ℕ) where
   unfolding isBook
   few-none h = fails _ 0 (lt-leb mostOpen (length ys) h)
 
-  few-same : length ys < mostOpen → replaced (firstPlaces ys) ys ≡ ys
+  pub few-same : length ys < mostOpen → replaced (firstPlaces ys) ys ≡ ys
   unfolding replaced firstPlaces
   few-same h =
       let z : length ys ≤ mostOpen = omega arith in
@@ -48,7 +48,7 @@ module _ (ys : List Entry) (n : ℕ) where
     abbrev first : List Entry
     first = take mostOpen ys
 
-    first-is : firstPlaces ys ≡ first
+    pub first-is : firstPlaces ys ≡ first
     unfolding firstPlaces
     first-is = take-append-le mostOpen ys (replicate mostOpen blankEntry) room
 
@@ -126,7 +126,7 @@ module _ (ys : List Entry) (n : ℕ) where
       called-along (enter x) = rw (book-same, is) (enters-along x)
       called-along (withdraw k) = rw (book-same, is) (withdraws-along k)
 
-    filled : (bs : List Entry) → length bs ≡ mostOpen → replaced bs ys ≡ bs ++ drop mostOpen ys
+    pub filled : (bs : List Entry) → length bs ≡ mostOpen → replaced bs ys ≡ bs ++ drop mostOpen ys
     unfolding replaced
     filled bs long = rw (take-all (length ys) bs (omega arith))
 
@@ -135,20 +135,23 @@ module _ (ys : List Entry) (n : ℕ) where
     abbrev lent-stored : Stored
     lent-stored = storedOf ys n t
 
-    abbrev Agree : Carried → Carried → Type 0
-    Agree g f = (keptOf g ≡ keptOf f) × (g .stored .book .entries ++ drop mostOpen ys ≡ f .stored .book .entries)
+    pub record Agree (g f : Carried) : Type 0 where
+      pub told : g .told ≡ f .told
+      pub number : g .stored .book .number ≡ f .stored .book .number
+      pub total : g .stored .total ≡ f .stored .total
+      pub entries : g .stored .book .entries ++ drop mostOpen ys ≡ f .stored .book .entries
 
     module _ (room : mostOpen ≤ length ys) (c : Call) where
       abbrev held-stored : Stored
       held-stored = storedOf (first room) n t
 
       lent-agree : (k p : ℕ) → Agree (asLent k p held-stored) (asLent k p lent-stored)
-      lent-agree k p = (refl, take-append-drop mostOpen ys)
+      lent-agree k p = record { told = refl; number = refl; total = refl; entries = take-append-drop mostOpen ys }
 
       carried-agree : (g f : Outcome) → Along room g f → Agree (carried c t g) (carried c t f)
-      carried-agree g f a = (rw (a .told, a .number), a .entries)
+      carried-agree g f a = record { told = a .told; number = a .number; total = rw (a .told); entries = a .entries }
 
-      agree : Agree (kept c held-stored) (kept c lent-stored)
+      pub agree : Agree (kept c held-stored) (kept c lent-stored)
       unfolding kept
       agree = go (isBook lent) refl
         where
@@ -175,9 +178,9 @@ module _ (ys : List Entry) (n : ℕ) where
         large h =
             let z : o ≡ outcomeOf (kept c (held-stored h c)) = e ∙ rw (le-leb mostOpen (length ys) h, first-is h) in
             let a = agree h c in (
-              ap (λ (u : acting.Outcome). u .kept) z ∙ a .0,
+              ap (λ (u : acting.Outcome). u .kept) z ∙ rw (a .told, a .number, a .total),
               filled h (o .entries) long ∙ (ap (λ (u : acting.Outcome). u .entries ++ drop mostOpen
-                  ys) z ∙ a .1),
+                  ys) z ∙ a .entries),
             )
 
   -- ---- the open total

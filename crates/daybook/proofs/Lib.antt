@@ -6,3 +6,4 @@ pub mod Frames
 pub mod Arrays
 pub mod Calls
 pub mod Walk
+pub mod Copies

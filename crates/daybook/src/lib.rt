@@ -40,7 +40,7 @@ pub fn search(entries: &[Entry], opened: usize, key: [u8; keys::LENGTH]) -> usiz
 }
 
 // The first 64 entries, and blank ones where they are fewer.
-fn copy_in(entries: &[Entry]) -> [Entry; book::MOST]
+pub fn copy_in(entries: &[Entry]) -> [Entry; book::MOST]
     ensures { λ r. ⌜ r ≡ firstPlaces (now (entries .entry)) ⌝ }
 {
     let n = least(entries.len(), book::MOST);
@@ -54,7 +54,7 @@ fn copy_in(entries: &[Entry]) -> [Entry; book::MOST]
 }
 
 // The first 64 entries, or as many as there are, are replaced, and every other stays.
-fn copy_out(entries: &mut [Entry], b: [Entry; book::MOST])
+pub fn copy_out(entries: &mut [Entry], b: [Entry; book::MOST])
     ensures { λ _. ⌜ now (entries .exit) ≡ replaced b (now (entries .entry)) ⌝ }
 {
     let n = least(entries.len(), book::MOST);

@@ -1,5 +1,5 @@
 -- What the code answers, from what the judge noted, is the message's key.
-use mathlib.Core.Path.{_≡_, refl, sym, ap, _∙_}
+use mathlib.Core.Path.{_≡_, refl, ap, _∙_}
 use mathlib.Core.Bool.{Bool, true, false}
 use mathlib.Core.Option.{Option, none, some}
 use mathlib.Core.List.{List, [], _∷_}
@@ -16,7 +16,7 @@ use Rattle.profile.specs.declared.Version.{Version}
 use Rattle.profile.specs.declared.Version.the-variants.{V02, V08}
 use Rattle.profile.specs.Profile.{profile}
 use Rattle.reading.specs.Trace.{Entry, message}
-use Rattle.reading.specs.Noted.{Reading, on, stop, Ended, noted}
+use Rattle.reading.specs.Noted.{Reading, Ended, noted}
 use Rattle.reading.specs.Verdict.{Judged, accepted, refused}
 use Rattle.reading.specs.Rules.{valuesOf, firstOf}
 use Rattle.reading.specs.Judged.{whats, listed, judged}
@@ -29,20 +29,18 @@ use Rattle.items.proofs.Places.{accepted-there}
 use Rattle.notes.specs.declared.Notes.{Notes}
 use Rattle.notes.specs.Notes.{fresh, inNotes}
 use Rattle.notes.proofs.Sums.{Served, Summed, summed-fresh, sums}
-use Rattle.naming.specs.Key.{keyLength, keyWith, readIn, serviceOf, keyOf, keyIf, keyed}
-use Rattle.judge.specs.declared.Verdict.{Verdict}
+use Rattle.naming.specs.Key.{keyLength, serviceOf, keyOf, keyIf, keyed, Keyed as KeyedBulk}
 use Rattle.judge.specs.declared.Verdict.the-variants.{Accepted, Refused}
 use Rattle.judge.specs.declared.Survey.{Survey}
 use Rattle.judge.specs.Verdict.{meant}
-use Rattle.judge.specs.Index.{surveyWith}
-use Rattle.judge.proofs.Index.{Indexed, short, roomy, indexed, in-short, in-room, survey-verdict, survey-room}
-use Rattle.keys.specs.Indexed.{unkeyed, keyedWith}
-use Rattle.judge.specs.Found.{denied, Found, foundIn, foundBy, found}
-use Rattle.judge.specs.Survey.{without, Surveyed, surveyedAs, placeFromOne, serviceNumber, places, surveyedIf, surveyed, survey}
+use Rattle.judge.specs.Index.{orShort, surveyWith}
+use Rattle.judge.proofs.Index.{made-of}
+use Rattle.keys.specs.Indexed.{keyedWith}
+use Rattle.judge.specs.Found.{denied, Found, foundBy, found}
+use Rattle.judge.specs.Survey.{without, Surveyed, surveyedAs, placeFromOne, serviceNumber, places, surveyed, survey}
 use Rattle.judge.proofs.Judges.{survey-found}
 use Rattle.judge.proofs.Walks.{found-verdict}
-use Rattle.keys.specs.declared.Keyed.{Keyed}
-use Rattle.keys.specs.Engine.{keyedAs, serviceText, fieldAt, keyFrom}
+use Rattle.keys.specs.Engine.{serviceText, keyFrom, madeIf, keyedFrom}
 
 -- ---- the header's values of the key are surely there
 id-sure : (v : Version) → sure MsgId (profile v) ≡ true
@@ -87,7 +85,7 @@ module _ (m : List ℕ) where
   abbrev es : List Entry
   es = notesOf (noted listed (message m) [])
 
-  service-text : serviceText (serviceNumber (whats es)) ≡ serviceOf (whats es)
+  pub service-text : serviceText (serviceNumber (whats es)) ≡ serviceOf (whats es)
   unfolding serviceNumber codeGiven
   service-text = rw (twice-or (message m)) (either (secondIn [] (idsOf (readOn (message m) []))))
     where
@@ -105,46 +103,50 @@ module _ (m : List ℕ) where
   key-is n c e =
       rw (service-text, accepted-there m MsgId n c e id-sure, accepted-there m InstgBic n c e bic-sure, accepted-there m IntrBkSttlmDt n c e date-sure)
 
-  module _ (s : Survey) (e : surveyedAs s ≡ survey m) where
-    pub verdict-is : meant (s .finding .verdict) ≡ judged m
-    verdict-is = ap (λ (x : Surveyed). x .found .verdict) e ∙ (ap (λ (x : Found). x .verdict) (survey-found m) ∙ found-verdict m)
+  -- what was noted of it
+  pub noted-is : (n c : ℕ) → judged m ≡ accepted n c → survey m ≡ record { found = found m; service = serviceNumber (whats es); places = places es }
+  unfolding survey found
+  noted-is n c e = go (foundBy (noted listed (message m) [])) (found-verdict m ∙ e)
+    where
+      go : (x : Found) → x .verdict ≡ accepted n c
+          → surveyed x (serviceNumber (whats es)) (places es) ≡ record { found = x; service = serviceNumber (whats es); places = places es }
+      go x h = rw h
 
-    pub no-key : (n p : ℕ) → s .finding .verdict ≡ Refused n p → record { verdict = meant (s .finding .verdict); key = replicate keyLength 32 } ≡ keyed m
-    unfolding keyed
-    no-key n p f = rw (← verdict-is, f)
+  pub verdict-is : survey m .found .verdict ≡ judged m
+  verdict-is = ap (λ (x : Found). x .verdict) (survey-found m) ∙ found-verdict m
 
-    module _ (n c : ℕ) (f : s .finding .verdict ≡ Accepted n c) where
-      accepted-is : judged m ≡ accepted n c
-      accepted-is = sym verdict-is ∙ ap meant f
+  -- so of any message
+  from-survey : keyedFrom m (survey m) ≡ keyed m
+  unfolding keyedFrom keyed
+  from-survey = go (judged m) refl
+    where
+      made : Judged → List ℕ → KeyedBulk
+      made j k = record { verdict = j; key = madeIf j k }
 
-      noted-is : survey m ≡ record { found = found m; service = serviceNumber (whats es); places = places es }
-      unfolding survey found
-      noted-is = go (foundBy (noted listed (message m) [])) (found-verdict m ∙ accepted-is)
-        where
-          go : (x : Found) → x .verdict ≡ accepted n c
-              → surveyed x (serviceNumber (whats es)) (places es) ≡ record { found = x; service = serviceNumber (whats es); places = places es }
-          go x h = rw h
+      key : List ℕ
+      key = keyFrom m (survey m .service) (survey m .places)
 
-      pub the-key : (k : List ℕ) → k ≡ keyFrom m (s .service) (s .starts) → record { verdict = meant (s .finding .verdict); key = k } ≡ keyed m
-      unfolding keyed
-      the-key k g =
-          let a : s .service ≡ serviceNumber (whats es) = ap (λ (x : Surveyed). x .service) (e ∙ noted-is) in
-          let b : s .starts ≡ places es = ap (λ (x : Surveyed). x .places) (e ∙ noted-is) in
-          rw (accepted-is, verdict-is, accepted-is) (ap (λ (l : List ℕ). record { verdict = accepted n c; key = l }) (g ∙ rw (a, b) (key-is n c accepted-is)))
+      go : (j : Judged) → judged m ≡ j → made (survey m .found .verdict) key ≡ record { verdict = judged m; key = keyIf (judged m) (whats es) }
+      go (accepted n c) e =
+          rw (verdict-is, e) (ap (made (accepted n c)) (ap (λ (x : Surveyed). keyFrom m (x .service) (x .places)) (noted-is n c e) ∙ key-is n c e))
+      go (refused n p) e = rw (verdict-is, e)
 
 -- ---- with an index
-module _ (index m : List ℕ) (s : Survey) (e : surveyedAs s ≡ surveyWith index m) where
-  pub no-key-with : (n p : ℕ) → s .finding .verdict ≡ Refused n p → record { verdict = meant (s .finding .verdict); key = replicate keyLength 32 } ≡ keyedWith index m
-  no-key-with n p f = go (indexed index)
-    where
-      go : Indexed index → record { verdict = meant (s .finding .verdict); key = replicate keyLength 32 } ≡ keyedWith index m
-      go (short h) =
-          let d : meant (s .finding .verdict) ≡ refused 25 0 = survey-verdict index m s e ∙ in-short index (refused 25 0) (survey m .found .verdict) h in
-          ap (λ (j : Judged). record { verdict = j; key = replicate keyLength 32 }) d ∙ sym (in-short index (unkeyed 25 0) (keyed m) h)
-      go (roomy h) = no-key m s (e ∙ in-room index (without (denied 25 0)) (survey m) h) n p f ∙ sym (in-room index (unkeyed 25 0) (keyed m) h)
+pub from-survey-with : (index m : List ℕ) (s : Surveyed) → s ≡ surveyWith index m → keyedFrom m s ≡ keyedWith index m
+unfolding keyedFrom
+from-survey-with index m s e =
+    ap (keyedFrom m) e ∙ (made-of (keyedFrom m) index (without (denied 25 0)) (survey m) ∙ ap (λ (x : KeyedBulk). orShort index (keyedFrom m (without (denied 25 0))) x) (from-survey m) ∙ none)
+  where
+    none : orShort index (keyedFrom m (without (denied 25 0))) (keyed m) ≡ keyedWith index m
+    none = refl
 
-  pub the-key-with : (n c : ℕ) → s .finding .verdict ≡ Accepted n c → (k : List ℕ) → k ≡ keyFrom m (s .service) (s .starts)
-      → record { verdict = meant (s .finding .verdict); key = k } ≡ keyedWith index m
-  the-key-with n c f k g =
-      let h = survey-room index m s e n c f in
-      the-key m s (e ∙ in-room index (without (denied 25 0)) (survey m) h) n c f k g ∙ sym (in-room index (unkeyed 25 0) (keyed m) h)
+-- ---- one match of the code each
+module _ (m : List ℕ) (s : Survey) where
+  pub no-key : (n p : ℕ) → s .finding .verdict ≡ Refused n p → record { verdict = meant (s .finding .verdict); key = replicate keyLength 32 } ≡ keyedFrom m (surveyedAs s)
+  unfolding keyedFrom
+  no-key n p f = rw f
+
+  pub the-key : (n c : ℕ) → s .finding .verdict ≡ Accepted n c → (k : List ℕ) → k ≡ keyFrom m (s .service) (s .starts)
+      → record { verdict = meant (s .finding .verdict); key = k } ≡ keyedFrom m (surveyedAs s)
+  unfolding keyedFrom
+  the-key n c f k g = rw (f, g)

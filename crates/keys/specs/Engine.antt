@@ -1,14 +1,16 @@
 -- What each function of the keys writes, by what the judge noted.
 use Prim.Native.Nat.{ℕ, zero, suc}
 use mathlib.Core.List.{List, []}
-use lib.ListN.{getD}
-use Rattle.text.specs.Quoted.{bytes}
+use lib.ListN.{getD, replicate}
+use Rattle.text.specs.Quoted.{bytes, byte}
 use Rattle.tags.specs.Values.{valueAt}
 use Rattle.profile.specs.declared.Field.{Field}
 use Rattle.profile.specs.declared.Field.the-variants.{MsgId, InstgBic, IntrBkSttlmDt}
 use Rattle.profile.specs.Fields.{fieldNumber}
-use Rattle.naming.specs.Key.{Keyed as KeyedBulk, keyWith}
+use Rattle.reading.specs.Verdict.{Judged, accepted, refused}
+use Rattle.naming.specs.Key.{keyLength, Keyed as KeyedBulk, keyWith}
 use Rattle.judge.specs.Verdict.{meant}
+use Rattle.judge.specs.Survey.{Surveyed}
 use Rattle.keys.specs.declared.Keyed.{Keyed}
 
 abbrev pub keyedAs : Keyed → KeyedBulk
@@ -27,3 +29,11 @@ fieldAt m starts f = valueAt m (getD starts (fieldNumber f) 0)
 
 unfoldable pub keyFrom : List ℕ → ℕ → List ℕ → List ℕ
 keyFrom m service starts = keyWith (serviceText service) (fieldAt m starts MsgId) (fieldAt m starts InstgBic) (fieldAt m starts IntrBkSttlmDt)
+
+-- of what was found and noted: the verdict, and the key of an accepted message
+abbrev pub madeIf : Judged → List ℕ → List ℕ
+madeIf (accepted count cents) k = k
+madeIf (refused n p) k = replicate keyLength (byte " ")
+
+unfoldable pub keyedFrom : List ℕ → Surveyed → KeyedBulk
+keyedFrom m s = record { verdict = s .found .verdict; key = madeIf (s .found .verdict) (keyFrom m (s .service) (s .places)) }

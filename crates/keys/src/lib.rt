@@ -1,4 +1,5 @@
 // The key of a bulk, from one reading of the message.
+use judge::Survey;
 use judge::Verdict;
 use profile::Field;
 ghost use mathlib.Core.Path.{_≡_};
@@ -9,8 +10,9 @@ ghost use Rattle.tags.specs.Values.{valueAt};
 ghost use Rattle.profile.specs.Fields.{fieldNumber};
 ghost use Rattle.postings.specs.Record.{padded};
 ghost use Rattle.twice.specs.Twice.{cleared};
+ghost use Rattle.judge.specs.Survey.{surveyedAs};
 ghost use Rattle.keys.specs.Indexed.{keyedWith};
-ghost use Rattle.keys.specs.Engine.{keyedAs, serviceText, keyFrom};
+ghost use Rattle.keys.specs.Engine.{keyedAs, serviceText, keyFrom, keyedFrom};
 
 // How many bytes a key has: service 4, MsgId 35, instructing BIC 11, settlement date 10.
 pub const LENGTH: usize = 60;
@@ -97,11 +99,10 @@ fn make_key(m: &[u8], service: u64, starts: [u32; profile::FIELDS]) -> [u8; LENG
     key
 }
 
-// What the judge says of a message, and its key. The index is cleared.
-pub fn key(m: &[u8], index: &mut [u32]) -> Keyed
-    ensures { λ r. ⌜ (keyedAs r ≡ keyedWith (now (index .entry)) (now (m .entry))) × (now (index .exit) ≡ cleared (now (index .entry))) ⌝ }
+// What was found of a message, and its key from what was noted.
+pub fn key_from(m: &[u8], s: Survey) -> Keyed
+    ensures { λ r. ⌜ keyedAs r ≡ keyedFrom (now (m .entry)) (surveyedAs s) ⌝ }
 {
-    let s = judge::read(m, index);
     let f = s.finding;
     let verdict = f.verdict;
     match verdict {
@@ -115,4 +116,11 @@ pub fn key(m: &[u8], index: &mut [u32]) -> Keyed
             Keyed { verdict, key }
         }
     }
+}
+
+// What the judge says of a message, and its key. The index is cleared.
+pub fn key(m: &[u8], index: &mut [u32]) -> Keyed
+    ensures { λ r. ⌜ (keyedAs r ≡ keyedWith (now (index .entry)) (now (m .entry))) × (now (index .exit) ≡ cleared (now (index .entry))) ⌝ }
+{
+    key_from(m, judge::read(m, index))
 }

@@ -42,7 +42,7 @@ use Rattle.items.proofs.Parts.{surely}
 use Rattle.items.proofs.Accepted.{accepted-chained}
 use Rattle.padding.proofs.Padded.{padded-one, first-field}
 use Rattle.padding.proofs.Legal.{Written, each-legal, each-of, service-fits, aPlain, Fits, plain-fits, aBic, bic-fits}
-use Rattle.naming.specs.Key.{keyWith, keyOf, readIn, keyed}
+use Rattle.naming.specs.Key.{keyWith, serviceOf, keyOf, readIn, keyed}
 use Rattle.naming.specs.Own.{Four, keyFor, Names, Named}
 
 -- ---- each stands once in the header, and is of its kind
@@ -205,6 +205,11 @@ module _ (m : List ℕ) (n c : ℕ) (e : judged m ≡ accepted n c) where
         bic = held-at InstgBic aBic (Written 11) bic-fits (bic-kind (doc .version)) (bic-once (doc .version));
         date = held-at IntrBkSttlmDt (aPlain Date) (Fits Date) (plain-fits Date) (date-kind (doc .version)) (date-once (doc .version));
       }
+
+  -- so a service is read
+  pub service-written : 1 ≤ length (serviceOf (readIn m))
+  unfolding four
+  service-written = rw read-said (four-held .service .0)
 
 -- ---- four values that their fields hold are told from the key
 module _ (m k : List ℕ) {n c i d : ℕ} (e : judged m ≡ accepted n c) (g : judged k ≡ accepted i d) where

@@ -1,5 +1,6 @@
 pub mod Digits
 pub mod Fields
 pub mod Values
+pub mod Walk
 pub mod Areas
 pub mod Once

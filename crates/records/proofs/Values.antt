@@ -60,7 +60,7 @@ each-below v (f ∷ l) e =
 all-below : (v : Version) → AllIn (Below v) own
 all-below v = each-below v own (own-below v)
 
-amount-below : (v : Version) → (fixed (aKind Amount) (inHeader v) ≡ true) × (times (aKind Amount) (inHeader v) ≡ 0)
+pub amount-below : (v : Version) → (fixed (aKind Amount) (inHeader v) ≡ true) × (times (aKind Amount) (inHeader v) ≡ 0)
 unfolding inHeader
 amount-below V02 = (refl, refl)
 amount-below V08 = (refl, refl)
@@ -131,15 +131,18 @@ module _ (m : List ℕ) (count cents′ : ℕ) (e : judged m ≡ accepted count 
     its : (f : Field) → Below (k .version) f → heldAt m (startOf (n .starts) f) ≡ inRecord f
     its f b = ap (heldAt m) (u .starts f) ∙ own-is f b
 
-    from-wherever : (f : Field) → InEach f → startOf above f ≡ fieldPlace f all → heldAt m (ownOr (startOf above f) (startOf (n .starts) f)) ≡ inRecord f
+    pub from-wherever : (f : Field) → InEach f → startOf above f ≡ fieldPlace f all → heldAt m (ownOr (startOf above f) (startOf (n .starts) f)) ≡ inRecord f
     from-wherever f i q =
         ap (λ (k : ℕ). heldAt m (ownOr k (startOf (n .starts) f))) q ∙ (ap (λ (k : ℕ). heldAt m (ownOr (fieldPlace f all) k)) (u .starts f) ∙ wherever-is f i)
+
+    pub its-cents : n .cents ≡ centsFor (theHeader m ++ x .holds)
+    its-cents = u .cents ∙ cents-is
 
     pub record-is : startOf above SeqTp ≡ fieldPlace SeqTp all → startOf above LclInstrm ≡ fieldPlace LclInstrm all → recordOf m n above ≡ recordFor (theHeader m ++ x .holds)
     unfolding recordOf recordFor
     record-is q r =
         let h = all-below (k .version) in
-        same-record (λ f. heldAt m (placeFor above n f)) inRecord (n .cents) (centsFor (theHeader m ++ x .holds)) (u .cents ∙ cents-is) (
+        same-record (λ f. heldAt m (placeFor above n f)) inRecord (n .cents) (centsFor (theHeader m ++ x .holds)) its-cents (
           its TxId (h .0),
           (
             its EndToEndId (h .1 .0),

@@ -34,10 +34,14 @@ recordOf m n above = recordWith (λ f. heldAt m (placeFor above n f)) (n .cents)
 unfoldable pub laid : ℕ → List ℕ → List ℕ → List ℕ
 laid at v r = take at r ++ (v ++ drop (at + length v) r)
 
--- a message is accepted with so many items, the first one and the last value of each field are where the judge found them, and the area has room for the records
-pub record Room (m : List ℕ) (count first : ℕ) (above area : List ℕ) : Type 0 where
+-- a message is accepted with so many items, and the first one and the last value of each field are where the judge found them
+pub record Ready (m : List ℕ) (count first : ℕ) (above : List ℕ) : Type 0 where
   pub cents : ℕ
   pub accepted : judged m ≡ accepted count cents
   pub begins : first ≡ survey m .found .first
   pub noted : above ≡ survey m .places
+
+-- and the area has room for the records
+pub record Room (m : List ℕ) (count first : ℕ) (above area : List ℕ) : Type 0 where
+  pub ready : Ready m count first above
   pub room : recordLength * count ≤ length area

@@ -45,7 +45,7 @@ fn start_of(starts: [u32; profile::FIELDS], f: Field) -> usize
 }
 
 // Where a field that may stand above an item is to be had: the item's own place, or else the place above.
-fn wherever(starts: [u32; profile::FIELDS], above: [u32; profile::FIELDS], f: Field) -> usize
+pub fn wherever(starts: [u32; profile::FIELDS], above: [u32; profile::FIELDS], f: Field) -> usize
     ensures { λ r. ⌜ r ≡ ownOr (startOf above f) (startOf starts f) ⌝ }
 {
     let own = start_of(starts, f);
@@ -56,7 +56,7 @@ fn wherever(starts: [u32; profile::FIELDS], above: [u32; profile::FIELDS], f: Fi
 }
 
 // Whether no value is to be had at a place: it is 0, or behind the message.
-fn none_at(m: &[u8], start: usize) -> bool
+pub fn none_at(m: &[u8], start: usize) -> bool
     ensures { λ r. ⌜ r ≡ either (eqb start 0) (ltb (length (now (m .entry))) start) ⌝ }
 {
     if start == 0 {

@@ -1,6 +1,6 @@
 -- `bulk::bulk_book_check` meets its contract: a walk of its MIR, by hand, straight on.
 use Rattle.daybook.proofs.Walk.{ℕ, GName, Lft, Share, flft, fres, ftrue, SProp, emp, ent, exE, fst∗, id⊢, snd∗, via, Fun, fact, givenOf, tables, tablesOf, unit, usize, yes, Is}
-use Rattle.daybook.proofs.Walk.{shows, pointee, nothing-lawful, uint-makes, RattleType, owns, RefT, plain, shr-slice-copy, Room, ShrSlice, shr-slice-tells, slice-vals}
+use Rattle.daybook.proofs.Walk.{shows, pointee, nothing-lawful, uint-makes, owns, RefT, plain, shr-slice-copy, Room, ShrSlice, shr-slice-tells, slice-vals}
 use Rattle.daybook.proofs.Walk.{sliceTy, sliceVal, heard, nothing, owned, peeks, calls-at, ensured, lasts, Vals, onEntry, Meets, tripleOf, Contract, Triple, cited, entered, Stays, Walks}
 use Rattle.daybook.proofs.Walk.{ends-at, goes-none-slice, says, stay-none-slice, walk-meets, walkOf, walked, Atoms, sem, URA, length, List, [], _∷_, _∙_, _≡_, ap, refl}
 use Rattle.daybook.proofs.Walk.{Ty, erased, imm, mut, named, tyInt, tyRef, tyUnit, valueLocal, w64, Val, vptr, vunit, Memory, Routine, Heap, Tables, WpFn, WpFn-mono, fmOf, !, Given}
@@ -8,9 +8,7 @@ use Rattle.daybook.proofs.Walk.{_$_, _∵_, _⊛_, await, by, done, feqI, fjoin
 use Rattle.daybook.proofs.Walk.{and-then, assigns, enter, forget, from, hop, init, land, load, look, no-more, of-opd, params1, pass0, pass1, returns, stop, unit-lit}
 use lib.ListN.{getD}
 use denote.Struct.Laws as LL
-use denote.Array.{Array}
 use denote.Builtin.{u64}
-use mir.Syntax.{tyArray}
 use Rattle.book.specs.declared.Entry.{Entry}
 use Rattle.daybook.proofs.Frames.{Slots, allocs-all, frees-all}
 use denote.Ref.{MutRef, ShrRef, ptr-vals, mut-tells, shr-tells, shr-copy}
@@ -29,7 +27,7 @@ use Rattle.daybook.proofs.check as ch
 use Rattle.daybook.proofs.check.Symbol as ch-def
 use Rattle.daybook.proofs.check.Symbol.{name as #ch}
 use Rattle.daybook.proofs.check.Met as ch-thm
-use Rattle.bulk.proofs.Numbers.{NR, nty, ntyped, NumberIn, TotalIn, calls-number, calls-total}
+use Rattle.bulk.proofs.Numbers.{AW, wty, NR, nty, ntyped, NumberIn, TotalIn, calls-number, calls-total}
 use Rattle.bulk.proofs.numbers_at as na
 use Rattle.bulk.proofs.numbers_at.Symbol as na-def
 use Rattle.bulk.proofs.numbers_at.Symbol.{name as #na}
@@ -52,19 +50,12 @@ use Rattle.bulk.proofs.bulk_book_check.Code as code
 abbrev word : Ty
 word = tyInt w64
 
--- the three words of an answer
-abbrev AW : RattleType
-AW = Array u64 3
-
-abbrev wty : Ty
-wty = tyArray (tyInt w64) 3
-
 abbrev stayed : Stays (f.ended .signature .params) (f.ended .kept)
-stayed = (stay-none-slice (0 ∷ []) tt (plain (λ _. R)) yes, (stay-none-ref (0 ∷ []) tt (plain (λ _. NR)) yes, (gave-ref (0 ∷ []) tt (plain (λ _. AW)), tt)))
+stayed = (stay-none-slice (0 ∷ []) tt (plain (λ _. R)) yes, (stay-none-ref (0 ∷ []) tt (plain (λ _. NR)) yes, (gave-ref (0 ∷ []) tt (plain (λ _. AW 3)), tt)))
 
 abbrev slots : Slots
-slots = (tyUnit, valueLocal) ∷ (sliceTy (tyRef (named 0) imm (pointee (R .written))), valueLocal) ∷ (tyRef (named 0) imm nty, valueLocal) ∷ (tyRef (named 0) mut wty, valueLocal)
-    ∷ (nty, valueLocal) ∷ (N′.mir, valueLocal) ∷ (word, valueLocal) ∷ (tyUnit, valueLocal) ∷ (tyRef erased mut wty, valueLocal) ∷ (word, valueLocal) ∷ []
+slots = (tyUnit, valueLocal) ∷ (sliceTy (tyRef (named 0) imm (pointee (R .written))), valueLocal) ∷ (tyRef (named 0) imm nty, valueLocal) ∷ (tyRef (named 0) mut (wty 3), valueLocal)
+    ∷ (nty, valueLocal) ∷ (N′.mir, valueLocal) ∷ (word, valueLocal) ∷ (tyUnit, valueLocal) ∷ (tyRef erased mut (wty 3), valueLocal) ∷ (word, valueLocal) ∷ []
 
 module _ {M : Type 1} (𝓤 : URA M) (H : Heap 𝓤) (A : Atoms 𝓤) (mem : Memory → SProp 𝓤) (run : Routine → Fun 𝓤) where
   -- the contracts that the proof cites
@@ -121,11 +112,11 @@ module _ {M : Type 1} (𝓤 : URA M) (H : Heap 𝓤) (A : Atoms 𝓤) (W : Given
   said n t r rs e f g h = h ∙ (rw (g, e, f) (ap toldIs (sum-stands (lentBook ys os))))
 
   exits : (rs : List ℕ) → Said rs → ent 𝓤 (⋆ 𝓤 H A ((‵ (flft κ q) ⊛ ‵ ftrue) ∷ ‵ (ShrSlice (named 0) κ R .own y1 (sliceVal (b₁, o₁) (length ys) ∷ []))
-      ∷ ‵ (ShrRef (named 0) κ NR .own y2 (vptr b₂ o₂ ∷ [])) ∷ ‵ (fres γ₄ (AW .coded .code rs))
+      ∷ ‵ (ShrRef (named 0) κ NR .own y2 (vptr b₂ o₂ ∷ [])) ∷ ‵ (fres γ₄ (AW 3 .coded .code rs))
       ∷ [])) (Post vunit)
   exits rs e =
       qed W ((‵ (flft κ q) ⊛ ‵ ftrue) ∷ ‵ (ShrSlice (named 0) κ R .own y1 (sliceVal (b₁, o₁) (length ys) ∷ [])) ∷ ‵ (ShrRef (named 0) κ NR .own y2 (vptr b₂ o₂ ∷ []))
-      ∷ ‵ (fres γ₄ (AW .coded .code rs))
+      ∷ ‵ (fres γ₄ (AW 3 .coded .code rs))
       ∷ []) ∵
       suffices ! _ (ends-at 𝓤 H A f.ended stayed (f.clauses 𝓤 H A mem run) W (((κ, tt), (q, tt), tt, x, at), tt) vunit tt (tt, (tt, (rs, tt))) (tt, (tt, (tt, tt)))) $ says ! e $
       frame ! $
@@ -151,10 +142,10 @@ module _ {M : Type 1} (𝓤 : URA M) (H : Heap 𝓤) (A : Atoms 𝓤) (W : Given
   te-at r v t vt = (((κ, tt), (q, tt), tt, (y3, (r, (t, tt))), (vptr b₄ o₄ ∷ [], (v ∷ [], (vt ∷ [], tt)))), tt)
 
   te-asks : (r : Answer) (v : Val) (t : ℕ) (vt : Val) → Is N.the-row r (v ∷ []) → Is u64 t (vt ∷ [])
-      → ent 𝓤 (⋆ 𝓤 H A ((‵ (flft κ q) ⊛ ‵ ftrue) ∷ ‵ (MutRef (named 0) κ AW .own y3 (vptr b₄ o₄ ∷ []))
+      → ent 𝓤 (⋆ 𝓤 H A ((‵ (flft κ q) ⊛ ‵ ftrue) ∷ ‵ (MutRef (named 0) κ (AW 3) .own y3 (vptr b₄ o₄ ∷ []))
       ∷ [])) (Tell 𝓤 H A mem run .pre (te-at r v t vt))
   te-asks r v t vt g gt =
-      qed W ((‵ (flft κ q) ⊛ ‵ ftrue) ∷ ‵ (MutRef (named 0) κ AW .own y3 (vptr b₄ o₄ ∷ [])) ∷ []) ∵ nothing ! $ owned ! u64 (Is u64) (uint-makes 𝓤 H A W w64) t (vt ∷ []) gt $
+      qed W ((‵ (flft κ q) ⊛ ‵ ftrue) ∷ ‵ (MutRef (named 0) κ (AW 3) .own y3 (vptr b₄ o₄ ∷ [])) ∷ []) ∵ nothing ! $ owned ! u64 (Is u64) (uint-makes 𝓤 H A W w64) t (vt ∷ []) gt $
       fjoin ! $
       owned ! N.the-row (Is N.the-row) (LL.makes N.the-type N′.the-plain 𝓤 H A) r (v ∷ []) g $ fjoin ! $ move ! (2 ∷ 0 ∷ []) $ fjoin ! $ move ! (1 ∷ 0 ∷ []) $ join ! $ frame ! $
       done !
@@ -162,7 +153,7 @@ module _ {M : Type 1} (𝓤 : URA M) (H : Heap 𝓤) (A : Atoms 𝓤) (W : Given
   walk : (𝓣 : Tables 𝓤 H) → Known 𝓤 H A mem run 𝓣 → ent 𝓤 (onEntry 𝓤 H A f.signature (κ, tt) (q, tt) x at) (WpFn 𝓤 H (𝓣 .C) (𝓣 .Λ) code.function
       (sliceVal (b₁, o₁) (length ys) ∷ vptr b₂ o₂ ∷ vptr b₄ o₄ ∷ []) Post)
   walk 𝓣 known =
-      qed W ((‵ (flft κ q) ⊛ ‵ ftrue) ∷ ‵ (owns (ShrSlice (named 0) κ R ∷ ShrRef (named 0) κ NR ∷ MutRef (named 0) κ AW ∷ []) x at) ∷ []) ∵
+      qed W ((‵ (flft κ q) ⊛ ‵ ftrue) ∷ ‵ (owns (ShrSlice (named 0) κ R ∷ ShrRef (named 0) κ NR ∷ MutRef (named 0) κ (AW 3) ∷ []) x at) ∷ []) ∵
       enter ! (𝓣 .C) (𝓣 .Λ) code.function (sliceVal (b₁, o₁) (length ys) ∷ vptr b₂ o₂ ∷ vptr b₄ o₄ ∷ []) _ $
       allocs-all ! slots _ (λ p. params1 ! $ pass1 ! (init ! 16 refl (tt, (tt, (record { fits = gn .0 }, tt)))) $ pass1 ! (init ! 14 refl (tt, tt)) $
       pass1 ! (init ! 12 refl (tt, tt)) $ pass0 ! $
@@ -220,7 +211,7 @@ module _ {M : Type 1} (𝓤 : URA M) (H : Heap 𝓤) (A : Atoms 𝓤) (W : Given
   walks = walked 𝓤 H A f.ended stayed (f.clauses 𝓤 H A mem run) (WpFn 𝓤 H (𝓣 .C) (𝓣 .Λ) code.function) (λ κs. (slice-vals, (ptr-vals, (ptr-vals, tt)))) (λ κs. (
     shr-slice-tells (named
         0) (κs .0) R,
-    (shr-tells (named 0) (κs .0) NR, (mut-tells (named 0) (κs .0) AW, tt)),
+    (shr-tells (named 0) (κs .0) NR, (mut-tells (named 0) (κs .0) (AW 3), tt)),
   ))
       (λ κs qs bounds a g are. via 𝓤 _ (fst∗ 𝓤 _ (emp 𝓤)) (walk 𝓤 H A W mem run (κs .0) (qs .0) (a .0 .ptr .0) (a .0 .ptr .1) (a .0 .name) (a .0 .now) (a .1 .0 .ptr .0) (a .1 .0
       .ptr .1)
@@ -230,7 +221,7 @@ module _ {M : Type 1} (𝓤 : URA M) (H : Heap 𝓤) (A : Atoms 𝓤) (W : Given
   meets = walk-meets 𝓤 H A f.ended stayed W (
     goes-none-slice 𝓤 H A W 1 (0
         ∷ []) tt (plain (λ _. R)) yes,
-    (goes-none-ref 𝓤 H A W 1 (0 ∷ []) tt (plain (λ _. NR)) yes, (goes-gave-ref 𝓤 H A W 1 0 tt (plain (λ _. AW)), tt)),
+    (goes-none-ref 𝓤 H A W 1 (0 ∷ []) tt (plain (λ _. NR)) yes, (goes-gave-ref 𝓤 H A W 1 0 tt (plain (λ _. AW 3)), tt)),
   ) (f.clauses 𝓤 H A mem run)
       (WpFn 𝓤 H (𝓣 .C) (𝓣 .Λ) code.function) (WpFn-mono 𝓤 H (W .laws) 𝓣 code.function) walks
 

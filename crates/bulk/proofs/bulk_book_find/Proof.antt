@@ -1,6 +1,6 @@
 -- `bulk::bulk_book_find` meets its contract: a walk of its MIR, by hand, straight on.
 use Rattle.daybook.proofs.Walk.{ℕ, GName, Lft, Share, flft, fres, ftrue, SProp, emp, ent, exE, fst∗, id⊢, snd∗, via, Fun, fact, givenOf, tables, tablesOf, array-typed, unit, usize}
-use Rattle.daybook.proofs.Walk.{yes, Is, shows, pointee, uint-lawful, nothing-lawful, uint-makes, RattleType, owns, RefT, plain, shr-slice-copy, Room, ShrSlice}
+use Rattle.daybook.proofs.Walk.{yes, Is, shows, pointee, uint-lawful, nothing-lawful, uint-makes, owns, RefT, plain, shr-slice-copy, Room, ShrSlice}
 use Rattle.daybook.proofs.Walk.{shr-slice-tells, slice-vals, sliceTy, sliceVal, heard, nothing, owned, peeks, calls-at, ensured, lasts, Vals, onEntry, Meets, tripleOf, Contract, Triple}
 use Rattle.daybook.proofs.Walk.{cited, entered, Stays, Walks, ends-at, goes-none-slice, says, stay-none-slice, walk-meets, walkOf, walked, Atoms, sem, URA, length}
 use Rattle.daybook.proofs.Walk.{List, [], _∷_, _∙_, _≡_, ap, refl, Ty, erased, imm, mut, named, tyInt, tyRef, tyUnit, valueLocal, w64, Val, vptr, vunit, Memory, Routine, Heap, Tables}
@@ -9,9 +9,9 @@ use Rattle.daybook.proofs.Walk.{suffices, use1, use2, ‵, ⋆, addr, and-then,
 use Rattle.daybook.proofs.Walk.{unit-lit}
 use lib.ListN.{getD}
 use denote.Struct.Laws as LL
-use denote.Array.{Array, array-typed}
-use denote.Builtin.{u8, u64}
-use mir.Syntax.{tyArray, w8}
+use denote.Array.{array-typed}
+use denote.Builtin.{u8}
+use mir.Syntax.{w8}
 use Rattle.book.specs.declared.Entry.{Entry}
 use Rattle.daybook.proofs.Frames.{Slots, allocs-all, frees-all}
 use denote.Ref.{MutRef, ShrRef, ptr-vals, mut-tells, shr-tells, shr-copy}
@@ -31,7 +31,7 @@ use Rattle.daybook.proofs.find as fd
 use Rattle.daybook.proofs.find.Symbol as fd-def
 use Rattle.daybook.proofs.find.Symbol.{name as #fd}
 use Rattle.daybook.proofs.find.Met as fd-thm
-use Rattle.bulk.proofs.Numbers.{NR, nty, ntyped, NumberIn, calls-number}
+use Rattle.bulk.proofs.Numbers.{AW, wty, NR, nty, ntyped, NumberIn, calls-number}
 use Rattle.bulk.proofs.numbers_at as na
 use Rattle.bulk.proofs.numbers_at.Symbol as na-def
 use Rattle.bulk.proofs.numbers_at.Symbol.{name as #na}
@@ -51,13 +51,6 @@ use Rattle.bulk.proofs.bulk_book_find.Code as code
 abbrev word : Ty
 word = tyInt w64
 
--- the three words of an answer
-abbrev AW : RattleType
-AW = Array u64 3
-
-abbrev wty : Ty
-wty = tyArray (tyInt w64) 3
-
 abbrev stayed : Stays (f.ended .signature .params) (f.ended .kept)
 stayed = (
   stay-none-slice (0 ∷ []) tt (plain (λ _. R)) yes,
@@ -67,7 +60,7 @@ stayed = (
       stay-none-ref (0 ∷ []) tt (plain (λ _. KR)) yes,
       (
         gave-ref (0
-            ∷ []) tt (plain (λ _. AW)),
+            ∷ []) tt (plain (λ _. AW 3)),
         tt,
       ),
     ),
@@ -76,8 +69,8 @@ stayed = (
 
 abbrev slots : Slots
 slots = (tyUnit, valueLocal) ∷ (sliceTy (tyRef (named 0) imm (pointee (R .written))), valueLocal) ∷ (tyRef (named 0) imm nty, valueLocal) ∷ (tyRef (named 0) imm kty, valueLocal)
-    ∷ (tyRef (named 0) mut wty, valueLocal) ∷ (kty, valueLocal) ∷ (nty, valueLocal) ∷ (F′.mir, valueLocal) ∷ (word, valueLocal) ∷ (tyUnit, valueLocal)
-    ∷ (tyRef erased mut wty, valueLocal) ∷ []
+    ∷ (tyRef (named 0) mut (wty 3), valueLocal) ∷ (kty, valueLocal) ∷ (nty, valueLocal) ∷ (F′.mir, valueLocal) ∷ (word, valueLocal) ∷ (tyUnit, valueLocal)
+    ∷ (tyRef erased mut (wty 3), valueLocal) ∷ []
 
 module _ {M : Type 1} (𝓤 : URA M) (H : Heap 𝓤) (A : Atoms 𝓤) (mem : Memory → SProp 𝓤) (run : Routine → Fun 𝓤) where
   -- the contracts that the proof cites
@@ -139,11 +132,11 @@ module _ {M : Type 1} (𝓤 : URA M) (H : Heap 𝓤) (A : Atoms 𝓤) (W : Given
 
   exits : (rs : List ℕ) → Said rs → ent 𝓤 (⋆ 𝓤 H A ((‵ (flft κ q) ⊛ ‵ ftrue) ∷ ‵ (ShrSlice (named 0) κ R .own y1 (sliceVal (b₁, o₁) (length ys) ∷ []))
       ∷ ‵ (ShrRef (named 0) κ NR .own y2 (vptr b₂ o₂ ∷ [])) ∷ ‵ (ShrRef (named 0) κ KR .own y3 (vptr b₃ o₃ ∷ []))
-      ∷ ‵ (fres γ₄ (AW .coded .code rs)) ∷ [])) (Post vunit)
+      ∷ ‵ (fres γ₄ (AW 3 .coded .code rs)) ∷ [])) (Post vunit)
   exits rs e =
       qed W ((‵ (flft κ q) ⊛ ‵ ftrue) ∷ ‵ (ShrSlice (named 0) κ R .own y1 (sliceVal (b₁, o₁) (length ys) ∷ [])) ∷ ‵ (ShrRef (named 0) κ NR .own y2 (vptr b₂ o₂ ∷ []))
       ∷ ‵ (ShrRef (named 0) κ KR .own y3 (vptr b₃ o₃ ∷ []))
-      ∷ ‵ (fres γ₄ (AW .coded .code rs)) ∷ []) ∵
+      ∷ ‵ (fres γ₄ (AW 3 .coded .code rs)) ∷ []) ∵
       suffices ! _ (ends-at 𝓤 H A f.ended stayed (f.clauses 𝓤 H A mem run) W (((κ, tt), (q, tt), tt, x, at), tt) vunit tt (tt, (tt, (tt, (rs, tt)))) (tt, (tt, (tt, (tt, tt)))))
       $ says ! e $
       frame ! $ nothing ! $ move ! (4 ∷ 0 ∷ []) $ fjoin ! $ move ! (3 ∷ 0 ∷ []) $ fjoin ! $ move ! (2 ∷ 0 ∷ []) $ fjoin ! $ move ! (1 ∷ 0 ∷ []) $ fjoin ! $
@@ -175,17 +168,17 @@ module _ {M : Type 1} (𝓤 : URA M) (H : Heap 𝓤) (A : Atoms 𝓤) (W : Given
   abbrev te-at : Found → Val → Tell 𝓤 H A mem run .Ghost
   te-at r v = (((κ, tt), (q, tt), tt, (y4, (r, tt)), (vptr b₄ o₄ ∷ [], (v ∷ [], tt))), tt)
 
-  te-asks : (r : Found) (v : Val) → Is F.the-row r (v ∷ []) → ent 𝓤 (⋆ 𝓤 H A ((‵ (flft κ q) ⊛ ‵ ftrue) ∷ ‵ (MutRef (named 0) κ AW .own y4 (vptr b₄ o₄ ∷ []))
+  te-asks : (r : Found) (v : Val) → Is F.the-row r (v ∷ []) → ent 𝓤 (⋆ 𝓤 H A ((‵ (flft κ q) ⊛ ‵ ftrue) ∷ ‵ (MutRef (named 0) κ (AW 3) .own y4 (vptr b₄ o₄ ∷ []))
       ∷ [])) (Tell 𝓤 H A mem run .pre (te-at r v))
   te-asks r v g =
-      qed W ((‵ (flft κ q) ⊛ ‵ ftrue) ∷ ‵ (MutRef (named 0) κ AW .own y4 (vptr b₄ o₄ ∷ [])) ∷ []) ∵ nothing ! $
+      qed W ((‵ (flft κ q) ⊛ ‵ ftrue) ∷ ‵ (MutRef (named 0) κ (AW 3) .own y4 (vptr b₄ o₄ ∷ [])) ∷ []) ∵ nothing ! $
       owned ! F.the-row (Is F.the-row) (LL.makes F.the-type F′.the-plain 𝓤 H A) r (v ∷ []) g $ fjoin ! $ move ! (2 ∷ 0 ∷ []) $ fjoin ! $ move ! (1 ∷ 0 ∷ []) $ join ! $ frame ! $
       done !
 
   walk : (𝓣 : Tables 𝓤 H) → Known 𝓤 H A mem run 𝓣 → ent 𝓤 (onEntry 𝓤 H A f.signature (κ, tt) (q, tt) x at) (WpFn 𝓤 H (𝓣 .C) (𝓣 .Λ) code.function
       (sliceVal (b₁, o₁) (length ys) ∷ vptr b₂ o₂ ∷ vptr b₃ o₃ ∷ vptr b₄ o₄ ∷ []) Post)
   walk 𝓣 known =
-      qed W ((‵ (flft κ q) ⊛ ‵ ftrue) ∷ ‵ (owns (ShrSlice (named 0) κ R ∷ ShrRef (named 0) κ NR ∷ ShrRef (named 0) κ KR ∷ MutRef (named 0) κ AW ∷ []) x at) ∷ []) ∵
+      qed W ((‵ (flft κ q) ⊛ ‵ ftrue) ∷ ‵ (owns (ShrSlice (named 0) κ R ∷ ShrRef (named 0) κ NR ∷ ShrRef (named 0) κ KR ∷ MutRef (named 0) κ (AW 3) ∷ []) x at) ∷ []) ∵
       enter ! (𝓣 .C) (𝓣 .Λ) code.function (sliceVal (b₁, o₁) (length ys) ∷ vptr b₂ o₂ ∷ vptr b₃ o₃ ∷ vptr b₄ o₄ ∷ []) _ $
       allocs-all ! slots _ (λ p. params1 ! $ pass1 ! (init ! 18 refl (tt, (tt, (record { fits = gn .0 }, tt)))) $ pass1 ! (init ! 16 refl (tt, tt)) $
       pass1 ! (init ! 14 refl (tt, tt)) $ pass1 ! (init ! 12 refl (tt, tt)) $ pass0 ! $
@@ -251,7 +244,7 @@ module _ {M : Type 1} (𝓤 : URA M) (H : Heap 𝓤) (A : Atoms 𝓤) (W : Given
     → Fun 𝓤) (𝓣 : Tables 𝓤 H) (known : Known 𝓤 H A mem run 𝓣) where
   walks : Walks 𝓤 H A f.ended stayed (WpFn 𝓤 H (𝓣 .C) (𝓣 .Λ) code.function) (f.clauses 𝓤 H A mem run)
   walks = walked 𝓤 H A f.ended stayed (f.clauses 𝓤 H A mem run) (WpFn 𝓤 H (𝓣 .C) (𝓣 .Λ) code.function) (λ κs. (slice-vals, (ptr-vals, (ptr-vals, (ptr-vals, tt))))) (λ κs.
-      (shr-slice-tells (named 0) (κs .0) R, (shr-tells (named 0) (κs .0) NR, (shr-tells (named 0) (κs .0) KR, (mut-tells (named 0) (κs .0) AW, tt)))))
+      (shr-slice-tells (named 0) (κs .0) R, (shr-tells (named 0) (κs .0) NR, (shr-tells (named 0) (κs .0) KR, (mut-tells (named 0) (κs .0) (AW 3), tt)))))
       (λ κs qs bounds a g are. via 𝓤 _ (fst∗ 𝓤 _ (emp 𝓤)) (walk 𝓤 H A W mem run (κs .0) (qs .0) (a .0 .ptr .0) (a .0 .ptr .1) (a .0 .name) (a .0 .now) (a .1 .0 .ptr .0) (a .1 .0
       .ptr .1)
       (a .1 .0 .name) (a .1 .0 .now) (a .1 .1 .0 .ptr .0) (a .1 .1 .0 .ptr .1) (a .1 .1 .0 .name) (a .1 .1 .0 .now) (a .1 .1 .1 .0 .ptr .0) (a .1 .1 .1 .0 .ptr .1) (a .1 .1 .1
@@ -267,7 +260,7 @@ module _ {M : Type 1} (𝓤 : URA M) (H : Heap 𝓤) (A : Atoms 𝓤) (W : Given
       (
         goes-none-ref 𝓤 H A W 1 (0
             ∷ []) tt (plain (λ _. KR)) yes,
-        (goes-gave-ref 𝓤 H A W 1 0 tt (plain (λ _. AW)), tt),
+        (goes-gave-ref 𝓤 H A W 1 0 tt (plain (λ _. AW 3)), tt),
       ),
     ),
   ) (f.clauses 𝓤 H A mem run)

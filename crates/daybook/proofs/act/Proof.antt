@@ -1,14 +1,12 @@
 -- `daybook::act` meets its contract: a walk of its MIR, by hand, straight on. The slice is lent as `&` for a lifetime of the first call, and comes back; `copy_out` is given it for good.
 -- Between the two stand calls of covered functions on values.
-use Rattle.daybook.proofs.Walk.{_<_, _^_, ℕ, GName, Lft, Share, fbor, flent, flft, fobs, ftrue, SProp, emp, ent, exE, fst∗, id⊢, snd∗, via, Fun, fact, givenOf, tables, tablesOf}
-use Rattle.daybook.proofs.Walk.{array-makes, array-typed, unit, usize, yes, closes-slice, opens-slice, row, Is, shows, Held, lends-shr-slice, pointee, shares, nothing-lawful}
-use Rattle.daybook.proofs.Walk.{uint-makes, uint-tells, uint-vals, owns, RefT, pureI, plain, MutSlice, Room, ShrSlice, at-slice, codedHoleys, finally, heres, mut-slice-tells}
-use Rattle.daybook.proofs.Walk.{slice-vals, sliceTy, sliceVal, heard, nothing, owned, peeks, calls-at, ensured, lasts, Vals, onEntry, Meets, tripleOf, Contract, Triple, cited}
-use Rattle.daybook.proofs.Walk.{entered, Stays, Walks, ends-at, gave-slice, goes-gave-slice, goes-none, says, stay-none, walk-meets, walkOf, walked, Atoms, sem, fullShare, URA}
-use Rattle.daybook.proofs.Walk.{length, List, [], _∷_, _∙_, _≡_, ap, refl, sym, Ty, erased, imm, mut, named, tyInt, tyRef, tyUnit, valueLocal, w64, Val, vint, Memory, Routine, Heap}
-use Rattle.daybook.proofs.Walk.{Tables, WpFn, WpFn-mono, fmOf, !, Given, _$_, _∵_, _⊛_, await, by, done, feqI, feqL, fjoin, frame, fsplit, join, keep, later, let-go, move, pick, qed}
-use Rattle.daybook.proofs.Walk.{raw, some, split, suffices, use1, use2, use3, ‵, ⋆, agg, look-in, sub, whole, addr, and-then, assigns, enter, fld, forget, from, hop, init, land, load}
-use Rattle.daybook.proofs.Walk.{look, no-more, of-opd, params1, pass0, pass1, returns, stop, arr-parts, lent-back, lft-end, lft-new}
+use Rattle.daybook.proofs.Walk.{_<_, _^_, ℕ, GName, Lft, Share, flft, ftrue, SProp, emp, ent, exE, fst∗, id⊢, snd∗, via, Fun, fact, givenOf, tables, tablesOf, array-makes, usize, yes}
+use Rattle.daybook.proofs.Walk.{Is, pointee, uint-makes, uint-tells, uint-vals, owns, RefT, plain, MutSlice, Room, finally, mut-slice-tells, slice-vals, sliceTy, sliceVal, nothing}
+use Rattle.daybook.proofs.Walk.{owned, ensured, lasts, Vals, onEntry, Meets, tripleOf, Contract, Triple, cited, entered, Stays, Walks, ends-at, gave-slice, goes-gave-slice, goes-none}
+use Rattle.daybook.proofs.Walk.{says, stay-none, walk-meets, walkOf, walked, Atoms, sem, URA, length, List, [], _∷_, _∙_, _≡_, ap, refl, sym, Ty, erased, imm, mut, named, tyInt}
+use Rattle.daybook.proofs.Walk.{tyRef, tyUnit, valueLocal, w64, Val, vint, Memory, Routine, Heap, Tables, WpFn, WpFn-mono, fmOf, !, Given, _$_, _∵_, _⊛_, by, done, fjoin, frame}
+use Rattle.daybook.proofs.Walk.{fsplit, join, keep, move, qed, split, suffices, ‵, ⋆, agg, look-in, sub, whole, addr, and-then, assigns, enter, fld, forget, from, hop, init, land}
+use Rattle.daybook.proofs.Walk.{load, look, no-more, of-opd, params1, pass0, pass1, returns, stop}
 use denote.Builtin.{u64}
 use denote.Struct.Laws as LL
 use Rattle.book.specs.declared.Entry.{Entry}
@@ -22,6 +20,7 @@ use Rattle.daybook.proofs.Lent.{lent-called}
 use Rattle.daybook.proofs.Frames.{Slots, allocs-all, frees-all}
 use Rattle.daybook.proofs.Calls.{calls-plain}
 use Rattle.daybook.proofs.Arrays.{AR, aty}
+use Rattle.daybook.proofs.Copies.{CopyIn, CopyOut, array-fits, calls-copy-in, calls-copy-out}
 use Rattle.daybook.proofs.Rows.{R}
 use Rattle.book.proofs.Entry as E
 use Rattle.book.proofs.Entry.Laws as E′
@@ -31,7 +30,6 @@ use Rattle.book.proofs.Outcome as O
 use Rattle.book.proofs.Outcome.Laws as O′
 use Rattle.book.proofs.Kept as N
 use Rattle.book.proofs.Kept.Laws as N′
-use Rattle.daybook.proofs.copy_in as ci
 use Rattle.daybook.proofs.copy_in.Symbol as ci-def
 use Rattle.daybook.proofs.copy_in.Symbol.{name as #ci}
 use Rattle.daybook.proofs.copy_in.Met as ci-thm
@@ -43,7 +41,6 @@ use Rattle.daybook.proofs.entries_of as es
 use Rattle.daybook.proofs.entries_of.Symbol as es-def
 use Rattle.daybook.proofs.entries_of.Symbol.{name as #es}
 use Rattle.daybook.proofs.entries_of.Met as es-thm
-use Rattle.daybook.proofs.copy_out as co
 use Rattle.daybook.proofs.copy_out.Symbol as co-def
 use Rattle.daybook.proofs.copy_out.Symbol.{name as #co}
 use Rattle.daybook.proofs.copy_out.Met as co-thm
@@ -76,27 +73,21 @@ cvals c = LL.val L.the-type L′.the-laws c ∷ []
 
 module _ {M : Type 1} (𝓤 : URA M) (H : Heap 𝓤) (A : Atoms 𝓤) (mem : Memory → SProp 𝓤) (run : Routine → Fun 𝓤) where
   -- the contracts that the proof cites
-  abbrev CopyIn : Contract 𝓤
-  CopyIn = tripleOf 𝓤 H A ci.signature (ci.spec 𝓤 H A mem run)
-
   abbrev ActOn : Contract 𝓤
   ActOn = tripleOf 𝓤 H A ao.signature (ao.spec 𝓤 H A mem run)
 
   abbrev EntriesOf : Contract 𝓤
   EntriesOf = tripleOf 𝓤 H A es.signature (es.spec 𝓤 H A mem run)
 
-  abbrev CopyOut : Contract 𝓤
-  CopyOut = tripleOf 𝓤 H A co.signature (co.spec 𝓤 H A mem run)
-
   abbrev KeptOf : Contract 𝓤
   KeptOf = tripleOf 𝓤 H A ke.signature (ke.spec 𝓤 H A mem run)
 
   -- what is known of the callees
   pub record Known (𝓣 : Tables 𝓤 H) : Type 2 where
-    pub to-ci : Triple 𝓤 (𝓣 .C #ci) CopyIn
+    pub to-ci : Triple 𝓤 (𝓣 .C #ci) (CopyIn 𝓤 H A mem run)
     pub to-ao : Triple 𝓤 (𝓣 .C #ao) ActOn
     pub to-es : Triple 𝓤 (𝓣 .C #es) EntriesOf
-    pub to-co : Triple 𝓤 (𝓣 .C #co) CopyOut
+    pub to-co : Triple 𝓤 (𝓣 .C #co) (CopyOut 𝓤 H A mem run)
     pub to-ke : Triple 𝓤 (𝓣 .C #ke) KeptOf
 
 -- what the calls on values ask
@@ -131,15 +122,15 @@ module _ {M : Type 1} (𝓤 : URA M) (H : Heap 𝓤) (A : Atoms 𝓤) (W : Given
   abbrev Arg : Type 0
   Arg = RefT (List Entry) × (ℕ × (ℕ × (Call × Unit {0})))
 
-  -- the slice at a name, and its machine value
-  abbrev named-at : GName → RefT (List Entry)
-  named-at δ = record { ptr = (b, o); name = δ; now = ys }
+  -- the slice, and its machine value
+  abbrev y : RefT (List Entry)
+  y = record { ptr = (b, o); name = γ; now = ys }
 
   abbrev s : Val
   s = sliceVal (b, o) (length ys)
 
   abbrev x : Arg
-  x = (named-at γ, (n, (t, (k, tt))))
+  x = (y, (n, (t, (k, tt))))
 
   abbrev at : Vals f.signature (κ, tt)
   at = (s ∷ [], (vint w64 n ∷ [], (vint w64 t ∷ [], (cvals k, tt))))
@@ -169,30 +160,6 @@ module _ {M : Type 1} (𝓤 : URA M) (H : Heap 𝓤) (A : Atoms 𝓤) (W : Given
       fjoin ! $ move ! (1 ∷ 0 ∷ []) $ fjoin ! $
       owned ! N.the-row (Is N.the-row) (LL.makes N.the-type N′.the-plain 𝓤 H A) a (v ∷ []) ga $ move ! (1 ∷ 0 ∷ []) $ done !
 
-  -- the slice, lent as `&` for the lifetime α under the name δ
-  abbrev ci-at : ℕ → GName → CopyIn 𝓤 H A mem run .Ghost
-  ci-at α δ = (((α ∷ [], tt), (fullShare, tt), tt, (named-at δ, tt), (s ∷ [], tt)), tt)
-
-  ci-asks : (α : ℕ) (δ : GName) → ent 𝓤 (⋆ 𝓤 H A (‵ (flft (α ∷ []) fullShare) ∷ ‵ (ShrSlice (named 0) (α ∷ []) R .own (named-at δ) (s ∷ [])) ∷ [])) (CopyIn 𝓤 H A mem run .pre (ci-at α δ))
-  ci-asks α δ =
-      qed W (‵ (flft (α ∷ []) fullShare) ∷ ‵ (ShrSlice (named 0) (α ∷ []) R .own (named-at δ) (s ∷ [])) ∷ []) ∵ nothing ! $ move ! (1 ∷ 0 ∷ []) $ join ! $
-      nothing ! $ move ! (2 ∷ 0 ∷ []) $ fjoin ! $ move ! (1 ∷ 0 ∷ []) $ join ! $ frame ! $ done !
-
-  ci-said : (α : ℕ) (δ : GName) (r : List Entry) → ent 𝓤 (ensured 𝓤 H A ci.ended (ci.clauses 𝓤 H A mem run) (α ∷ [], tt) (named-at δ, tt) tt r) (fact 𝓤 (r ≡ firstPlaces ys))
-  ci-said α δ r = exE 𝓤 _ (λ ws. snd∗ 𝓤 (sem 𝓤 H A (lasts ci.ended (α ∷ [], tt) (named-at δ, tt) ws)) (fact 𝓤 (r ≡ firstPlaces ys)))
-
-  -- the slice, given up for good
-  abbrev co-at : List Entry → Val → CopyOut 𝓤 H A mem run .Ghost
-  co-at bs v = (((κ, tt), (q, tt), tt, (named-at γ, (bs, tt)), (s ∷ [], (v ∷ [], tt))), tt)
-
-  co-asks : (bs : List Entry) (v : Val) → Is AR bs (v ∷ []) → ent 𝓤 (⋆ 𝓤 H A (‵ (fobs γ (codedHoleys R .code (heres R ys))) ∷ ‵ (fbor κ (Held R (length ys) b o γ)) ∷ ‵ (flft κ q)
-      ∷ [])) (CopyOut 𝓤 H A mem run .pre (co-at bs v))
-  co-asks bs v g =
-      qed W (‵ (fobs γ (codedHoleys R .code (heres R ys))) ∷ ‵ (fbor κ (Held R (length ys) b o γ)) ∷ ‵ (flft κ q) ∷ []) ∵ nothing ! $ move ! (3 ∷ 0 ∷ []) $ join ! $ move ! (1 ∷ 2 ∷ []) $
-      fjoin ! $ pureI ! (at-slice R (named-at γ) (s ∷ [])) (tt, (tt, tt)) (refl, gn) $ fjoin ! $
-      nothing ! $ owned ! AR (Is AR) (array-makes 𝓤 H A W R (LL.makes E.the-type E′.the-plain 𝓤 H A) 64) bs (v ∷ []) g $ fjoin ! $ move ! (1 ∷ 0 ∷ []) $ fjoin ! $ move ! (1 ∷ 0 ∷ []) $
-      join ! $ frame ! $ done !
-
   module _ (𝓣 : Tables 𝓤 H) (known : Known 𝓤 H A mem run 𝓣) where
     walk : ent 𝓤 (onEntry 𝓤 H A f.signature (κ, tt) (q, tt) x at) (WpFn 𝓤 H (𝓣 .C) (𝓣 .Λ) code.function (s ∷ vint w64 n ∷ vint w64 t ∷ LL.val L.the-type L′.the-laws k ∷ []) Post)
     walk =
@@ -205,61 +172,41 @@ module _ {M : Type 1} (𝓤 : URA M) (H : Heap 𝓤) (A : Atoms 𝓤) (W : Given
         assigns ! (addr ! (from ! (fld ! refl (hop ! (look-in ! 24 (sub ! 0 refl (whole !))) (stop !))))) (from ! (stop !)) (init ! 8 refl (tt, tt)) $
         assigns ! (agg ! (and-then ! (load ! (from ! (stop !)) (look ! 8 refl)) (and-then ! (load ! (from ! (fld ! refl (stop !))) (look-in ! 24 (sub ! 1 refl (whole !)))) (no-more !))))
         (from ! (stop !)) (init ! 6 refl (tt, (tt, (record { fits = gn .0 }, tt)))) $
-        -- the borrow is opened, and the row is lent as `&` for a lifetime of the call
-        move ! (29 ∷ []) $ fsplit ! $ fsplit ! $ move ! (1 ∷ []) $ fsplit ! $ move ! (32 ∷ []) $ split ! $ move ! (2 ∷ 3 ∷ 0 ∷ []) $ opens-slice ! tt R ys b o $
-        feqI ! ℕ (length ys) (length ys) refl $ fjoin ! $ lft-new ! tt (λ α. move ! (1 ∷ 0 ∷ []) $
-        use1 W (later (some (λ (δ : GName). ‵ (ShrSlice (named 0) (α ∷ []) R .own (named-at δ) (s ∷ [])) ⊛ ‵ (flent (α
-        ∷ []) (arr-parts (shares R) (length ys) .part fullShare ys b o))))) (lends-shr-slice 𝓤 H A W R (named 0) (α ∷ []) fullShare ys b o gn) $ await ! tt $ pick ! (λ δ. split ! $
-        move ! (2 ∷ 0 ∷ []) $ use2 W (raw (CopyIn 𝓤 H A mem run .pre (ci-at α δ))) (ci-asks α δ) $
-        calls-at ! (fmOf 𝓤 H (W .laws) 𝓣) (CopyIn 𝓤 H A mem run) (known .to-ci) (ci-at α δ) (and-then ! (load ! (from ! (stop !)) (look ! 14 refl)) (no-more !)) (λ v.
-        use1 W (later (some (λ (r : List Entry). ((‵ (flft (α ∷ []) fullShare) ⊛ ‵ ftrue) ⊛ ‵ (AR .own r (v ∷ []))) ⊛ raw (ensured 𝓤 H A ci.ended (ci.clauses 𝓤 H A mem run) (
-          α
-              ∷ [],
-          tt,
-        ) (named-at δ, tt) tt r)))) (id⊢ 𝓤 _) $ await ! tt $ pick ! (λ r.
-        split ! $ move ! (1 ∷ []) $ use1 W (raw (fact 𝓤 (r ≡ firstPlaces ys))) (ci-said α δ r) $ heard ! (r ≡ firstPlaces ys) (λ e₁. split ! $ move ! (1 ∷ []) $
-        peeks ! AR (Is AR) (shows 𝓤 H A AR) r (v ∷ []) (λ gr. let-go ! $
-        land ! (from ! (stop !)) (init ! 22 refl (array-typed R (LL.lawful E.the-type E′.the-laws 𝓤 H A W .typed) 64 r (v ∷ []) gr .0)) $
-        -- the lifetime is ended, the row comes back, and the borrow is closed
-        split ! $ lft-end ! tt $ move ! (0 ∷ 2 ∷ []) $ lent-back ! tt $ fsplit ! $ let-go ! $ move ! (0 ∷ 2 ∷ 3 ∷ 4 ∷ []) $ closes-slice ! tt R ys ys refl b o $
+        -- the slice is lent to `copy_in`, and comes back
+        move ! (29 ∷ []) $ fsplit ! $ fsplit ! $ move ! (1 ∷ []) $ fsplit ! $ move ! (32 ∷ []) $ split ! $ move ! (2 ∷ 3 ∷ 0 ∷ []) $
+        calls-copy-in ! mem run y gn κ q (fmOf 𝓤 H (W .laws) 𝓣) (known .to-ci) (λ _ _ _ _ _. and-then ! (load ! (from ! (stop !)) (look ! 14 refl)) (no-more !)) (λ r v gr e₁.
+        land ! (from ! (stop !)) (init ! 20 refl (array-fits 𝓤 H A W r v gr)) $
         calls-plain ! (fmOf 𝓤 H (W .laws) 𝓣) (ActOn 𝓤 H A mem run) (known .to-ao) (ao-at 𝓤 H A W mem run r v (length ys) n t k) (ao-asks 𝓤 H A W mem run r v (length ys) n t k gr (gn .0) n-fits
         t-fits gk)
         O.the-row (λ u. ensured 𝓤 H A ao.ended (ao.clauses 𝓤 H A mem run) tt (r, (length ys, (n, (t, (k, tt))))) tt u) (λ _. id⊢ 𝓤 _) (λ u. u ≡ Called r) (λ u. exE 𝓤 _ (λ ws. snd∗ 𝓤 (sem 𝓤 H A
         (lasts ao.ended tt (r, (length ys, (n, (t, (k, tt))))) ws)) (fact 𝓤 (u ≡ Called r))))
-        (and-then ! (load ! (from ! (stop !)) (look ! 22 refl)) (and-then ! (load ! (from ! (stop !)) (look ! 24 refl)) (and-then ! (load ! (from ! (stop !)) (look ! 30 refl)) (and-then !
-        (load ! (from ! (stop !)) (look ! 28 refl)) (and-then ! (load ! (from ! (stop !)) (look ! 26 refl)) (no-more !)))))) (λ out v₆ go e₂.
-        land ! (from ! (stop !)) (init ! 19 refl (LL.lawful O.the-type O′.the-laws 𝓤 H A W .typed out (v₆ ∷ []) go .0)) $
+        (and-then ! (load ! (from ! (stop !)) (look ! 21 refl)) (and-then ! (load ! (from ! (stop !)) (look ! 23 refl)) (and-then ! (load ! (from ! (stop !)) (look ! 29 refl)) (and-then !
+        (load ! (from ! (stop !)) (look ! 27 refl)) (and-then ! (load ! (from ! (stop !)) (look ! 25 refl)) (no-more !)))))) (λ out v₆ go e₂.
+        land ! (from ! (stop !)) (init ! 18 refl (LL.lawful O.the-type O′.the-laws 𝓤 H A W .typed out (v₆ ∷ []) go .0)) $
         calls-plain ! (fmOf 𝓤 H (W .laws) 𝓣) (EntriesOf 𝓤 H A mem run) (known .to-es) (es-at 𝓤 H A W mem run out v₆) (es-asks 𝓤 H A W mem run out v₆ go)
         AR (λ u. ensured 𝓤 H A es.ended (es.clauses 𝓤 H A mem run) tt (out, tt) tt u) (λ _. id⊢ 𝓤 _) (λ u. u ≡ out .entries) (λ u. exE 𝓤 _ (λ ws. snd∗ 𝓤 (sem 𝓤 H A (lasts es.ended tt (
           out,
           tt,
         ) ws)) (fact 𝓤 (u ≡ out .entries))))
-        (and-then ! (load ! (from ! (stop !)) (look ! 20 refl)) (no-more !)) (λ bs v₇ gb e₃.
-        land ! (from ! (stop !)) (init ! 17 refl (array-typed R (LL.lawful E.the-type E′.the-laws 𝓤 H A W .typed) 64 bs (v₇ ∷ []) gb .0)) $
-        assigns ! (addr ! (from ! (fld ! refl (hop ! (look-in ! 31 (sub ! 0 refl (whole !))) (stop !))))) (from ! (stop !)) (init ! 9 refl (tt, tt)) $
-        assigns ! (agg ! (and-then ! (load ! (from ! (stop !)) (look ! 9 refl)) (and-then ! (load ! (from ! (fld ! refl (stop !))) (look-in ! 31 (sub ! 1 refl (whole !)))) (no-more !))))
-        (from ! (stop !)) (init ! 7 refl (tt, (tt, (record { fits = gn .0 }, tt)))) $
-        -- the slice is given to `copy_out` at its own lifetime, share and name
-        use3 W (raw (CopyOut 𝓤 H A mem run .pre (co-at bs v₇))) (co-asks bs v₇ gb) $
-        calls-at ! (fmOf 𝓤 H (W .laws) 𝓣) (CopyOut 𝓤 H A mem run) (known .to-co) (co-at bs v₇) (and-then ! (load ! (from ! (stop !)) (look ! 5 refl)) (and-then ! (load ! (from ! (stop !))
-        (look ! 15 refl)) (no-more !))) (λ w.
-        use1 W (later (some (λ (r′ : Unit {0}). ((‵ (flft κ q) ⊛ ‵ ftrue) ⊛ ‵ (unit .own r′ (w
-        ∷ []))) ⊛ raw (ensured 𝓤 H A co.ended (co.clauses 𝓤 H A mem run) (κ, tt) (named-at γ, (bs, tt)) tt r′)))) (id⊢ 𝓤 _) $ await ! tt $ pick ! (λ r′.
-        split ! $ move ! (1 ∷ []) $ use1 W (some (λ (zs : List Entry × (Unit {0}
-        × Unit {0})). ‵ (lasts co.ended (κ, tt) (named-at γ, (bs, tt)) zs) ⊛ raw (fact 𝓤 (zs .0 ≡ replaced bs ys)))) (id⊢ 𝓤 _) $ pick ! (λ zs.
-        split ! $ move ! (1 ∷ []) $ heard ! (zs .0 ≡ replaced bs ys) (λ e₄. fsplit ! $ fsplit ! $ move ! (1 ∷ []) $ feqL ! (λ l.
-        move ! (2 ∷ []) $ split ! $ move ! (1 ∷ []) $ peeks ! unit (Is unit) (shows 𝓤 H A unit) r′ (w ∷ []) (λ gw. let-go ! $
-        land ! (from ! (stop !)) (init ! 11 refl (nothing-lawful 𝓤 H A W .typed r′ (w ∷ []) gw .0)) $
+        (and-then ! (load ! (from ! (stop !)) (look ! 19 refl)) (no-more !)) (λ bs v₇ gb e₃.
+        land ! (from ! (stop !)) (init ! 16 refl (array-fits 𝓤 H A W bs v₇ gb)) $
+        assigns ! (addr ! (from ! (fld ! refl (hop ! (look-in ! 30 (sub ! 0 refl (whole !))) (stop !))))) (from ! (stop !)) (init ! 8 refl (tt, tt)) $
+        assigns ! (agg ! (and-then ! (load ! (from ! (stop !)) (look ! 8 refl)) (and-then ! (load ! (from ! (fld ! refl (stop !))) (look-in ! 30 (sub ! 1 refl (whole !)))) (no-more !))))
+        (from ! (stop !)) (init ! 6 refl (tt, (tt, (record { fits = gn .0 }, tt)))) $
+        -- it is given to `copy_out` at its own lifetime, share and name
+        calls-copy-out ! mem run y gn κ q bs v₇ gb (fmOf 𝓤 H (W .laws) 𝓣) (known .to-co) (and-then ! (load ! (from ! (stop !)) (look ! 4 refl)) (and-then ! (load ! (from ! (stop !))
+        (look ! 14 refl)) (no-more !))) (λ zs w l e₄ gw.
+        land ! (from ! (stop !)) (init ! 9 refl gw) $
         calls-plain ! (fmOf 𝓤 H (W .laws) 𝓣) (KeptOf 𝓤 H A mem run) (known .to-ke) (ke-at 𝓤 H A W mem run out v₆) (ke-asks 𝓤 H A W mem run out v₆ go)
         N.the-row (λ u. ensured 𝓤 H A ke.ended (ke.clauses 𝓤 H A mem run) tt (out, tt) tt u) (λ _. id⊢ 𝓤 _) (λ u. u ≡ out .kept) (λ u. exE 𝓤 _ (λ ws. snd∗ 𝓤 (sem 𝓤 H A (lasts ke.ended tt
         (out, tt) ws)) (fact 𝓤 (u ≡ out .kept))))
-        (and-then ! (load ! (from ! (stop !)) (look ! 20 refl)) (no-more !)) (λ a v₀ ga e₅.
-        land ! (from ! (stop !)) (init ! 33 refl (LL.lawful N.the-type N′.the-laws 𝓤 H A W .typed a (v₀ ∷ []) ga .0)) $
-        returns ! (look ! 33 refl) $ forget ! 7 refl $ forget ! 9 refl $ forget ! 11 refl $ forget ! 13 refl $ forget ! 15 refl $ forget ! 17 refl $ forget ! 19 refl $ forget ! 21 refl $
-        forget ! 23 refl $ forget ! 25 refl $ forget ! 27 refl $ forget ! 29 refl $ forget ! 31 refl $ forget ! 33 refl $
-        move ! (33 ∷ 34 ∷ 31 ∷ 32 ∷ 29 ∷ 30 ∷ 27 ∷ 28 ∷ 25 ∷ 26 ∷ 23 ∷ 24 ∷ 21 ∷ 22 ∷ 19 ∷ 20 ∷ 17 ∷ 18 ∷ 15 ∷ 16 ∷ 13 ∷ 14 ∷ 11 ∷ 12 ∷ 9 ∷ 10 ∷ 7 ∷ 8 ∷ []) $ frees-all ! slots p $
+        (and-then ! (load ! (from ! (stop !)) (look ! 18 refl)) (no-more !)) (λ a v₀ ga e₅.
+        land ! (from ! (stop !)) (init ! 31 refl (LL.lawful N.the-type N′.the-laws 𝓤 H A W .typed a (v₀ ∷ []) ga .0)) $
+        returns ! (look ! 31 refl) $ forget ! 5 refl $ forget ! 7 refl $ forget ! 9 refl $ forget ! 11 refl $ forget ! 13 refl $ forget ! 15 refl $ forget ! 17 refl $ forget ! 19 refl $
+        forget ! 21 refl $ forget ! 23 refl $ forget ! 25 refl $ forget ! 27 refl $ forget ! 29 refl $ forget ! 31 refl $
+        move ! (31 ∷ 32 ∷ 29 ∷ 30 ∷ 27 ∷ 28 ∷ 25 ∷ 26 ∷ 23 ∷ 24 ∷ 21 ∷ 22 ∷ 19 ∷ 20 ∷ 17 ∷ 18 ∷ 15 ∷ 16 ∷ 13 ∷ 14 ∷ 11 ∷ 12 ∷ 9 ∷ 10 ∷ 7 ∷ 8 ∷ 5 ∷ 6 ∷ []) $ frees-all ! slots p $
         keep ! (0 ∷ 1 ∷ []) $
-        by ! (exits a v₀ (zs .0) ga l (told r out bs a (zs .0) e₁ e₂ e₃ e₄ e₅ (gb .1 .0 .1)))))))))))))))))))
+        by ! (exits a v₀ zs ga l (told r out bs a zs e₁ e₂ e₃ e₄ e₅ (gb .1 .0 .1)))))))))
 
 module _ {M : Type 1} (𝓤 : URA M) (H : Heap 𝓤) (A : Atoms 𝓤) (W : Given 𝓤 H A) (mem : Memory → SProp 𝓤) (run : Routine → Fun 𝓤) (𝓣 : Tables 𝓤 H) (known : Known 𝓤 H A mem run 𝓣) where
   walks : Walks 𝓤 H A f.ended stayed (WpFn 𝓤 H (𝓣 .C) (𝓣 .Λ) code.function) (f.clauses 𝓤 H A mem run)

@@ -5,7 +5,7 @@ use borrow.Author.Needs.{needs}
 use native.Mathlib.Omega.{arith}
 use Rattle.notes.specs.Steps.{stated, metIn, stepped}
 use Rattle.reader.specs.Reader.{itemAt}
-use Rattle.records.proofs.Areas.{Filling, fill-begins, fill-ends, part-fits, part-long, never-stops, fill-on}
+use Rattle.records.proofs.Areas.{Filling, fill-begins, fill-ends, part-fits, part-long, fill-stops, fill-on}
 use Rattle.records.proofs.fill.Statement.{statement}
 use Rattle.records.proofs.fill.Tie as tie
 
@@ -39,7 +39,7 @@ returns c =
     let the-loop = c .before .before .before .before .before .loop in
     let the-loop-test = c .before .before .before .before .loop-test in
     let the-item = c .before .before .before .item in
-    never-stops (a .m .now) (a .count) (a .first) (a .above) (a .area .now) (the-pre) (the-loop .i) (the-loop .at) (the-loop .area) (the-loop .inv) (the-loop-test .taken)
+    fill-stops (a .m .now) (a .count) (a .first) (a .above) (a .area .now) (the-pre) (the-loop .i) (the-loop .at) (the-loop .area) (the-loop .inv) (the-loop-test .taken)
     (stepped (the-item .result)) (the-item .ensures .0 ∙ ap (λ v. itemAt v (a .m .now) (the-loop .at)) (c .before .before .before .before .before .before .version-of .ensures)) _ _ (ap (λ x. metIn x (the-item .result .state)) (c .enum-told .given .1))
 
 enum-told-2 : tie.Need-enum-told-2 Inv-loop μ-loop

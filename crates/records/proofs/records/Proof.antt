@@ -1,5 +1,6 @@
 -- `records::records` meets its contract: the judge's refusal, no room, and the records.
-use Rattle.records.proofs.Areas.{no-room, has-room, filled-up, refused-with, surveyed-with, answered-with}
+use Rattle.records.proofs.Walk.{surveyed-with}
+use Rattle.records.proofs.Areas.{no-room, has-room, filled-up, refused-with, answered-with}
 use borrow.Author.Needs.{needs}
 use Rattle.records.proofs.records.Statement.{statement}
 use Rattle.records.proofs.records.Tie as tie
@@ -22,7 +23,7 @@ returns c =
     let r = c .before .before .before .before .before .before .before .before .read in
     let i = a .index .now in
     let y = answered-with i (a .m .now) (a .area .now) (r .result) (r .ensures .0) _ _ (c .before .before .v2 .given .1) _ _
-    (no-room (a .m .now) (a .area .now) (r .result) (surveyed-with i (a .m .now) (a .area .now) (r .result) (r .ensures .0) _ _ (c .before .before .v2 .given .1)) _ _ (c .before .before .v2 .given .1)
+    (no-room (a .m .now) (a .area .now) (r .result) (surveyed-with i (a .m .now) (r .result) (r .ensures .0) _ _ (c .before .before .v2 .given .1)) _ _ (c .before .before .v2 .given .1)
     (c .if1 .taken)) in
     (y .0, y .1, r .ensures .1)
 
@@ -30,7 +31,7 @@ fill-requires : tie.Need-fill-requires
 fill-requires c κs =
     let a = c .before .before .before .before .before .before .before .before .before .before .before .before .before .before .args in
     let r = c .before .before .before .before .before .before .before .before .before .read in
-    has-room (a .m .now) (a .area .now) (r .result) (surveyed-with (a .index .now) (a .m .now) (a .area .now) (r .result) (r .ensures .0) _ _ (c .before .before .before .v2 .given .1)) _ _ (c .before .before .before .v2 .given .1)
+    has-room (a .m .now) (a .area .now) (r .result) (surveyed-with (a .index .now) (a .m .now) (r .result) (r .ensures .0) _ _ (c .before .before .before .v2 .given .1)) _ _ (c .before .before .before .v2 .given .1)
     (c .before .if1 .left)
 
 same-length-2 : tie.Need-same-length-2
@@ -55,7 +56,7 @@ returns-3 c =
     let r = c .before .before .before .before .before .before .before .before .before .before .before .before .read in
     let i = a .index .now in
     let y = answered-with i (a .m .now) (a .area .now) (r .result) (r .ensures .0) _ _ (c .before .before .before .before .before .before .v2 .given .1) _ _
-    (filled-up (a .m .now) (a .area .now) (r .result) (surveyed-with i (a .m .now) (a .area .now) (r .result) (r .ensures .0) _ _ (c .before .before .before .before .before .before .v2 .given .1)) _ _ (c .before .before .before .before .before .before .v2 .given .1)
+    (filled-up (a .m .now) (a .area .now) (r .result) (surveyed-with i (a .m .now) (r .result) (r .ensures .0) _ _ (c .before .before .before .before .before .before .v2 .given .1)) _ _ (c .before .before .before .before .before .before .v2 .given .1)
     (c .before .before .before .before .if1 .left) _ (c .before .before .fill .ensures)) in
     (y .0, y .1, r .ensures .1)
 

@@ -1,0 +1,10 @@
+pub mod Calls
+pub mod Runs
+pub mod Tables
+pub mod Messages
+pub mod Enters
+pub mod Ends
+pub mod Records
+pub mod Steps
+pub mod Loop
+pub mod One

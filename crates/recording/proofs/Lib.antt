@@ -1,0 +1,4 @@
+pub mod Days
+pub mod Stamps
+pub mod Fields
+pub mod One

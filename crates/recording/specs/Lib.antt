@@ -1,0 +1,3 @@
+pub mod Instant
+pub mod Record
+pub mod Cases

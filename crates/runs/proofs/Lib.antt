@@ -1,0 +1,4 @@
+pub mod Wide
+pub mod Eight
+pub mod Calls
+pub mod Table

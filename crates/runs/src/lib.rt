@@ -1,0 +1,1 @@
+// Laws of a day played back; no code.
