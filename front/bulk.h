@@ -3,7 +3,7 @@
  * it is read as the version that its root names).
  * docs/FACE.md tells how to link it, docs/REFUSALS.md what each refusal number means, docs/PROMISES.md what is proved.
  *
- * Each function takes any bytes, always ends, and writes all three words of the answer:
+ * Each function takes any bytes, always ends, and writes all three words of the answer (bulk_play, at the end, ten):
  *
  *     0, and two values          it holds
  *     number, place, 0           it is refused
@@ -136,6 +136,42 @@ void bulk_book_total(const bulk_numbers *numbers, uint64_t answer[BULK_ANSWER]);
 
 /* Whether an entry and a withdrawal take what is lent for a book: 0, 0, 0; or 29, 0, 0. */
 void bulk_book_check(const bulk_entry *entries, size_t places, const bulk_numbers *numbers, uint64_t answer[BULK_ANSWER]);
+
+/* ---- Playback: a day is rerun from its recording.
+ *
+ * The messages lie one after another in one buffer; ends[i] is where message i ends in it, and the next one begins. Bytes past the
+ * last end are not read. Each record that enters is matched with the next message, whose key must be the record's. */
+
+/* The bytes of one record of a recording, which has no header.
+ *
+ *     from  bytes
+ *        0     25  time: YYYY-MM-DDThh:mm:ss, then + or - and hh:mm, at most 14:00; no fraction, no Z
+ *       25      1  E, a bulk is entered, or W, a bulk is withdrawn
+ *       26      4  key: service, CORE or B2B
+ *       30     11       BIC of the instructing agent, in the wider form of pacs.003.001.08
+ *       41     10       settlement date
+ *       51     12       MsgId, at most 12 bytes
+ *       63      1  LF
+ *
+ * Service, BIC and MsgId have spaces behind them, up to their length. */
+#define BULK_PLAYED_RECORD 64
+
+/* The words of the answer. */
+#define BULK_PLAYED 10
+
+/* The book is emptied first, whatever it is: both numbers become 0, the places keep what they held. Then each record in order makes
+ * the call that it names. The answer: 0, the number of records, then the open cents by service and sequence type: CORE FRST, CORE
+ * RCUR, CORE FNAL, CORE OOFF, B2B FRST, B2B RCUR, B2B FNAL, B2B OOFF, together the open total; the book is as after these calls made
+ * one by one.
+ *
+ * Or number, the record's number from 0, eight zeros, and the book is as before that record. First 25, then 29 for under 64 places,
+ * both with 0 as the record and entries and numbers as lent. Then of each record: 26, a field not of its kind, or a last record of
+ * under 64 bytes; 27, its time is before that of the record before, as instants; of an entry 28, no message is left, or its end is
+ * below the end before it or past the buffer; the judge's own; 28, its key is not the record's; 20, 21; of a withdrawal 22. After
+ * the last record 28 with the number of records, where messages are left over. The index is as after every call. */
+void bulk_play(const uint8_t *recording, size_t recording_length, const uint8_t *buffer, size_t buffer_length, const uint64_t *ends,
+               size_t messages, bulk_entry *entries, size_t places, bulk_numbers *numbers, uint32_t *index, size_t index_length,
+               uint64_t answer[BULK_PLAYED]);
 
 #ifdef __cplusplus
 }

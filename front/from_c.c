@@ -510,6 +510,126 @@ static void check_collapsed(const uint8_t *message, size_t length, const uint8_t
     }
 }
 
+/* A day of the example, under the MsgIds `MSG00` and so on: its messages one after another, and where each ends. */
+#define MESSAGES 3
+static uint8_t buffer[MESSAGES * 65536];
+static uint64_t ends[MESSAGES];
+
+/* Three messages of the day, the second one of B2B. */
+static void make_messages(const uint8_t *message, size_t length)
+{
+    size_t at, i, written = 0;
+    for (i = 0; i < MESSAGES; i++) {
+        uint8_t *one = buffer + written;
+        memcpy(one, message, length);
+        at = behind(message, "<MsgId>");
+        one[at + 3] = '0';
+        one[at + 4] = (uint8_t)('0' + i);
+        written += length;
+        if (i == 1) {
+            at = behind(message, "<LclInstrm><Cd>");
+            memmove(one + at + 3, one + at + 4, length - at - 4);
+            memcpy(one + at, "B2B", 3);
+            written--;
+        }
+        ends[i] = written;
+    }
+}
+
+/* A record by the offsets of the header. */
+static void make_record(uint8_t *record, const char *time, char call, const char *service, size_t i)
+{
+    memset(record, ' ', BULK_PLAYED_RECORD);
+    memcpy(record, time, 25);
+    record[25] = (uint8_t)call;
+    memcpy(record + 26, service, strlen(service));
+    memcpy(record + 30, "BANKDEFF", 8);
+    memcpy(record + 41, "2010-12-03", 10);
+    memcpy(record + 51, "MSG00", 5);
+    record[55] = (uint8_t)('0' + i);
+    record[63] = '\n';
+}
+
+/* Plays so many bytes of a recording, and holds the answer: CORE RCUR and B2B RCUR are the only cents that may be open. */
+static void play(const char *what, const uint8_t *recording, size_t length, uint64_t number, uint64_t record, uint64_t core,
+                 uint64_t b2b)
+{
+    const uint64_t must[BULK_PLAYED] = {number, record, 0, core, 0, 0, 0, b2b, 0, 0};
+    uint64_t answer[BULK_PLAYED];
+    memset(answer, 7, sizeof answer);
+    fill(13);
+    bulk_play(recording, length, buffer, sizeof buffer, ends, MESSAGES, open_bulks.entries, PLACES, &numbers, lent, BULK_INDEX,
+              answer);
+    hold_index(what, 13, BULK_INDEX, 1);
+    if (memcmp(answer, must, sizeof must) != 0) {
+        printf("%s: %llu %llu, or its table, is not as it must be\n", what, (unsigned long long)answer[0],
+               (unsigned long long)answer[1]);
+        wrong++;
+    }
+}
+
+/* A book with something in it, as it is lent to playback. */
+static void lend_book(void)
+{
+    memset(open_bulks.bytes, 7, sizeof open_bulks);
+    memset(due.bytes, 7, sizeof due);
+    numbers.open = numbers.total = 7;
+}
+
+/* The hour that October has twice: three bulks are entered, and the first one goes, which stays behind the open ones. */
+static void check_play(const uint8_t *message, size_t length)
+{
+    static const char *const times[] = {"2026-10-25T02:30:00+02:00", "2026-10-25T02:30:00+01:00"};
+    static uint8_t records[4 * BULK_PLAYED_RECORD];
+    make_messages(message, length);
+    make_record(records, times[0], 'E', "CORE", 0);
+    make_record(records + 64, times[0], 'E', "B2B", 1);
+    make_record(records + 128, times[1], 'E', "CORE", 2);
+    make_record(records + 192, times[1], 'W', "CORE", 0);
+    lend_book();
+    play("play", records, sizeof records, 0, 4, 1234, 1234);
+    make_entry(&due, 0, 1, 1234);
+    memset(due.bytes, ' ', 4);
+    memcpy(due.bytes, "B2B", 3);
+    make_entry(&due, 1, 2, 1234);
+    make_entry(&due, 2, 2, 1234);
+    hold_book("play", 2, 2468);
+    lend_book();
+    play("play, a short last record", records, 65, 26, 1, 0, 0);
+    make_entry(&due, 0, 0, 1234);
+    hold_book("play, a short last record", 1, 1234);
+    play("play, messages left over", records, 64, 28, 1, 0, 0);
+    hold_book("play, messages left over", 1, 1234);
+    memcpy(records + 64, times[1], 25);
+    memcpy(records + 128, times[0], 25);
+    play("play, the hour backwards", records, sizeof records, 27, 2, 0, 0);
+    records[26] = 'B';
+    play("play, no service", records, sizeof records, 26, 0, 0, 0);
+    memcpy(records + 26, "B2B ", 4);
+    play("play, another key", records, sizeof records, 28, 0, 0, 0);
+    ends[0]--;
+    play("play, a message cut", records, sizeof records, 3, 0, 0, 0);
+    ends[0] = UINT64_MAX;
+    play("play, an end past the buffer", records, sizeof records, 28, 0, 0, 0);
+}
+
+/* 25 before 29, and both leave the book as lent. */
+static void check_play_lent(void)
+{
+    uint64_t answer[BULK_PLAYED];
+    lend_book();
+    fill(17);
+    bulk_play(buffer, 0, buffer, 0, ends, 0, open_bulks.entries, BULK_BOOK - 1, &numbers, lent, BULK_INDEX - 1, answer);
+    hold("play, an index too short", answer, 25, 0, 0);
+    hold_index("play, an index too short", 17, BULK_INDEX - 1, 0);
+    bulk_play(buffer, 0, buffer, 0, ends, 0, open_bulks.entries, BULK_BOOK - 1, &numbers, lent, BULK_INDEX, answer);
+    hold("play, 63 places", answer, 29, 0, 0);
+    hold_book("play, as lent", 7, 7);
+    bulk_play(buffer, 0, buffer, 0, ends, 0, open_bulks.entries, BULK_BOOK, &numbers, lent, BULK_INDEX, answer);
+    hold("play, nothing", answer, 0, 0, 0);
+    hold_book("play, nothing", 0, 0);
+}
+
 int main(int words, char **word)
 {
     static uint8_t message[65536], record[BULK_RECORD + 1];
@@ -532,5 +652,7 @@ int main(int words, char **word)
     check_no_instruction(message, length, record);
     check_plain(message, length);
     check_collapsed(message, length, record);
+    check_play(message, length);
+    check_play_lent();
     return wrong ? 1 : 0;
 }

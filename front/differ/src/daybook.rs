@@ -66,7 +66,7 @@ impl Library {
 }
 
 /// The bytes of entries: each key and its cents, and not what is unused.
-fn bytes(entries: &[Entry]) -> Vec<u8> {
+pub(crate) fn bytes(entries: &[Entry]) -> Vec<u8> {
     entries
         .iter()
         .flat_map(|entry| entry.key.into_iter().chain(entry.cents.to_le_bytes()))
@@ -80,7 +80,7 @@ pub struct Plain {
 }
 
 /// A key as the plain day book has it.
-fn plain_key(key: &Key) -> plain::book::Key {
+pub(crate) fn plain_key(key: &Key) -> plain::book::Key {
     let part = |from: usize| key[from..].iter().copied();
     let mut parts = (part(0), part(4), part(39), part(50));
     let next = |part: &mut dyn Iterator<Item = u8>| part.next().expect("a key has 60 bytes");
@@ -126,12 +126,17 @@ impl Plain {
 
     /// The entries, byte for byte.
     fn lent(&self) -> Vec<u8> {
-        let bytes = |entry: &plain::book::Entry| {
-            let plain::book::Key { service, msg_id, bic, date } = entry.key;
-            [&service[..], &msg_id, &bic, &date, &entry.cents.to_le_bytes()].concat()
-        };
-        self.entries.iter().flat_map(bytes).collect()
+        plain_bytes(&self.entries)
     }
+}
+
+/// The bytes of the plain day book's entries, in the order of the library's.
+pub(crate) fn plain_bytes(entries: &[plain::book::Entry]) -> Vec<u8> {
+    let bytes = |entry: &plain::book::Entry| {
+        let plain::book::Key { service, msg_id, bic, date } = entry.key;
+        [&service[..], &msg_id, &bic, &date, &entry.cents.to_le_bytes()].concat()
+    };
+    entries.iter().flat_map(bytes).collect()
 }
 
 /// What is known of a day: whether what is lent is a book, and the list after each call. The bulks'

@@ -152,18 +152,18 @@ fn any_key(random: &mut Random) -> Key {
 }
 
 /// An entry of any bytes.
-fn any_entry(random: &mut Random) -> Entry {
+pub(crate) fn any_entry(random: &mut Random) -> Entry {
     let unused = std::array::from_fn(|_| random.bits() as u8);
     Entry { key: any_key(random), unused, cents: random.bits() }
 }
 
 /// So many places, which hold anything.
-fn places(count: usize, random: &mut Random) -> Vec<Entry> {
+pub(crate) fn places(count: usize, random: &mut Random) -> Vec<Entry> {
     (0..count).map(|_| any_entry(random)).collect()
 }
 
 /// How many places a book has: mostly just as many as it must.
-fn enough(random: &mut Random) -> usize {
+pub(crate) fn enough(random: &mut Random) -> usize {
     match random.below(4) {
         0 => random.between(BOOK + 1, BOOK + 9),
         1 => random.between(BOOK + 10, 3 * BOOK),
@@ -172,7 +172,7 @@ fn enough(random: &mut Random) -> usize {
 }
 
 /// A small message, by chance indented or spaced out.
-fn message(random: &mut Random) -> Message {
+pub(crate) fn message(random: &mut Random) -> Message {
     let (items, small) = (random.between(1, 3), !random.once_in(8));
     accepted(&Plan { items, small, ..Plan::by_chance(random, 1) }, random)
 }
@@ -189,12 +189,12 @@ fn whole(message: &Message) -> Bulk {
 }
 
 /// The parts that are LclInstrm, of the header or of the items.
-fn services(message: &Message) -> Vec<usize> {
+pub(crate) fn services(message: &Message) -> Vec<usize> {
     message.parts_that(|part| part.what == What::Value(INSTRUMENTS))
 }
 
 /// A message that the judge is known to refuse.
-fn refused(mut message: Message, random: &mut Random) -> Bulk {
+pub(crate) fn refused(mut message: Message, random: &mut Random) -> Bulk {
     match random.below(5) {
         0 => Bulk { bytes: Vec::new(), known: Err((3, 0)) },
         1 => Bulk { bytes: b"<?xml>".to_vec(), known: Err((2, 0)) },
@@ -221,7 +221,7 @@ fn refused(mut message: Message, random: &mut Random) -> Bulk {
 
 /// A message with one part of its key otherwise, however little; or with its key, and PmtTpInf at the
 /// other place, or in the other version, or all else otherwise.
-fn relative(mut message: Message, random: &mut Random) -> Message {
+pub(crate) fn relative(mut message: Message, random: &mut Random) -> Message {
     let ways = ["MsgId", "BIC", "IntrBkSttlmDt", "LclInstrm", "PmtTpInf", "version", "key"];
     match random.pick(&ways) {
         "LclInstrm" => {

@@ -38,25 +38,25 @@ const BESIDE: usize = 5;
 
 /// An index between numbers that are not lent.
 #[derive(Clone)]
-struct Index {
+pub(crate) struct Index {
     numbers: Vec<u32>,
 }
 
 impl Index {
     /// Of this length, with rubbish of this sort.
-    fn new(length: usize, sort: usize) -> Index {
+    pub(crate) fn new(length: usize, sort: usize) -> Index {
         let all = length + 2 * BESIDE;
         Index { numbers: (0..all).map(|at| rubbish(sort % SORTS, at)).collect() }
     }
 
     /// The lent part.
-    fn lent(&mut self) -> &mut [u32] {
+    pub(crate) fn lent(&mut self) -> &mut [u32] {
         let end = self.numbers.len() - BESIDE;
         &mut self.numbers[BESIDE..end]
     }
 
     /// As it must be after a call: "all entries are zero on return, but after 25".
-    fn afterwards(mut self) -> Index {
+    pub(crate) fn afterwards(mut self) -> Index {
         if self.lent().len() >= INDEX {
             self.lent().fill(0);
         }
@@ -65,7 +65,7 @@ impl Index {
 
     /// The first of its numbers, and of those beside it, that is other than in another, with what each
     /// has there.
-    fn differs(&self, other: &Index) -> Option<(usize, u32, u32)> {
+    pub(crate) fn differs(&self, other: &Index) -> Option<(usize, u32, u32)> {
         let pairs = self.numbers.iter().zip(&other.numbers).enumerate();
         let mut pairs = pairs.map(|(at, (one, other))| (at, *one, *other));
         pairs.find(|(_, one, other)| one != other)

@@ -19,6 +19,7 @@
 //!   laws held against each other; those about the plain form; that about equal records; those about the
 //!   lent index.
 //! - [`days`], [`daybook`]: days of the day book, and the questions about them.
+//! - [`plays`], [`playback`]: days to be played back, and the questions about them.
 //! - [`tally`]: what a run has seen; a difference, printed so that it can be run again.
 //! - [`usual`], [`bench`]: messages like those that are sent, and the stopwatch.
 
@@ -37,6 +38,8 @@ pub mod indexed;
 pub mod kind;
 pub mod letters;
 pub mod message;
+pub mod playback;
+pub mod plays;
 pub mod random;
 pub mod recorded;
 pub mod slips;

@@ -3,12 +3,15 @@
 
 #![forbid(unsafe_code)]
 
+use ::face::book::Numbers;
 use differ::ask::{area_lengths, verdict_words, Asker};
 use differ::bench::{bench, Machine};
 use differ::damage::{self, Case, Known, Twin};
 use differ::random::Random;
 use differ::tally::Name;
-use differ::{days, face, form, slips, spellings, sweep, twice, twins, typed, value, versions};
+use differ::{
+    days, face, form, plays, slips, spellings, sweep, twice, twins, typed, value, versions,
+};
 use std::process::ExitCode;
 
 const USAGE: &str = "\
@@ -26,6 +29,8 @@ differ plain N SEED           N messages with areas of all sizes for the plain f
 differ twins N SEED           N pairs of messages, of the same plain form or not: that, records
 differ spellings SEED         every spelling of small messages: plain form, records
 differ days N SEED            N days of the day book, call by call
+differ play N SEED            N days played back from their recordings
+differ play-sweep SEED        every byte of a record set to every other
 differ limits                 messages at the limits of length and of items
 differ one-slot               10,000 TxIds that meet in the index: the judge alone
 differ large N SEED           N messages of up to 10,000 items
@@ -43,6 +48,13 @@ fn main() -> ExitCode {
     let told = match words[..] {
         ["again", "days", seed, number] => numbers(seed, number).map(again_day),
         ["show", "days", seed, number] => numbers(seed, number).map(show_day),
+        ["again", run @ ("play" | "play-sweep"), seed, number] => {
+            numbers(seed, number).and_then(|(seed, number)| again_play(run, seed, number))
+        }
+        ["show", run @ ("play" | "play-sweep"), seed, number] => {
+            let play = numbers(seed, number).and_then(|(seed, number)| one_play(run, seed, number));
+            play.map(|play| show(play.text().as_bytes()))
+        }
         ["again", run, seed, number] => numbers(seed, number)
             .and_then(|(seed, number)| one(run, seed, number, again_value, again_message)),
         ["show", run, seed, number] => numbers(seed, number)
@@ -84,6 +96,7 @@ fn swept(run: &str, seed: u64) -> Option<ExitCode> {
         "typed" => type_sweep(seed),
         "versions" => version_sweep(seed),
         "twice" => twice_sweep(seed),
+        "play-sweep" => play_sweep(seed),
         _ => return None,
     })
 }
@@ -99,6 +112,7 @@ fn counted(run: &str, n: u64, seed: u64) -> Option<ExitCode> {
         "twins" => twinned(n, seed),
         "large" => large(n, seed),
         "days" => booked(n, seed),
+        "play" => played(n, seed),
         _ => return None,
     })
 }
@@ -113,6 +127,7 @@ fn all(times: u64) -> ExitCode {
         runs.push(type_sweep(seed));
         runs.push(version_sweep(seed));
         runs.push(twice_sweep(seed));
+        runs.push(play_sweep(seed));
     }
     runs.push(values(100_000 * times, 1));
     runs.push(messages(20_000 * times, 1));
@@ -121,6 +136,7 @@ fn all(times: u64) -> ExitCode {
     runs.push(plain_forms(2_000 * times, 1));
     runs.push(twinned(10_000 * times, 1));
     runs.push(booked(1_000 * times, 1));
+    runs.push(played(3_000 * times, 1));
     runs.push(limits());
     runs.push(one_slot());
     runs.push(large(6 * times, 1));
@@ -311,6 +327,25 @@ fn booked(n: u64, seed: u64) -> ExitCode {
     asker.tally.end()
 }
 
+/// So many days played back.
+fn played(n: u64, seed: u64) -> ExitCode {
+    let mut asker = Asker::new(format!("play {n} {seed}"));
+    for number in 0..n {
+        let play = plays::play(seed, number);
+        asker.play(&Name { run: "play", seed, number, sort: play.sort }, &play);
+    }
+    asker.tally.end()
+}
+
+/// Every byte of a record set to every other.
+fn play_sweep(seed: u64) -> ExitCode {
+    let mut asker = Asker::new(format!("play-sweep {seed}"));
+    plays::sweep(seed, |number, play| {
+        asker.play(&Name { run: "play-sweep", seed, number, sort: play.sort }, &play);
+    });
+    asker.tally.end()
+}
+
 /// Messages at the limits, with an area of just the room that the most items take.
 fn limits() -> ExitCode {
     let mut asker = Asker::new("limits".into());
@@ -353,7 +388,7 @@ fn large(n: u64, seed: u64) -> ExitCode {
 }
 
 /// A sample, and what its verdict must be.
-const SAMPLES: [(&str, Known); 14] = [
+const SAMPLES: [(&str, Known); 16] = [
     ("evening.xml", Known::Accepted { count: 5, cents: 202_490 }),
     ("evening-indented.xml", Known::Accepted { count: 5, cents: 202_490 }),
     ("evening-padded.xml", Known::Accepted { count: 5, cents: 202_490 }),
@@ -368,7 +403,20 @@ const SAMPLES: [(&str, Known); 14] = [
     ("partner.xml", Known::Accepted { count: 2, cents: 196_550 }),
     ("partner-both.xml", Known::Refused { number: 23, place: 2321 }),
     ("partner-neither.xml", Known::Refused { number: 4, place: 715 }),
+    ("october-night.xml", Known::Accepted { count: 5, cents: 202_490 }),
+    ("october-firms.xml", Known::Accepted { count: 2, cents: 196_550 }),
 ];
+
+/// The sample recordings, and what each must come to: the number, the record, the cents of CORE and of
+/// B2B by sequence type; then the number open and the open total.
+const RECORDINGS: [(&str, [u64; 10], (u64, u64)); 2] = [
+    ("october-day.rec", [0, 5, 3_780, 197_784, 895, 1_265, 0, 196_550, 0, 0], (3, 400_274)),
+    ("october-day-back.rec", [27, 2, 0, 0, 0, 0, 0, 0, 0, 0], (2, 399_040)),
+];
+
+/// The messages of both, in their order.
+const RECORDED: [&str; 4] =
+    ["october-night.xml", "october-firms.xml", "october-night.xml", "example.xml"];
 
 /// The first word of a sample's name. Samples of one word have one plain form, and no others have it.
 fn word(file: &str) -> &str {
@@ -427,7 +475,33 @@ fn samples(folder: &str) -> ExitCode {
         }
         ask(number as u64, file, bytes, known);
     }
-    asker.tally.end()
+    match sample_days(&mut asker, folder) {
+        Some(()) => asker.tally.end(),
+        None => ExitCode::from(2),
+    }
+}
+
+/// The sample recordings, played back; nothing where a file cannot be read.
+fn sample_days(asker: &mut Asker, folder: &str) -> Option<()> {
+    let (mut buffer, mut ends) = (Vec::new(), Vec::new());
+    for file in RECORDED {
+        buffer.extend(read(&format!("{folder}/{file}"))?);
+        ends.push(buffer.len() as u64);
+    }
+    for (number, (sort, words, (open, total))) in RECORDINGS.into_iter().enumerate() {
+        let play = plays::Play {
+            sort,
+            recording: read(&format!("{folder}/{sort}"))?,
+            buffer: buffer.clone(),
+            ends: ends.clone(),
+            entries: ::face::book::empty(),
+            numbers: Numbers { open: 7, total: 7 },
+            index: face::INDEX,
+            known: Some((words, Numbers { open, total })),
+        };
+        asker.play(&Name { run: "file", seed: 0, number: 200 + number as u64, sort }, &play);
+    }
+    Some(())
 }
 
 /// The bytes of a file; where it cannot be read that is told.
@@ -531,6 +605,29 @@ fn again_day((seed, number): (u64, u64)) -> ExitCode {
 /// A day as text.
 fn show_day((seed, number): (u64, u64)) -> ExitCode {
     show(days::day(seed, number).text().as_bytes())
+}
+
+/// One day of a run that is played back.
+fn one_play(run: &str, seed: u64, number: u64) -> Option<plays::Play> {
+    let mut found = None;
+    match run {
+        "play" => found = Some(plays::play(seed, number)),
+        _ => plays::sweep(seed, |at, play| {
+            if at == number {
+                found = Some(play);
+            }
+        }),
+    }
+    found
+}
+
+/// Plays a day back again, and shows it.
+fn again_play(run: &str, seed: u64, number: u64) -> Option<ExitCode> {
+    let play = one_play(run, seed, number)?;
+    println!("{}", play.text());
+    let mut asker = Asker::new(format!("{run} {seed} {number}"));
+    asker.play(&Name { run, seed, number, sort: play.sort }, &play);
+    Some(asker.tally.end())
 }
 
 /// Asks every question about a message again.

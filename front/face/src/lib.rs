@@ -1,9 +1,10 @@
 //! The C face of the proved library: the only unsafe code towards it. (The command has some of its
 //! own towards the system, front/bulk/src/system.rs.) The functions here are safe: each lends a slice
-//! for the call, and three words for the answer. Whatever judges a message lends an index too: one of
-//! its own, or, where its name ends in `_with`, the caller's.
+//! for the call, and three words for the answer, or ten for that of playback. Whatever judges a message
+//! lends an index too: one of its own, or, where its name ends in `_with`, the caller's.
 
 pub mod book;
+pub mod play;
 
 use std::io::Write;
 
@@ -90,17 +91,26 @@ extern "C" {
     );
 }
 
-/// What the three words hold before the call, and the guard words beside them before and after it.
-/// No answer has it.
+/// What the words of an answer hold before the call, and the guard words beside them before and after
+/// it. No answer has it.
 const UNWRITTEN: u64 = u64::MAX - 1;
 
-/// Lends three words between two guards and answers them. Where a guard was overwritten, or a word
+/// The words of an answer between two guards.
+#[repr(C)]
+struct Guarded<const N: usize> {
+    before: u64,
+    answer: [u64; N],
+    after: u64,
+}
+
+/// Lends so many words between two guards and answers them. Where a guard was overwritten, or a word
 /// left unwritten, it ends the program: what the memory holds then cannot be believed.
-fn answered(call: impl FnOnce(*mut u64)) -> Words {
-    let mut words = [UNWRITTEN; 5];
-    // A pointer into all five, so that a write beside the three is seen and not reasoned away.
-    call(words.as_mut_ptr().wrapping_add(1));
-    let [before, answer @ .., after] = words;
+fn answered<const N: usize>(call: impl FnOnce(*mut u64)) -> [u64; N] {
+    let mut words = Guarded { before: UNWRITTEN, answer: [UNWRITTEN; N], after: UNWRITTEN };
+    // A pointer into all of them, so that a write beside the answer is seen and not reasoned away.
+    let all: *mut Guarded<N> = &mut words;
+    call(all.cast::<u64>().wrapping_add(1));
+    let Guarded { before, answer, after } = words;
     if before != UNWRITTEN || after != UNWRITTEN {
         end("it wrote beside the answer");
     }
@@ -112,7 +122,10 @@ fn answered(call: impl FnOnce(*mut u64)) -> Words {
 
 /// Lends an index too. Where it has numbers enough, all of them are 0 afterwards, whatever they were;
 /// where it has not, it is as lent. It ends the program where that is otherwise.
-fn answered_with(index: &mut [u32], call: impl FnOnce(*mut u32, usize, *mut u64)) -> Words {
+fn answered_with<const N: usize>(
+    index: &mut [u32],
+    call: impl FnOnce(*mut u32, usize, *mut u64),
+) -> [u64; N] {
     let is_short = index.len() < INDEX;
     let lent = if is_short { index.to_vec() } else { Vec::new() };
     let (numbers, length) = (index.as_mut_ptr(), index.len());

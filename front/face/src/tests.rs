@@ -5,6 +5,20 @@ use std::process::Command;
 
 const EXAMPLE: &[u8] = include_bytes!("../../../samples/example.xml");
 
+/// Writes the ten words of playback, or what a wrong library might write.
+fn played(how: &str) -> play::Played {
+    // SAFETY: `answered` lends ten words between two others, so these twelve may be written.
+    answered(|answer| unsafe {
+        (0..10).for_each(|word| answer.offset(word).write(word as u64));
+        match how {
+            "before ten" => answer.offset(-1).write(7),
+            "behind ten" => answer.offset(10).write(7),
+            "the tenth not" => answer.offset(9).write(UNWRITTEN),
+            _ => {}
+        }
+    })
+}
+
 /// Writes the three words, or what a wrong library might write.
 fn written(how: &str) -> Words {
     // SAFETY: `answered` lends three words between two others, so these five may be written.
@@ -38,6 +52,7 @@ fn cleared(numbers: usize, but: Option<usize>) -> Words {
 /// What a wrong library does, by its name.
 fn wrong(how: &str) -> Words {
     match how {
+        _ if how.contains("ten") => [played(how)[9], 0, 0],
         "first left" => cleared(INDEX, Some(0)),
         "last left" => cleared(INDEX, Some(INDEX - 1)),
         "last of more left" => cleared(INDEX + 1, Some(INDEX)),
@@ -62,6 +77,7 @@ fn a_wrong_library_ends_the_program() {
         return;
     }
     assert_eq!(written("right"), [0, 2, 246]);
+    assert_eq!(played("right"), [0, 1, 2, 3, 4, 5, 6, 7, 8, 9]);
     assert_eq!((cleared(INDEX, None), cleared(INDEX + 1, None)), ([0, 1, 2], [0, 1, 2]));
     assert_eq!(ended("right"), (true, String::new()));
     for (how, why) in [
@@ -69,6 +85,9 @@ fn a_wrong_library_ends_the_program() {
         ("behind", "it wrote beside the answer"),
         ("not all", "it wrote no whole answer"),
         ("nothing", "it wrote no whole answer"),
+        ("before ten", "it wrote beside the answer"),
+        ("behind ten", "it wrote beside the answer"),
+        ("the tenth not", "it wrote no whole answer"),
         ("first left", "it left the index uncleared"),
         ("last left", "it left the index uncleared"),
         ("last of more left", "it left the index uncleared"),

@@ -13,7 +13,7 @@ pub const MOST: usize = 64;
 const OPEN_ALREADY: Refusal = (20, 0);
 const FULL: Refusal = (21, 0);
 const NOT_OPEN: Refusal = (22, 0);
-const NO_BOOK: Refusal = (29, 0);
+pub(crate) const NO_BOOK: Refusal = (29, 0);
 
 /// "A bulk's key, after document 001, is service (its items' LclInstrm), MsgId, instructing BIC and
 /// settlement date." With PmtTpInf in the header "the day book's service is the header's". Each value
@@ -129,7 +129,7 @@ fn bulk(message: &[u8]) -> Result<Entry, Refusal> {
 /// The key of an accepted message. No value holds a `<`, so a tag is found wherever it stands; the
 /// first FinInstnId is that of InstgAgt and holds its BIC alone, whatever the version calls it, and
 /// the first LclInstrm is the header's or that of all items.
-fn key(message: &[u8]) -> Key {
+pub(crate) fn key(message: &[u8]) -> Key {
     Key {
         service: padded(value_behind(behind(message, b"<LclInstrm>"), b"<Cd>")),
         msg_id: padded(value_behind(message, b"<MsgId>")),
@@ -151,7 +151,7 @@ fn value_behind<'m>(message: &'m [u8], tag: &[u8]) -> &'m [u8] {
 }
 
 /// A value with spaces behind it.
-fn padded<const N: usize>(value: &[u8]) -> [u8; N] {
+pub(crate) fn padded<const N: usize>(value: &[u8]) -> [u8; N] {
     let mut field = [b' '; N];
     field[..value.len()].copy_from_slice(value);
     field

@@ -11,6 +11,7 @@
 pub mod book;
 mod form;
 mod message;
+pub mod play;
 mod record;
 mod value;
 

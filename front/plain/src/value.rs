@@ -215,7 +215,7 @@ fn is_date(value: &[u8]) -> Option<bool> {
 
 /// The days of a month, 0 for a month that is none.
 #[inline]
-fn days_in(year: u32, month: u32) -> u32 {
+pub(crate) fn days_in(year: u32, month: u32) -> u32 {
     match month {
         1 | 3 | 5 | 7 | 8 | 10 | 12 => 31,
         4 | 6 | 9 | 11 => 30,
