@@ -20,7 +20,7 @@ struct Book {
 
 /// What a call answered.
 #[derive(Debug, PartialEq, Eq)]
-enum Answer {
+pub enum Answer {
     Entered { cents: u64 },
     Withdrawn { cents: u64 },
     Refused { number: u64, place: u64 },
@@ -31,14 +31,15 @@ enum Answer {
 }
 
 /// A call that was made, and the book behind it.
-struct Made<'a> {
-    line: &'a Line,
-    answer: Answer,
+pub struct Made<'a> {
+    /// Of a script; a call on a day has no number.
+    pub line: &'a Line,
+    pub answer: Answer,
     /// Of an entry: the message as `judge` has it.
-    judged: Option<Judged<'a>>,
-    open: &'a [Entry],
+    pub judged: Option<Judged<'a>>,
+    pub open: &'a [Entry],
     /// The open total.
-    cents: u64,
+    pub cents: u64,
 }
 
 /// Makes the calls of a script one after the other, and tells what each came to.
@@ -54,7 +55,12 @@ pub fn book(call: &Call, script: &OsStr) -> Result<Status, Trouble> {
         let made = book.make(line, &message)?;
         out::put(&match call.form {
             Form::Plain => made.plain(),
-            Form::Json => format!("{}\n", made.json(call.language)),
+            Form::Json => {
+                let listed: &[Entry] = if made.answer == Answer::List { made.open } else { &[] };
+                let bulks =
+                    listed.iter().enumerate().map(|(at, entry)| entry_json(at, entry).end());
+                format!("{}\n", made.json(call.language).list("bulks", bulks).end())
+            }
             _ => made.words(call.language),
         })?;
         status = status.worse(made.status());
@@ -63,12 +69,12 @@ pub fn book(call: &Call, script: &OsStr) -> Result<Status, Trouble> {
 }
 
 /// The key that a line names. Where a part is longer than any bulk's, it is one that no bulk has.
-fn key(named: &Named) -> Key {
+pub fn key(named: &Named) -> Key {
     book::key([&named[0], &named[1], &named[2], &named[3]]).unwrap_or([0; KEY])
 }
 
 /// The key of a message that was read.
-fn own_key(judged: &Judged) -> [Vec<u8>; 4] {
+pub fn own_key(judged: &Judged) -> [Vec<u8>; 4] {
     let header = &judged.contents.header;
     [judged.contents.instrument(), header.msg_id, header.bic, header.settlement_date]
         .map(<[u8]>::to_vec)
@@ -145,7 +151,7 @@ impl Book {
 
 impl Made<'_> {
     /// The exit status of the call.
-    fn status(&self) -> Status {
+    pub fn status(&self) -> Status {
         match self.answer {
             Answer::Refused { .. } => Status::Refused,
             _ => Status::Accepted,
@@ -153,7 +159,7 @@ impl Made<'_> {
     }
 
     /// For scripts: one line, of a list one for each open bulk.
-    fn plain(&self) -> String {
+    pub fn plain(&self) -> String {
         let (open, total) = (self.open.len(), self.cents);
         match self.answer {
             Answer::Entered { .. } => format!("entered {open} {total}\n"),
@@ -172,7 +178,7 @@ impl Made<'_> {
     }
 
     /// In words: one line, of an entry with the judge's warnings below it, of a list a table.
-    fn words(&self, language: Language) -> String {
+    pub fn words(&self, language: Language) -> String {
         let subject = self.subject();
         let money = |cents| language.money(cents);
         match self.answer {
@@ -207,12 +213,8 @@ impl Made<'_> {
 
     /// How many bulks are open, and their total in these words.
     fn open_told(&self, total: String, language: Language) -> String {
-        let open = self.open.len();
-        let bulks = if open == 1 { ("bulk", "Bulk") } else { ("bulks", "Bulks") };
-        language.say(
-            format!("open: {open} {}, {total}", bulks.0),
-            format!("offen: {open} {}, {total}", bulks.1),
-        )
+        let open = language.say("open", "offen");
+        format!("{open}: {}, {total}", bulks(self.open.len(), language))
     }
 
     /// A bulk that was entered: what is signed, what is open now, and the warnings of the judge.
@@ -243,8 +245,8 @@ impl Made<'_> {
         )
     }
 
-    /// One object, with every key whatever the call.
-    fn json(&self, language: Language) -> String {
+    /// One object, with every key whatever the call, but the list of open bulks.
+    pub fn json(&self, language: Language) -> Object {
         let (call, file, named) = match &self.line.ask {
             Ask::Enter(file) => ("enter", file.as_bytes(), self.judged.as_ref().map(own_key)),
             Ask::Withdraw(named) => ("withdraw", &b""[..], Some(named.clone())),
@@ -253,7 +255,7 @@ impl Made<'_> {
             Ask::List => ("list", &b""[..], None),
         };
         let object = Object::default()
-            .number("line", self.line.number as u64)
+            .number_or_null("line", Some(self.line.number as u64).filter(|number| *number > 0))
             .text("call", call.as_bytes())
             .text_or_null("file", file);
         let named = named.unwrap_or_default();
@@ -261,17 +263,21 @@ impl Made<'_> {
         let object = object
             .number("open", self.open.len() as u64)
             .text("open_euros", euro::euros(self.cents).as_bytes());
-        let object = match &self.judged {
+        match &self.judged {
             Some(judged) => object.raw("judged", &judged.json(language).end()),
             None => object.raw("judged", "null"),
-        };
-        let listed: &[Entry] = if self.answer == Answer::List { self.open } else { &[] };
-        object.list("bulks", listed.iter().enumerate().map(entry_json)).end()
+        }
     }
 }
 
+/// `1 bulk`, `2 bulks`.
+pub fn bulks(count: usize, language: Language) -> String {
+    let word = if count == 1 { ("bulk", "Bulk") } else { ("bulks", "Bulks") };
+    format!("{count} {}", language.say(word.0, word.1))
+}
+
 /// The four keys of a key.
-fn key_json(object: Object, named: &Named) -> Object {
+pub fn key_json(object: Object, named: &Named) -> Object {
     let keys = ["service", "msg_id", "bic", "settlement_date"];
     keys.iter().zip(named).fold(object, |object, (key, part)| object.text_or_null(key, part))
 }
@@ -298,19 +304,19 @@ fn answer_json(object: Object, answer: &Answer, language: Language) -> Object {
 }
 
 /// An open bulk as an object.
-fn entry_json((at, entry): (usize, &Entry)) -> String {
+pub fn entry_json(at: usize, entry: &Entry) -> Object {
     let named = book::parts(&entry.key).map(<[u8]>::to_vec);
     let object = Object::default().number("at", at as u64);
-    key_json(object, &named).number("cents", entry.cents).end()
+    key_json(object, &named).number("cents", entry.cents)
 }
 
 /// The four parts of a key, with spaces between them.
-fn key_told(key: &Key) -> String {
+pub fn key_told(key: &Key) -> String {
     named_told(&book::parts(key).map(<[u8]>::to_vec))
 }
 
 /// The same of a key as it is named.
-fn named_told(named: &Named) -> String {
+pub fn named_told(named: &Named) -> String {
     named.each_ref().map(|part| shown(part)).join(" ")
 }
 

@@ -1,7 +1,10 @@
 //! The command line: which command, which options, which words.
 
+use crate::day;
 use crate::language::Language;
+use crate::play;
 use crate::read;
+use crate::same;
 use crate::trouble::Trouble;
 use std::ffi::{OsStr, OsString};
 use std::fs;
@@ -15,7 +18,9 @@ pub enum Command {
     Records,
     Plain,
     Same,
+    Play,
     Book,
+    Day,
     Check,
     Explain,
     Help,
@@ -39,34 +44,58 @@ pub struct Call {
     pub form: Form,
     pub is_help: bool,
     pub is_version: bool,
+    /// The values of --day and --time.
+    pub day: Option<OsString>,
+    pub time: Option<OsString>,
     words: Vec<OsString>,
     /// The first word that looks like an option and is none.
     unknown: Option<OsString>,
+    /// An option whose value is missing.
+    valueless: Option<OsString>,
     has_several_forms: bool,
 }
 
 impl Call {
     /// Options may stand anywhere before a `--`. A value to be checked may begin with a `-` too.
-    pub fn of(words: impl Iterator<Item = OsString>, locale: Language) -> Call {
+    pub fn of(mut words: impl Iterator<Item = OsString>, locale: Language) -> Call {
         let mut call = Call {
             language: locale,
             is_chosen: false,
             form: Form::Words,
             is_help: false,
             is_version: false,
+            day: None,
+            time: None,
             words: Vec::new(),
             unknown: None,
+            valueless: None,
             has_several_forms: false,
         };
         let mut may_be_option = true;
-        for word in words {
+        while let Some(word) = words.next() {
             if may_be_option && word == "--" {
                 may_be_option = false;
+            } else if may_be_option && call.has_value(&word) {
+                call.take(word, words.next());
             } else if !may_be_option || !call.option(&word) {
                 call.words.push(word);
             }
         }
         call
+    }
+
+    /// Whether a word is an option with a value behind it.
+    fn has_value(&self, word: &OsStr) -> bool {
+        (word == "--day" || word == "--time") && !self.awaits_value()
+    }
+
+    /// Takes the value of an option.
+    fn take(&mut self, option: OsString, value: Option<OsString>) {
+        match value {
+            Some(value) if option == "--day" => self.day = Some(value),
+            Some(value) => self.time = Some(value),
+            None => self.valueless = Some(option),
+        }
     }
 
     /// Takes a word as an option, or tells that it is none.
@@ -109,6 +138,9 @@ impl Call {
         if let Some(word) = &self.unknown {
             return Err(Trouble::UnknownOption(word.clone()));
         }
+        if let Some(option) = &self.valueless {
+            return Err(Trouble::NoValue(option.clone()));
+        }
         if self.has_several_forms {
             return Err(Trouble::SeveralForms);
         }
@@ -119,10 +151,21 @@ impl Call {
             None if is_file(first) => (Command::Judge, words),
             None => return Err(Trouble::UnknownCommand(first.to_owned())),
         };
-        match command.has(self.form) {
-            true => Ok((command, words)),
-            false => Err(Trouble::FormOf(self.form, command)),
+        match (&self.day, &self.time) {
+            (Some(_), _) if command != Command::Day => {
+                Err(Trouble::OptionOf("--day", command.name()))
+            }
+            (_, Some(_)) if command != Command::Day => {
+                Err(Trouble::OptionOf("--time", command.name()))
+            }
+            _ if command.has(self.form) => Ok((command, words)),
+            _ => Err(Trouble::FormOf(self.form, command)),
         }
+    }
+
+    /// Whether it is about a day.
+    pub fn is_of_day(&self) -> bool {
+        self.words.first().is_some_and(|word| word == "day")
     }
 }
 
@@ -153,13 +196,15 @@ impl Form {
 }
 
 impl Command {
-    const ALL: [Command; 9] = [
+    const ALL: [Command; 11] = [
         Command::Judge,
         Command::Items,
         Command::Records,
         Command::Plain,
         Command::Same,
+        Command::Play,
         Command::Book,
+        Command::Day,
         Command::Check,
         Command::Explain,
         Command::Help,
@@ -173,7 +218,9 @@ impl Command {
             Command::Records => "records",
             Command::Plain => "plain",
             Command::Same => "same",
+            Command::Play => "play",
             Command::Book => "book",
+            Command::Day => "day",
             Command::Check => "check",
             Command::Explain => "explain",
             Command::Help => "help",
@@ -195,13 +242,19 @@ impl Command {
         match form {
             Form::Words | Form::Plain => true,
             Form::Json => !matches!(self, Command::Explain | Command::Help),
-            Form::Csv => self == Command::Items,
+            Form::Csv => matches!(self, Command::Items | Command::Day),
         }
     }
 
     /// How it is to be called.
     pub fn usage(self, language: Language) -> &'static str {
-        let (english, german) = match self {
+        let (english, german) = self.usages();
+        language.say(english, german)
+    }
+
+    /// How it is to be called, in English and in German.
+    fn usages(self) -> (&'static str, &'static str) {
+        match self {
             Command::Judge => (
                 "Usage: bulk judge FILE.. At least one FILE, and - at most once.",
                 "Aufruf: bulk judge DATEI.. Mindestens eine DATEI, und - höchstens einmal.",
@@ -219,16 +272,15 @@ impl Command {
                 "Aufruf: bulk plain DATEI [ZIEL]. ZIEL ist eine Datei für die Normalform; ohne ZIEL \
                  oder mit - geht sie auf die Standardausgabe.",
             ),
-            Command::Same => (
-                "Usage: bulk same FILE FILE. Two files, and - at most once.",
-                "Aufruf: bulk same DATEI DATEI. Zwei Dateien, und - höchstens einmal.",
-            ),
+            Command::Same => same::USAGE,
+            Command::Play => play::USAGE,
             Command::Book => (
                 "Usage: bulk book SCRIPT. A line of SCRIPT is enter FILE, withdraw SERVICE MSGID BIC \
                  DATE, find SERVICE MSGID BIC DATE, total, or list.",
                 "Aufruf: bulk book SKRIPT. Eine Zeile von SKRIPT ist enter DATEI, withdraw VERFAHREN \
                  MSGID BIC DATUM, find VERFAHREN MSGID BIC DATUM, total oder list.",
             ),
+            Command::Day => day::USAGE,
             Command::Check => (
                 "Usage: bulk check KIND VALUE. A VALUE with spaces stands in quotes.",
                 "Aufruf: bulk check ART WERT. Ein WERT mit Leerzeichen steht in Anführungszeichen.",
@@ -238,7 +290,6 @@ impl Command {
                 "Aufruf: bulk explain 14 oder bulk explain für die Liste.",
             ),
             Command::Help => ("Usage: bulk help", "Aufruf: bulk help"),
-        };
-        language.say(english, german)
+        }
     }
 }

@@ -72,12 +72,12 @@ fn line(row: &Row, language: Language) -> String {
 }
 
 /// A text in quotation marks, those inside doubled.
-fn quoted(text: &str) -> String {
+pub fn quoted(text: &str) -> String {
     format!("\"{}\"", text.replace('"', "\"\""))
 }
 
 /// Text, in quotes. A spreadsheet computes what begins with a sign, so an apostrophe stands before it.
-fn guarded(text: &str) -> String {
+pub fn guarded(text: &str) -> String {
     match text.starts_with(['+', '-', '=', '@']) {
         true => quoted(&format!("'{text}")),
         false => quoted(text),

@@ -8,6 +8,7 @@ mod check;
 mod collapsed;
 mod compared;
 mod csv;
+mod day;
 mod doubled;
 mod euro;
 mod failure;
@@ -21,8 +22,10 @@ mod message;
 mod out;
 mod pages;
 mod place;
+mod play;
 mod profile;
 mod read;
+mod recording;
 mod refusal;
 mod same;
 mod script;
@@ -32,6 +35,7 @@ mod system;
 mod tags;
 mod target;
 mod trouble;
+mod unplayed;
 mod verdict;
 mod version;
 mod why;
@@ -71,6 +75,9 @@ fn main() -> ExitCode {
 
 /// Does what is asked.
 fn run(call: &Call) -> Result<Status, Trouble> {
+    if call.is_help && call.is_of_day() {
+        return told(help::day(call.language));
+    }
     if call.is_help {
         return told(help::page(call.language));
     }
@@ -85,12 +92,15 @@ fn run(call: &Call) -> Result<Status, Trouble> {
         (Command::Plain, [name]) => made::made(call, Made::Plain, name, out::OUTPUT.as_ref()),
         (Command::Plain, [name, out]) => made::made(call, Made::Plain, name, out),
         (Command::Same, [one, other]) => same::same(call, one, other),
+        (Command::Play, [recording, messages @ ..]) => play::play(call, recording, messages),
         (Command::Book, [script]) => book::book(call, script),
+        (Command::Day, words) => day::day(call, words),
         (Command::Check, [kind, value]) => check::check(call, kind, value),
         (Command::Explain, []) => pages::explain(call, None).map(|()| Status::Accepted),
         (Command::Explain, [number]) => {
             pages::explain(call, Some(number)).map(|()| Status::Accepted)
         }
+        (Command::Help, [word]) if *word == "day" => told(help::day(call.language)),
         (Command::Help, _) => told(help::page(call.language)),
         _ => Err(Trouble::Misused(command)),
     }

@@ -13,6 +13,12 @@ use crate::{made, out, read, Status};
 use std::ffi::OsStr;
 use std::os::unix::ffi::OsStrExt;
 
+/// How it is to be called, in English and in German.
+pub const USAGE: (&str, &str) = (
+    "Usage: bulk same FILE FILE. Two files, and - at most once.",
+    "Aufruf: bulk same DATEI DATEI. Zwei Dateien, und - höchstens einmal.",
+);
+
 /// Compares two bulks. Where one is refused there is nothing to compare, and it is told why.
 pub fn same(call: &Call, one: &OsStr, other: &OsStr) -> Result<Status, Trouble> {
     if one == read::INPUT && other == read::INPUT {

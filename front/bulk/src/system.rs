@@ -1,9 +1,10 @@
-//! What the standard library does not offer of the system: locks, extended attributes, and whether
-//! standard input or output was closed. The only unsafe code of the command.
+//! What the standard library does not offer of the system: locks, extended attributes, the local time's
+//! offset, and whether standard input or output was closed. The only unsafe code of the command.
 
-use std::ffi::{c_char, c_int, c_void, CStr, CString};
+use std::ffi::{c_char, c_int, c_long, c_void, CStr, CString};
 use std::fs::{self, File};
 use std::io;
+use std::mem::{offset_of, size_of, MaybeUninit};
 use std::os::fd::{AsFd, AsRawFd};
 use std::os::unix::fs::MetadataExt;
 
@@ -20,9 +21,23 @@ extern "C" {
         flags: c_int,
     ) -> c_int;
     fn fremovexattr(file: c_int, name: *const c_char) -> c_int;
+    fn localtime_r(seconds: *const i64, time: *mut Time) -> *mut Time;
 }
 
+/// A local time as the system breaks it down.
+#[repr(C)]
+struct Time {
+    /// Second, minute, hour, day, month, year, and three more.
+    parts: [c_int; 9],
+    /// By how many seconds it is ahead of UTC.
+    ahead: c_long,
+    zone: *const c_char,
+}
+
+const _: () = assert!(size_of::<Time>() == 56 && offset_of!(Time, ahead) == 40);
+
 // The numbers of the system, the same on every Linux that we build for.
+const LOCK_SH_NB: c_int = 1 | 4;
 const LOCK_EX_NB: c_int = 2 | 4;
 const F_GETFL: c_int = 3;
 const O_ACCMODE: c_int = 3;
@@ -37,6 +52,22 @@ fn answered(length: isize) -> io::Result<usize> {
 pub fn lock(file: &File) -> io::Result<()> {
     // SAFETY: the file is open for the call.
     answered(unsafe { flock(file.as_raw_fd(), LOCK_EX_NB) } as isize).map(|_| ())
+}
+
+/// Takes a share of the lock of a file: others may have one too, but nobody has the lock.
+pub fn share(file: &File) -> io::Result<()> {
+    // SAFETY: the file is open for the call.
+    answered(unsafe { flock(file.as_raw_fd(), LOCK_SH_NB) } as isize).map(|_| ())
+}
+
+/// By how many seconds the local time is ahead of UTC at an instant, in seconds from 1970. The system
+/// tells it as `date` does: by TZ in each of its forms, else by the zone of the machine.
+pub fn ahead_of_utc(instant: i64) -> Option<i64> {
+    let mut time = MaybeUninit::<Time>::zeroed();
+    // SAFETY: the instant is lent for the call, the time mutably so; all zeros are a time.
+    let (answer, time) =
+        unsafe { (localtime_r(&instant, time.as_mut_ptr()), time.assume_init_ref()) };
+    (!answer.is_null()).then_some(time.ahead)
 }
 
 /// The names of a file's extended attributes. Access control lists are among them.

@@ -3,6 +3,7 @@
 
 use crate::call::{Command, Form};
 use crate::check;
+use crate::day;
 use crate::failure::cause;
 use crate::language::Language;
 use crate::made::Made;
@@ -29,6 +30,7 @@ pub enum Trouble {
     Unreadable(OsString, io::Error),
     InputClosed,
     NoXml(OsString),
+    LongRecording(OsString),
     /// Standard output.
     Output(io::Error),
     OutputClosed(Made),
@@ -43,8 +45,14 @@ pub enum Trouble {
     /// What it holds would be lost.
     NotReplaced(Made, OsString),
     Unwritable(OsString, io::Error),
+    /// An option that the command does not have.
+    OptionOf(&'static str, &'static str),
+    /// An option without its value.
+    NoValue(OsString),
     /// The script of `book`.
     Script(Fault),
+    /// A call on a day.
+    Day(day::Fault),
     /// The command and the library do not agree.
     Disagreement,
 }
@@ -60,17 +68,14 @@ impl Trouble {
             Trouble::NoCommand
             | Trouble::Misused(_)
             | Trouble::SeveralForms
-            | Trouble::FormOf(..) => self.of_call(language),
+            | Trouble::FormOf(..)
+            | Trouble::OptionOf(..)
+            | Trouble::NoValue(_) => self.of_call(language),
             Trouble::Script(fault) => fault.words(language),
+            Trouble::Day(fault) => fault.words(language),
             Trouble::Output(error) => output(error, language),
             Trouble::OutputAfter(made, out, error) => {
-                let written = match made {
-                    Made::Records => {
-                        language.say("The records are in", "Die Buchungssätze stehen in")
-                    }
-                    Made::Plain => language.say("The plain form is in", "Die Normalform steht in"),
-                };
-                format!("{} {written} {}", output(error, language), name(out))
+                format!("{} {} {}", output(error, language), is_in(*made, language), name(out))
             }
             Trouble::Unreadable(file, error) => {
                 format!("{}: {}", name(file), unreadable(error, language))
@@ -80,6 +85,7 @@ impl Trouble {
                 format!("{}: {} {nothing}", name(out), unwritable(error, language))
             }
             Trouble::NoXml(file)
+            | Trouble::LongRecording(file)
             | Trouble::NoFile(file)
             | Trouble::LeadsNowhere(file)
             | Trouble::Device(file)
@@ -124,11 +130,13 @@ impl Trouble {
     fn of_call(&self, language: Language) -> String {
         let text = match self {
             Trouble::Misused(command) => command.usage(language).to_string(),
-            Trouble::FormOf(form, command) => {
-                let (form, command) = (form.option(), command.name());
+            Trouble::FormOf(form, command) => no_option(form.option(), command.name(), language),
+            Trouble::OptionOf(option, command) => no_option(option, command, language),
+            Trouble::NoValue(option) => {
+                let option = name(option);
                 language.say(
-                    format!("There is no {form} for {command}."),
-                    format!("Für {command} gibt es {form} nicht."),
+                    format!("The value of {option} is missing."),
+                    format!("Der Wert von {option} fehlt."),
                 )
             }
             Trouble::SeveralForms => language
@@ -154,6 +162,10 @@ impl Trouble {
                 "The folder has no .xml file. Name another folder or a file.",
                 "Der Ordner enthält keine .xml-Datei. Bitte einen anderen Ordner oder eine Datei \
                  nennen.",
+            ),
+            Trouble::LongRecording(_) => (
+                "The recording has more than 16,777,216 bytes. Name the recording of one day.",
+                "Die Aufzeichnung hat mehr als 16.777.216 Bytes. Bitte die Aufzeichnung eines Tages nennen.",
             ),
             Trouble::InputClosed => (
                 "Standard input is closed. Name a file, or send the message to the command.",
@@ -243,13 +255,29 @@ impl Trouble {
     }
 }
 
+/// Where what was made is, before the name of the file.
+fn is_in(made: Made, language: Language) -> &'static str {
+    match made {
+        Made::Records => language.say("The records are in", "Die Buchungssätze stehen in"),
+        Made::Plain => language.say("The plain form is in", "Die Normalform steht in"),
+    }
+}
+
+/// An option that a command does not have.
+fn no_option(option: &str, command: &str, language: Language) -> String {
+    language.say(
+        format!("There is no {option} for {command}."),
+        format!("Für {command} gibt es {option} nicht."),
+    )
+}
+
 /// Where the help is.
 fn see_help(language: Language) -> &'static str {
     language.say("(see bulk --help)", "(siehe bulk --help)")
 }
 
 /// Why standard output could not be written, and what to do.
-fn output(error: &io::Error, language: Language) -> String {
+pub fn output(error: &io::Error, language: Language) -> String {
     let cause = cause(error, language);
     language.say(
         format!("Standard output cannot be written: {cause}. Redirect the output."),
@@ -290,7 +318,7 @@ fn unreadable(error: &io::Error, language: Language) -> String {
 }
 
 /// Why a file could not be written, and what to do.
-fn unwritable(error: &io::Error, language: Language) -> String {
+pub fn unwritable(error: &io::Error, language: Language) -> String {
     let (english, german) = match error.raw_os_error() {
         Some(2 | 20) => (
             "The folder does not exist. Create it, or choose another one.",

@@ -32,6 +32,10 @@ pub enum Why<'a> {
     TwoSlashes,
     WrittenAsDate,
     WrittenAsTime,
+    /// The time of a record of a recording, which has but one form.
+    WrittenAsRecorded,
+    /// The last byte of such a record.
+    NoLineEnd,
     NoSuchDay,
     NoSuchTime,
     /// An identifier that has no letter or digit behind position 7.
@@ -374,6 +378,14 @@ impl Why<'_> {
             Why::WrittenAsTime => (
                 "expected: YYYY-MM-DDThh:mm:ss, then perhaps .sss, then perhaps Z or +hh:mm",
                 "erwartet: JJJJ-MM-TTThh:mm:ss, danach eventuell .sss, dann eventuell Z oder +hh:mm",
+            ),
+            Why::WrittenAsRecorded => (
+                "expected: YYYY-MM-DDThh:mm:ss+hh:mm, with the offset, without a fraction",
+                "erwartet: JJJJ-MM-TTThh:mm:ss+hh:mm, mit Zeitverschiebung, ohne Sekundenbruchteile",
+            ),
+            Why::NoLineEnd => (
+                "expected: a line feed (LF) as the 64th byte",
+                "erwartet: ein Zeilenvorschub (LF) als 64. Byte",
             ),
             Why::NoSuchDay => ("there is no such day", "diesen Tag gibt es nicht"),
             Why::NoSuchTime => ("there is no such time", "diese Uhrzeit gibt es nicht"),

@@ -4,6 +4,29 @@ mod common;
 
 use common::*;
 
+/// What the help tells.
+const HELP: [&str; 19] = [
+    "judge",
+    "items",
+    "records",
+    "bulk plain",
+    "bulk same",
+    "bulk book",
+    "bulk play",
+    "check",
+    "explain",
+    "bulk help",
+    "--plain",
+    "--json",
+    "--csv",
+    "--de",
+    "--version",
+    "--help",
+    "0",
+    "1",
+    "2",
+];
+
 #[test]
 fn help_is_one_screen() {
     let pages = [
@@ -17,27 +40,7 @@ fn help_is_one_screen() {
     for words in pages {
         let said = bulk(words).done(0);
         assert!(said.lines().count() <= 24, "{said}");
-        let all = [
-            "judge",
-            "items",
-            "records",
-            "bulk plain",
-            "bulk same",
-            "bulk book",
-            "check",
-            "explain",
-            "bulk help",
-            "--plain",
-            "--json",
-            "--csv",
-            "--de",
-            "--version",
-            "--help",
-            "0",
-            "1",
-            "2",
-        ];
-        for word in all {
+        for word in HELP {
             assert!(said.contains(word), "{word}");
         }
     }
@@ -57,7 +60,7 @@ fn the_version() {
 /// A bad call, in which FILE stands for a message, and what is said of it in English and German.
 type BadCall = (&'static [&'static str], &'static str, &'static str);
 
-const BAD_CALLS: [BadCall; 24] = [
+const BAD_CALLS: [BadCall; 26] = [
     (&[], "bulk judge FILE", "bulk judge DATEI"),
     (
         &["jugde", "FILE"],
@@ -87,6 +90,8 @@ const BAD_CALLS: [BadCall; 24] = [
     (&["book"], "withdraw SERVICE MSGID BIC DATE", "withdraw VERFAHREN MSGID BIC DATUM"),
     (&["book", "FILE", "FILE"], "bulk book SCRIPT.", "bulk book SKRIPT."),
     (&["book", "--csv", "FILE"], "There is no --csv for book.", "Für book gibt es --csv nicht."),
+    (&["play"], "bulk play RECORDING MESSAGE..", "bulk play AUFZEICHNUNG NACHRICHT.."),
+    (&["play", "--csv", "FILE"], "There is no --csv for play.", "Für play gibt es --csv nicht."),
     (&["check", "iban"], "bulk check KIND VALUE", "bulk check ART WERT"),
     (&["check", "iban", "a", "b"], "bulk check KIND VALUE", "bulk check ART WERT"),
     (&["explain", "1", "2"], "bulk explain 14", "bulk explain 14"),

@@ -6,7 +6,7 @@ use common::*;
 
 /// Every number that has a page.
 fn numbers() -> impl Iterator<Item = u64> {
-    (1..=23).chain([29])
+    1..=29
 }
 
 /// The texts of a number in English and in German: its sentence, its labels and its rows.
@@ -65,7 +65,7 @@ fn the_list_of_numbers() {
         assert!(german.contains(&format!("{number} {}", sentences[1])), "{german}");
         assert!(!german.contains(&sentences[0]), "{german}");
     }
-    for wrong in ["0", "26", "28", "30", "fourteen", "1.4"] {
+    for wrong in ["0", "30", "99", "fourteen", "1.4"] {
         let said = bulk(&["explain", wrong]).trouble();
         assert!(said.contains(&format!("There is no refusal “{wrong}”")), "{said}");
     }
@@ -200,6 +200,45 @@ fn the_texts_of_the_day_book() {
         ),
     ] {
         assert_eq!(overview(number)[1], german);
+        let said = flat(&bulk(&["explain", &number.to_string()]).done(0));
+        words.iter().for_each(|words| assert!(said.contains(words), "{words}\n{said}"));
+    }
+}
+
+/// The pages of playback: the layout of a record, the hour of October, the four causes of 28.
+#[test]
+fn the_texts_of_playback() {
+    for (number, german, words) in [
+        (
+            26,
+            "Ein Feld des Satzes entspricht nicht dem vorgeschriebenen Format, oder der Satz hat \
+             nicht 64 Bytes.",
+            [
+                "Bytes 51 to 62: the MsgId, 1 to 12 characters.",
+                "Byte 63: ein Zeilenvorschub (LF).",
+                "a multiple of 64",
+            ],
+        ),
+        (
+            27,
+            "Die Zeit des Satzes liegt vor der des vorigen Satzes.",
+            [
+                "02:30 at +02:00 comes an hour before 02:30 at +01:00",
+                "02:30 mit +02:00 eine Stunde vor 02:30 mit +01:00",
+                "Two records of one instant are in order",
+            ],
+        ),
+        (
+            28,
+            "Sätze und Nachrichten passen nicht zusammen: Eine Nachricht fehlt oder ist übrig, ihr \
+             Ende ist falsch, oder ihr Schlüssel ist nicht der des Satzes.",
+            ["It is one of four:", "Es ist eines von vieren:", "`bulk play` takes each file"],
+        ),
+        (20, "", ["it is the number of the record", "ist sie die Nummer des Satzes", "B14"]),
+        (25, "", ["or to play back a day", "oder einen Tag nachzuspielen", "16,384 numbers"]),
+        (29, "", ["Playing back a day empties", "leert das Tagebuch zuerst", "64 Plätzen"]),
+    ] {
+        assert!(german.is_empty() || overview(number)[1] == german, "{number}");
         let said = flat(&bulk(&["explain", &number.to_string()]).done(0));
         words.iter().for_each(|words| assert!(said.contains(words), "{words}\n{said}"));
     }

@@ -319,11 +319,13 @@ fn every_key_is_documented() {
         &["same", text(&sample("evening.xml")), text(&sample("alike.xml"))],
         &["book", text(&folder.put("day.book", format!("enter {}\nlist\n", text(&good))))],
         &["check", "iban", "x"],
+        &["play", text(&sample("october-day.rec")), text(&sample("october-night.xml"))],
+        &["play", text(&folder.put("no.rec", ""))],
     ] {
         for object in objects(&bulk(&[&["--json"], words].concat()).out) {
             let mut keys: Vec<&String> = object.keys().collect();
-            // Those of a difference and of an open bulk too.
-            for list in ["differences", "bulks"].map(|key| object.get(key)) {
+            // Those of a difference, of an open bulk and of a sum too.
+            for list in ["differences", "bulks", "sums"].map(|key| object.get(key)) {
                 let Some(Json::List(list)) = list else { continue };
                 let Some(Json::Object(pairs)) = list.first() else { continue };
                 keys.extend(pairs.iter().map(|pair| &pair.0));

@@ -3,6 +3,9 @@
 // Each file of tests uses a part of it.
 #![allow(dead_code)]
 
+pub mod course;
+pub mod day;
+
 use std::ffi::OsStr;
 use std::fs::{self, Permissions};
 use std::io::Write;
