@@ -50,10 +50,10 @@ impl Left {
     pub fn words(&self, language: Language) -> Vec<String> {
         let mut words = Vec::new();
         if !self.torn.is_empty() {
-            let bytes = self.torn.len();
+            let (bytes, more) = (self.torn.len(), if self.torn.len() == 1 { "" } else { "s" });
             words.push(language.say(
-                format!("a torn record of {bytes} bytes at the end of the recording"),
-                format!("ein unvollständiger Satz von {bytes} Bytes am Ende der Aufzeichnung"),
+                format!("a torn record of {bytes} byte{more} at the end of the recording"),
+                format!("ein unvollständiger Satz von {bytes} Byte{more} am Ende der Aufzeichnung"),
             ));
         }
         for number in &self.messages {
