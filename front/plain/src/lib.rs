@@ -13,6 +13,7 @@ mod form;
 mod message;
 pub mod play;
 mod record;
+mod seen;
 mod value;
 
 pub use value::{

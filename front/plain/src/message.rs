@@ -1,10 +1,10 @@
 //! The message as bytes: a cursor that takes tags and values, and the elements in their order.
 
+use crate::seen::Seen;
 use crate::value::{
     bic, bicfi, code, count, creditor_id, date, end_to_end, header_amount, iban, item_amount,
     number, reference, text140, text70, time,
 };
-use std::collections::HashSet;
 
 /// A refusal: "Each gives its number and a place".
 pub type Refusal = (u8, usize);
@@ -50,12 +50,11 @@ struct PaymentType<'m> {
 }
 
 /// What the items read so far leave for those that follow.
-#[derive(Default)]
 struct Before<'m> {
     /// The first item's LclInstrm.
     instrument: Option<&'m [u8]>,
     /// The TxIds. Each is looked up by all its bytes.
-    transactions: HashSet<&'m [u8]>,
+    transactions: Seen<'m>,
     /// The running sum.
     sum: u64,
 }
@@ -117,7 +116,8 @@ pub fn read<'m, const ACCEPTED: bool>(
     let header = cursor.group_header()?;
 
     let mut items = 0;
-    let mut before = Before::default();
+    let transactions = Seen::of_message(message.len(), MOST_ITEMS);
+    let mut before = Before { instrument: None, transactions, sum: 0 };
     let mut next = Some(cursor.tag(ITEM)?);
     while let Some(start) = next {
         if items == MOST_ITEMS {
@@ -414,7 +414,7 @@ impl<'m, const ACCEPTED: bool> Cursor<'m, ACCEPTED> {
     #[inline]
     fn payment_identification(
         &mut self,
-        transactions: &mut HashSet<&'m [u8]>,
+        transactions: &mut Seen<'m>,
     ) -> Result<Identification<'m>, Refusal> {
         self.tag(b"<PmtId>")?;
         let mut instruction = None;
