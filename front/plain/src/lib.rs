@@ -4,6 +4,10 @@
 //! The message lies in lent bytes and is read once, left to right; the first fault met ends the
 //! reading. Nothing is allocated but a set of the TxIds (request 11): no index is lent, so there is no
 //! 25 here.
+//!
+//! `message` is the exact reader, in the words of the paper, over the checkers of `value`. Before it,
+//! item by item, stands a quick one, `quick` over `usual`, which takes what is usual and leaves all else
+//! to the exact one.
 
 #![forbid(unsafe_code)]
 #![warn(missing_docs)]
@@ -12,8 +16,10 @@ pub mod book;
 mod form;
 mod message;
 pub mod play;
+mod quick;
 mod record;
 mod seen;
+mod usual;
 mod value;
 
 pub use value::{
@@ -45,7 +51,12 @@ pub enum Verdict {
 
 /// Judges a message: its count and its total in cents, or the first fault met.
 pub fn judge(message: &[u8]) -> Verdict {
-    verdict(read::<false>(message, |_, _| {}))
+    verdict(read::<false, true>(message, |_, _| {}))
+}
+
+/// The same by the exact reader alone, as the reference for the quick one.
+pub fn judge_exactly(message: &[u8]) -> Verdict {
+    verdict(read::<false, false>(message, |_, _| {}))
 }
 
 /// Where item `i` (from 0) lies: the place of the `<` of its start tag and the place after the `>`
@@ -53,7 +64,7 @@ pub fn judge(message: &[u8]) -> Verdict {
 /// place 0".
 pub fn item(message: &[u8], i: u64) -> Result<(usize, usize), (u8, usize)> {
     let mut asked = None;
-    read::<false>(message, |at, item| {
+    read::<false, true>(message, |at, item| {
         if at as u64 == i {
             asked = Some((item.start, item.end));
         }
@@ -73,7 +84,7 @@ pub fn records(message: &[u8], area: &mut [u8]) -> Verdict {
         return Verdict::Refused { number: number::AREA_TOO_SMALL, place: 0 };
     }
     // The message is accepted, so this second reading takes the values as they lie.
-    verdict(read::<true>(message, |at, item| {
+    verdict(read::<true, true>(message, |at, item| {
         record::write(&mut area[record::LENGTH * at..][..record::LENGTH], item);
     }))
 }
@@ -83,7 +94,7 @@ pub fn records(message: &[u8], area: &mut [u8]) -> Verdict {
 /// then 1, place 0, when the plain form would pass 16,777,216 bytes; then 17 when it is longer than
 /// the lent area", at place 0 too.
 pub fn plain_form(message: &[u8], area: &mut [u8]) -> Result<usize, (u8, usize)> {
-    read::<false>(message, |_, _| {})?;
+    read::<false, true>(message, |_, _| {})?;
     let mut length = 0;
     form::write(message, |part| length += part.len());
     // No plain form is that long: in version .08 10,000 items of at most 1,354 bytes, each with its own

@@ -1,5 +1,6 @@
 //! The message as bytes: a cursor that takes tags and values, and the elements in their order.
 
+use crate::quick::Quick;
 use crate::seen::Seen;
 use crate::value::{
     bic, bicfi, code, count, creditor_id, date, end_to_end, header_amount, iban, item_amount,
@@ -23,7 +24,7 @@ const PAYMENT_TYPE: &[u8; 10] = b"<PmtTpInf>";
 
 /// "A message is read as the version its root names". It decides the BIC elements alone.
 #[derive(Clone, Copy)]
-enum Version {
+pub enum Version {
     /// pacs.003.001.02
     V02,
     /// pacs.003.001.08
@@ -42,11 +43,11 @@ struct Header<'m> {
 
 /// What a record takes of PmtTpInf.
 #[derive(Clone, Copy)]
-struct PaymentType<'m> {
+pub struct PaymentType<'m> {
     /// LclInstrm.
-    instrument: &'m [u8],
+    pub instrument: &'m [u8],
     /// SeqTp.
-    sequence: &'m [u8],
+    pub sequence: &'m [u8],
 }
 
 /// What the items read so far leave for those that follow.
@@ -60,9 +61,10 @@ struct Before<'m> {
 }
 
 /// InstrId, where there is one, EndToEndId and TxId.
-type Identification<'m> = (Option<&'m [u8]>, &'m [u8], &'m [u8]);
+pub type Identification<'m> = (Option<&'m [u8]>, &'m [u8], &'m [u8]);
 
 /// One item: where it lies, and what its record takes of it.
+#[derive(Debug, PartialEq)]
 pub struct Item<'m> {
     /// The place of the `<` of its start tag.
     pub start: usize,
@@ -102,7 +104,10 @@ struct Value<'m> {
 ///
 /// `ACCEPTED` says that this message was read before and accepted: its values are then taken without
 /// being judged again (the amounts, whose worth is wanted, are).
-pub fn read<'m, const ACCEPTED: bool>(
+///
+/// `QUICK` says that each item but the first is given to the quick reader before the exact one. The
+/// answer is the same.
+pub fn read<'m, const ACCEPTED: bool, const QUICK: bool>(
     message: &'m [u8],
     mut each: impl FnMut(usize, &Item<'m>),
 ) -> Result<(u64, u64), Refusal> {
@@ -118,12 +123,19 @@ pub fn read<'m, const ACCEPTED: bool>(
     let mut items = 0;
     let transactions = Seen::of_message(message.len(), MOST_ITEMS);
     let mut before = Before { instrument: None, transactions, sum: 0 };
+    let mut quick = None;
     let mut next = Some(cursor.tag(ITEM)?);
     while let Some(start) = next {
         if items == MOST_ITEMS {
             return Err((number::TOO_MANY, start));
         }
-        let item = cursor.item(start, &header, &mut before)?;
+        let item = match cursor.quick_item(start, &mut quick, &mut before) {
+            Some(item) => item,
+            None => cursor.item(start, &header, &mut before)?,
+        };
+        if QUICK && quick.is_none() {
+            quick = Some(Quick::new(cursor.version, header.payment_type, item.instrument));
+        }
         each(items, &item);
         items += 1;
         next = cursor.first_of(ITEM, b"</FIToFICstmrDrctDbt>")?;
@@ -367,6 +379,24 @@ impl<'m, const ACCEPTED: bool> Cursor<'m, ACCEPTED> {
             total_place: total.place,
             payment_type,
         })
+    }
+
+    /// An item by the quick reader, if there is one and it can tell. Nothing is changed where not.
+    #[inline]
+    fn quick_item(
+        &mut self,
+        start: usize,
+        quick: &mut Option<Quick<'m, ACCEPTED>>,
+        before: &mut Before<'m>,
+    ) -> Option<Item<'m>> {
+        let (item, rest) = quick.as_mut()?.item(start, self.rest)?;
+        // A TxId that stands twice is left to the exact reader, which gives 24.
+        if !ACCEPTED && !before.transactions.insert(item.transaction) {
+            return None;
+        }
+        before.sum += item.cents;
+        self.rest = rest;
+        Some(Item { end: self.place(), ..item })
     }
 
     /// "DrctDbtTxInf (1 or more)", from behind its start tag at `start`, with what the items before it

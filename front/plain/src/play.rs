@@ -135,7 +135,7 @@ fn table(message: &[u8]) -> Table {
     let mut table = Table::default();
     let place = |codes: &[&[u8]], value| codes.iter().position(|code| *code == value);
     // The message is accepted, so this second reading takes the values as they lie.
-    let read = read::<true>(message, |_, item| {
+    let read = read::<true, true>(message, |_, item| {
         let row = place(&SERVICES, item.instrument);
         let column = place(&SEQUENCES, item.sequence_type);
         if let (Some(row), Some(column)) = (row, column) {

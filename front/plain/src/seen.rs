@@ -7,7 +7,7 @@ use std::collections::hash_map::RandomState;
 use std::hash::{BuildHasher, Hasher};
 
 /// No item is shorter: its tags alone are longer.
-const SHORTEST_ITEM: usize = 512;
+pub const SHORTEST_ITEM: usize = 512;
 /// An odd number with bits in all places.
 const ODD: u64 = 0x9E37_79B9_7F4A_7C15;
 

@@ -360,7 +360,7 @@ pub fn iban(value: &[u8]) -> Result<u64, u8> {
 
 /// How long an IBAN of this country is, in the order of the request: "the length or 0 for none".
 #[inline]
-fn length_of(country: [u8; 2]) -> usize {
+pub(crate) fn length_of(country: [u8; 2]) -> usize {
     match &country {
         b"NO" => 15,
         b"BE" => 16,
