@@ -1,6 +1,7 @@
 //! The paper's cases: "Either side of each line", the whole example, and the readings of the open
 //! points of documents 01 and 02.
 
+mod quick;
 mod recorded;
 mod twice;
 mod typed;
