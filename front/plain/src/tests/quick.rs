@@ -2,7 +2,8 @@
 //! item is always read exactly, the second by its tags, the others by the runs that are known.
 
 use super::*;
-use crate::message::{read, Item};
+use crate::message::{read, Item, PaymentType, Version};
+use crate::quick::Quick;
 use crate::usual::{Figures, Text};
 
 /// Bytes that mean something at one place or another, and such as never do.
@@ -69,6 +70,28 @@ fn they_are_accepted() {
         assert_eq!(judge(message.as_bytes()), accepted, "{message}");
         assert_eq!(judge_exactly(message.as_bytes()), accepted, "{message}");
         alike(message.as_bytes());
+    }
+}
+
+/// The quick reader takes them: it would be no quicker if it left them to the exact one.
+#[test]
+fn they_are_taken() {
+    for message in messages().iter().map(|message| message.as_bytes()) {
+        let (_, items) = all::<false, false>(message);
+        let of_08 = message.windows(7).any(|tag| tag == b"<BICFI>");
+        let instrument = items[0].instrument;
+        let header_end = place_of(&String::from_utf8_lossy(message), "</GrpHdr>");
+        let in_header = message[..header_end].windows(10).any(|tag| tag == b"<PmtTpInf>");
+        let payment_type =
+            in_header.then_some(PaymentType { instrument, sequence: items[0].sequence_type });
+        let version = if of_08 { Version::V08 } else { Version::V02 };
+        let mut quick = Quick::<false>::new(version, payment_type, instrument);
+        for item in &items {
+            let tag = "<DrctDbtTxInf>".len();
+            let (taken, rest) =
+                quick.item(item.start, &message[item.start + tag..]).expect("it is taken");
+            assert_eq!(Item { end: message.len() - rest.len(), ..taken }, *item);
+        }
     }
 }
 
@@ -237,15 +260,15 @@ fn every_short_amount() {
     }
 }
 
-/// Accounts of digits in each country, of every length, with all check digits; identifiers too.
+/// Accounts and identifiers of digits in each country, of every length, with all check digits.
 #[test]
 fn all_check_digits() {
+    let digits = "12345678901234567890123456789012345";
     for country in ["NO", "BE", "NL", "AT", "DE", "ES", "FR", "PL", "MT", "XX"] {
-        for (length, check) in
-            (8..=35).flat_map(|length| (0..100).map(move |check| (length, check)))
-        {
-            let digits = &"12345678901234567890123456789012345"[..length - 4];
+        for (length, check) in (0..=35).flat_map(|at| (0..100).map(move |check| (at, check))) {
+            let digits = &digits[..length];
             judged_alike(format!("{country}{check:02}{digits}").as_bytes());
+            judged_alike(format!("{country}{check:02}ZZZ{digits}").as_bytes());
         }
     }
 }
