@@ -94,7 +94,15 @@ pub extern "C" fn bulk_judge(message: &[u8], index: &mut [u32], answer: &mut [u6
     tell_verdict(judge::judge(message, index), answer);
 }
 
-// The same without an index, by the plain search.
+// The same by the table-led engine.
+#[no_mangle]
+pub extern "C" fn bulk_judge_by_table(message: &[u8], index: &mut [u32], answer: &mut [u64; 3])
+    ensures { λ _. ⌜ (now (answer .exit) ≡ toldVerdict (judgedWith (now (index .entry)) (now (message .entry)))) × (now (index .exit) ≡ cleared (now (index .entry))) ⌝ }
+{
+    tell_verdict(judge::judge_by_table(message, index), answer);
+}
+
+// `bulk_judge` without an index, by the plain search.
 #[no_mangle]
 pub extern "C" fn bulk_judge_plainly(message: &[u8], answer: &mut [u64; 3])
     ensures { λ _. ⌜ now (answer .exit) ≡ toldVerdict (judged (now (message .entry))) ⌝ }
@@ -123,6 +131,20 @@ pub extern "C" fn bulk_records(
         × (now (area .exit) ≡ recordedWith (now (index .entry)) (now (message .entry)) (now (area .entry)) .area) × (now (index .exit) ≡ cleared (now (index .entry))) ⌝ }
 {
     tell_verdict(records::records(message, area, index), answer);
+}
+
+// The same by the table-led engine.
+#[no_mangle]
+pub extern "C" fn bulk_records_by_table(
+    message: &[u8],
+    area: &mut [u8],
+    index: &mut [u32],
+    answer: &mut [u64; 3],
+)
+    ensures { λ _. ⌜ (now (answer .exit) ≡ toldVerdict (recordedWith (now (index .entry)) (now (message .entry)) (now (area .entry)) .verdict))
+        × (now (area .exit) ≡ recordedWith (now (index .entry)) (now (message .entry)) (now (area .entry)) .area) × (now (index .exit) ≡ cleared (now (index .entry))) ⌝ }
+{
+    tell_verdict(records::records_by_table(message, area, index), answer);
 }
 
 // The plain form: 0, its length and 0, and the area begins with it; or the number, the place and 0, and the area is as lent.

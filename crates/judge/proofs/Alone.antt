@@ -21,7 +21,7 @@ use Rattle.notes.specs.declared.Notes.{Notes}
 use Rattle.notes.specs.Notes.{fresh, inNotes}
 use Rattle.notes.specs.Steps.{reads}
 use Rattle.notes.proofs.Sums.{Summed, summed-fresh, sums}
-use Rattle.reader.specs.Reader.{itemAt}
+use Rattle.engine.specs.Engine.{itemAt}
 
 -- what passes with the rule of 24 passes without it
 leniently : (t : Trace) (r : Ended (List Entry)) → noted listed t [] ≡ on r → noted lenient t [] ≡ on r

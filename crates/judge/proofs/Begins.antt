@@ -20,7 +20,7 @@ use Rattle.reading.specs.Trace.{Opened, from, faulty, rooted, opened}
 use Rattle.reading.specs.Noted.{Reading, stop, Ended}
 use Rattle.notes.specs.declared.Notes.{Notes}
 use Rattle.notes.specs.Steps.{Fine}
-use Rattle.reader.specs.Reader.{messageAt, placesAt}
+use Rattle.engine.specs.Engine.{messageAt, placesAt}
 use Rattle.judge.specs.Verdict.{versionIn, versionOf}
 use Rattle.judge.specs.Engine.{Within, rootOr, throughIn, filedIn}
 

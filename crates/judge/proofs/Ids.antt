@@ -30,7 +30,7 @@ use Rattle.notes.specs.declared.Notes.{Notes}
 use Rattle.notes.specs.Notes.{fresh, inNotes}
 use Rattle.notes.proofs.Sums.{Summed, summed-fresh, sums}
 use Rattle.twice.specs.Twice.{standsAmong, secondFrom, second}
-use Rattle.reader.specs.Reader.{filed, filedBy, filedOf as filedWith, orElse, placed}
+use Rattle.engine.specs.Engine.{filed, filedBy, filedOf as filedWith, orElse, placed}
 use Rattle.judge.specs.Found.{denied}
 use Rattle.judge.specs.Survey.{Surveyed, without, surveyBy, survey}
 use Rattle.judge.specs.Engine.{surveyBut, filedIn, filedOf, unlessSecond}

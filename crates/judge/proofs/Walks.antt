@@ -20,7 +20,7 @@ use Rattle.items.specs.Alone.{firstIn}
 use Rattle.items.specs.Chain.{Chained, none, next, Itemized}
 use Rattle.items.proofs.Accepted.{accepted-chained, item-asked, item-past}
 use Rattle.notes.specs.declared.Notes.{Notes}
-use Rattle.reader.specs.Reader.{itemAt}
+use Rattle.engine.specs.Engine.{itemAt}
 use Rattle.twice.specs.Twice.{leastIndex}
 use Rattle.judge.specs.declared.Verdict.the-variants.{Accepted, Refused}
 use Rattle.judge.specs.declared.Finding.{Finding}

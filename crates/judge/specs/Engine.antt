@@ -16,7 +16,7 @@ use Rattle.notes.specs.declared.Notes.{Notes}
 use Rattle.notes.specs.Notes.{fresh}
 use Rattle.notes.specs.Steps.{reads}
 use Rattle.reading.proofs.More.{lenient}
-use Rattle.reader.specs.Reader.{placed, itemAt}
+use Rattle.engine.specs.Engine.{placed, itemAt}
 use Rattle.judge.specs.Found.{Found, denied, foundBy}
 use Rattle.judge.specs.Survey.{Surveyed, without, surveyBy}
 

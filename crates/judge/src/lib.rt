@@ -1,4 +1,5 @@
 // The judge: one message, one answer, the first fault.
+use engines::Engine;
 use notes::Met;
 use notes::Notes;
 use notes::State;
@@ -96,12 +97,12 @@ fn open_message(m: &[u8]) -> Opened
 }
 
 // A whole message, read up to the end of its root; where its TxIds begin is lent back.
-fn read_through(m: &[u8], places: &mut [u32]) -> Step
+fn read_through(e: Engine, m: &[u8], places: &mut [u32]) -> Step
     requires { ⌜ length (now m) ≤ mostBytes ⌝ }
     ensures { λ s. ⌜ (stepped s ≡ throughIn (now (m .entry)) (opened (now (m .entry)))) × Fine (now (m .entry)) 0 (stepped s) × (now (places .exit) ≡ filedIn (now (m .entry)) (opened (now (m .entry))) (now (places .entry))) ⌝ }
 {
     match open_message(m) {
-        Opened::From(v, p) => reader::message(m, p, v, places),
+        Opened::From(v, p) => engines::message(e, m, p, v, places),
         Opened::Faulty(number, place) => State::new(0).refuse(number, place),
     }
 }
@@ -193,13 +194,13 @@ fn with_notes(f: Finding, n: Notes) -> Survey
 }
 
 // What a message of any bytes is found to be without the rule of 24, and what was noted of it; where its TxIds begin is lent back.
-fn read_but(m: &[u8], places: &mut [u32]) -> Survey
+fn read_but(e: Engine, m: &[u8], places: &mut [u32]) -> Survey
     ensures { λ r. ⌜ (surveyedAs r ≡ surveyBut (now (m .entry))) × (now (places .exit) ≡ filedOf (now (m .entry)) (now (places .entry))) ⌝ }
 {
     if profile::MOST_BYTES < m.len() {
         return bare(deny(1, 0));
     }
-    let r = read_through(m, places);
+    let r = read_through(e, m, places);
     let met = r.met;
     let st = r.state;
     match met {
@@ -221,16 +222,24 @@ fn unless_second(s: Survey, second: usize) -> Survey
     bare(deny(24, second))
 }
 
-// What a message of any bytes is found to be, and what was noted of it; 25 where the index has too few numbers. The index is cleared, whatever it held.
-pub fn read(m: &[u8], index: &mut [u32]) -> Survey
+// What a message of any bytes is found to be, read by an engine, and what was noted of it; 25 where the index has too few numbers. The index is cleared,
+// whatever it held.
+pub fn read_by(e: Engine, m: &[u8], index: &mut [u32]) -> Survey
     ensures { λ r. ⌜ (surveyedAs r ≡ surveyWith (now (index .entry)) (now (m .entry))) × (now (index .exit) ≡ cleared (now (index .entry))) ⌝ }
 {
     if index.len() < twice::LEAST_INDEX {
         return bare(deny(25, 0));
     }
     let mut places = [0; PLACES];
-    let s = read_but(m, &mut places);
+    let s = read_but(e, m, &mut places);
     unless_second(s, twice::quickly(m, &places[1..], index))
+}
+
+// The same by the straight engine.
+pub fn read(m: &[u8], index: &mut [u32]) -> Survey
+    ensures { λ r. ⌜ (surveyedAs r ≡ surveyWith (now (index .entry)) (now (m .entry))) × (now (index .exit) ≡ cleared (now (index .entry))) ⌝ }
+{
+    read_by(Engine::Straight, m, index)
 }
 
 // The same without an index, by the plain search.
@@ -238,29 +247,50 @@ pub fn read_plainly(m: &[u8]) -> Survey
     ensures { λ r. ⌜ surveyedAs r ≡ survey (now (m .entry)) ⌝ }
 {
     let mut places = [0; PLACES];
-    let s = read_but(m, &mut places);
+    let s = read_but(Engine::Straight, m, &mut places);
     unless_second(s, twice::plainly(m, &places[1..]))
 }
 
-// What a message of any bytes is found to be.
+// What a message of any bytes is found to be, read by an engine.
+fn find_by(e: Engine, m: &[u8], index: &mut [u32]) -> Finding
+    ensures { λ r. ⌜ (foundAs r ≡ foundWith (now (index .entry)) (now (m .entry))) × (now (index .exit) ≡ cleared (now (index .entry))) ⌝ }
+{
+    let s = read_by(e, m, index);
+    let f = s.finding;
+    f
+}
+
+// The same by the straight engine.
 pub fn find(m: &[u8], index: &mut [u32]) -> Finding
     ensures { λ r. ⌜ (foundAs r ≡ foundWith (now (index .entry)) (now (m .entry))) × (now (index .exit) ≡ cleared (now (index .entry))) ⌝ }
 {
-    let s = read(m, index);
-    let f = s.finding;
-    f
+    find_by(Engine::Straight, m, index)
+}
+
+// A message of any bytes, read by an engine: accepted with its count and cents, or its first fault.
+fn judge_by(e: Engine, m: &[u8], index: &mut [u32]) -> Verdict
+    ensures { λ r. ⌜ (meant r ≡ judgedWith (now (index .entry)) (now (m .entry))) × (now (index .exit) ≡ cleared (now (index .entry))) ⌝ }
+{
+    let f = find_by(e, m, index);
+    let answer = f.verdict;
+    answer
 }
 
 // A message of any bytes: accepted with its count and cents, or its first fault.
 pub fn judge(m: &[u8], index: &mut [u32]) -> Verdict
     ensures { λ r. ⌜ (meant r ≡ judgedWith (now (index .entry)) (now (m .entry))) × (now (index .exit) ≡ cleared (now (index .entry))) ⌝ }
 {
-    let f = find(m, index);
-    let answer = f.verdict;
-    answer
+    judge_by(Engine::Straight, m, index)
 }
 
-// The same without an index, by the plain search.
+// The same by the table-led engine.
+pub fn judge_by_table(m: &[u8], index: &mut [u32]) -> Verdict
+    ensures { λ r. ⌜ (meant r ≡ judgedWith (now (index .entry)) (now (m .entry))) × (now (index .exit) ≡ cleared (now (index .entry))) ⌝ }
+{
+    judge_by(Engine::Table, m, index)
+}
+
+// `judge` without an index, by the plain search.
 pub fn judge_plainly(m: &[u8]) -> Verdict
     ensures { λ r. ⌜ meant r ≡ judged (now (m .entry)) ⌝ }
 {
@@ -287,7 +317,7 @@ fn walk(v: Version, m: &[u8], i: u64, first: usize) -> Extent
     let mut left = i;
     let mut at = first;
     loop {
-        let r = reader::item(m, at, v);
+        let r = engines::item(Engine::Straight, m, at, v);
         let met = r.met;
         let st = r.state;
         match met {

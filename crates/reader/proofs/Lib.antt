@@ -1,4 +1,3 @@
-pub mod Placed
 pub mod Steps
 pub mod Turns
 pub mod Rows

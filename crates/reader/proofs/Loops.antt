@@ -21,8 +21,10 @@ use Rattle.notes.specs.declared.Notes.{Notes}
 use Rattle.notes.specs.Steps.{reads, Good, Room, Fine}
 use Rattle.notes.proofs.Notings.{here}
 use Rattle.notes.proofs.Stays.{later}
-use Rattle.reader.specs.Reader.{elementIn, restIn, amountsOf, placed}
-use Rattle.reader.proofs.Steps.{passed-on, fine-on, halts, missing-fine}
+use Rattle.engine.specs.Engine.{placed}
+use Rattle.engine.proofs.Steps.{passed-on, fine-on, halts}
+use Rattle.engine.proofs.Elements.{missing-fine}
+use Rattle.reader.specs.Reader.{elementIn, restIn, amountsOf}
 use Rattle.reader.proofs.Room.{split, item-own, missing-room, element-room, due-fair}
 use Rattle.reader.proofs.Turns.{from, start, Tells, cut, missed, passed, failed, gone-on, repeated, deep, rest-deep}
 use Rattle.reader.proofs.Turns.{cut-placed, missed-placed, passed-placed, failed-placed, gone-on-placed, repeated-placed}

@@ -25,10 +25,12 @@ use Rattle.table.proofs.Tied.{Tied}
 use Rattle.notes.specs.declared.Notes.{Notes}
 use Rattle.notes.specs.Notes.{inNotes}
 use Rattle.notes.specs.Steps.{reads}
-use Rattle.reader.specs.Reader.{closedBy, entered, valuedBy, elementIn, orElse, placed}
-use Rattle.reader.proofs.Steps.{enter-fits, reads-begins}
-use Rattle.reader.proofs.Placed.{then-placed, begins-placed, ends-placed, priced-placed}
-use Rattle.reader.proofs.Turns.{from, closed-by, Tells, deep, deepIn}
+use Rattle.engine.specs.Engine.{closedBy, valuedBy, orElse, placed}
+use Rattle.engine.proofs.Steps.{closed-by}
+use Rattle.engine.proofs.Elements.{enter-fits, reads-begins}
+use Rattle.engine.proofs.Placed.{then-placed, begins-placed, ends-placed, priced-placed}
+use Rattle.reader.specs.Reader.{entered, elementIn}
+use Rattle.reader.proofs.Turns.{from, Tells, deep, deepIn}
 
 abbrev Found : Type 0
 Found = Reading (Ended Notes)

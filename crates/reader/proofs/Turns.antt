@@ -3,7 +3,6 @@ use mathlib.Core.Path.{_≡_, refl, sym, ap, _∙_}
 use mathlib.Core.Bool.{Bool, true, false}
 use mathlib.Core.List.{List}
 use Prim.Native.Nat.{ℕ, zero, suc, _≤_, _<_}
-use Prim.Native.String.{String}
 use native.Mathlib.Omega.{arith}
 use borrow.Author.Tests.{leb-true, leb-false}
 use lib.Dec.{leb}
@@ -11,44 +10,25 @@ use lib.ListN.{length, drop}
 use Rattle.text.specs.Truth.{pick}
 use Rattle.tags.specs.declared.Look.{Look}
 use Rattle.tags.specs.declared.Look.the-variants.{Whole, Cut, Other}
-use Rattle.tags.specs.Tags.{skipped, look, onLook, exactly, endTag}
-use Rattle.tags.proofs.Looks.{exactly-length}
+use Rattle.tags.specs.Tags.{skipped, look, onLook}
 use Rattle.profile.specs.declared.Version.{Version}
 use Rattle.profile.specs.Tree.{Occ, more, Shape, end, leaf, group}
 use Rattle.profile.specs.Profile.{isType}
-use Rattle.reading.specs.Trace.{Trace, upTo, fault, andThen, closed, missing, turn, again, follow, trace}
+use Rattle.reading.specs.Trace.{Trace, upTo, closed, missing, turn, again, follow, trace}
 use Rattle.reading.specs.Noted.{Reading, on, stop, onward, Ended}
-use Rattle.reading.proofs.Flat.{noted-then}
 use Rattle.table.specs.declared.Row.{Row}
 use Rattle.table.specs.Table.{occOf, markName, opensBy, width, tags, due, Element}
 use Rattle.notes.specs.declared.Notes.{Notes}
-use Rattle.notes.specs.Notes.{inNotes}
 use Rattle.notes.specs.Steps.{reads}
-use Rattle.reader.specs.Reader.{closedBy, occIn, nameIn, tagIn, elementIn, restIn, orElse, placed}
-use Rattle.reader.proofs.Steps.{reads-missing}
-use Rattle.reader.proofs.Placed.{turn-placed}
+use Rattle.engine.specs.Engine.{orElse, placed}
+use Rattle.reader.specs.Reader.{occIn, nameIn, tagIn, elementIn, restIn}
+use Rattle.engine.proofs.Elements.{turn-reads}
+use Rattle.engine.proofs.Placed.{turn-placed}
 
 abbrev Found : Type 0
 Found = Reading (Ended Notes)
 
 module _ (m : List ℕ) where
-  -- ---- what is read by how a start tag lies; a is a name in place of the element's
-  turn-reads : (o : Occ) (n a : String) → isType n ≡ isType a → (tag : List (ℕ → Bool)) (body next rest : ℕ → Trace) (p : ℕ) (x : Notes)
-      → reads (turn o n tag m body next rest p) x
-      ≡ onLook (look tag (drop (skipped m p) m)) (onward (reads (body (skipped m p)) x) (λ r. reads (next (r .at)) (r .notes)))
-      (stop 3 (length m)) (onward (reads (missing o a (skipped m p) (upTo (skipped m p))) x) (λ r. reads (rest (r .at)) (r .notes)))
-  turn-reads o n a e tag body next rest p x = go (look tag (drop (skipped m p) m))
-    where
-      q : ℕ
-      q = skipped m p
-
-      go : (l : Look) → reads (onLook l (andThen (body q) next) (fault 3 (length m)) (missing o n q (rest q))) x
-          ≡ onLook l (onward (reads (body q) x) (λ r. reads (next (r .at)) (r .notes)))
-          (stop 3 (length m)) (onward (reads (missing o a q (upTo q)) x) (λ r. reads (rest (r .at)) (r .notes)))
-      go Whole = noted-then inNotes (body q) next x
-      go Cut = refl
-      go Other = reads-missing o n a e q rest x
-
   -- ---- what is due from an element on; where it was seen already it may come again, i times more
   abbrev following : Occ → ℕ → Shape → ℕ → Trace
   following o i sh = follow o i (nameIn sh) (tagIn sh) m (elementIn sh m) (trace (restIn sh) m)
@@ -81,11 +61,6 @@ module _ (m : List ℕ) where
   follow-again sh i (suc zero) h = absurd (omega arith)
   follow-again sh i (suc (suc zero)) h = refl
   follow-again sh i (suc (suc (suc n))) h = refl
-
-  -- an end tag, by a row's tests
-  pub closed-by : (n : String) (t : List (ℕ → Bool)) (p : ℕ) → t ≡ exactly (endTag n) → closedBy t m p ≡ closed n m p
-  unfolding closedBy closed
-  closed-by n t p e = rw (e, exactly-length (endTag n))
 
 -- ---- what a row tells of the element that is due there
 pub record Tells (v : Version) (k : ℕ) (sh : Shape) (r : Row) : Type 0 where

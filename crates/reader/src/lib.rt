@@ -2,7 +2,6 @@
 use notes::Met;
 use notes::State;
 use notes::Step;
-use profile::Field;
 use profile::Kind;
 use profile::Version;
 use table::Row;
@@ -19,13 +18,8 @@ ghost use Rattle.table.specs.Table.{tags, table, manyRows, rowIn, kindOf, field
 ghost use Rattle.items.specs.Sums.{mostSum, ofAmount, amountsIn};
 ghost use Rattle.notes.specs.Notes.{addedUp};
 ghost use Rattle.notes.specs.Steps.{stated, stepped, reads, Good, Room, Fine};
-ghost use Rattle.reader.specs.Reader.{stops, closedBy, entered, valuedBy, elementIn, amountsOf, filedBy, placed, messageAt, placesAt, itemAt};
-
-// The number of the field that a TxId is.
-const TX_ID: usize = 9;
-
-// How many items there are at most.
-const MOST: u32 = 10_000;
+ghost use Rattle.engine.specs.Engine.{closedBy, valuedBy, placed, messageAt, placesAt, itemAt};
+ghost use Rattle.reader.specs.Reader.{entered, elementIn, amountsOf};
 
 // On past white space.
 fn skip(m: &[u8], st: State) -> State
@@ -139,27 +133,6 @@ fn add_up(k: Kind, st: State) -> State
     }
 }
 
-// Where a TxId begins, behind those that were read before it; the first number says how many there are.
-fn file(f: Field, at: u32, places: &mut [u32])
-    ensures { λ _. ⌜ now (places .exit) ≡ filedBy f at (now (places .entry)) ⌝ }
-{
-    if profile::number_of(f) != TX_ID {
-        return;
-    }
-    if places.len() == 0 {
-        return;
-    }
-    let many = places[0];
-    if MOST <= many {
-        return;
-    }
-    let next = many as usize + 1;
-    if next < places.len() {
-        places[0] = many + 1;
-        places[next] = at;
-    }
-}
-
 // The value at the state's place, and its end tag.
 fn value(m: &[u8], names: &[u8], r: Row, st: State, places: &mut [u32]) -> Step
     requires { ⌜ Good (now m) (stated st) × (r .finish ≡ length (closesBy (now names) r)) × Room (ofAmount (kindOf (r .kind))) (st .notes) ⌝ }
@@ -178,7 +151,7 @@ fn value(m: &[u8], names: &[u8], r: Row, st: State, places: &mut [u32]) -> Step
     match met {
         Met::Stopped(number, place) => s.refuse(number, place),
         Met::On => {
-            file(f, at as u32, places);
+            engine::file(f, at as u32, places);
             close(m, names, r, add_up(k, s).at_place(e as u32))
         }
     }
@@ -189,17 +162,6 @@ fn due_now(seen: bool, occ: u16) -> u16
     ensures { λ r. ⌜ occOf r ≡ pick seen Occ.more (occOf occ) ⌝ }
 {
     if seen { 3 } else { occ }
-}
-
-// Whether a step ended the reading.
-fn is_stopped(s: Step) -> bool
-    ensures { λ r. ⌜ r ≡ stops (s .met) ⌝ }
-{
-    let met = s.met;
-    match met {
-        Met::On => false,
-        Met::Stopped(_, _) => true,
-    }
 }
 
 // What is due from row `first` up to the end of its group.
@@ -230,7 +192,7 @@ fn group(
             Look::Cut => return st.refuse(3, m.len()),
             Look::Other => {
                 let t = pass(occ, r.mark, st);
-                if is_stopped(t) {
+                if engine::is_stopped(t) {
                     return t;
                 }
                 st = t.state;
@@ -238,7 +200,7 @@ fn group(
             }
             Look::Whole => {
                 let t = element(m, names, rows, k, st, v, places);
-                if is_stopped(t) {
+                if engine::is_stopped(t) {
                     return t;
                 }
                 st = t.state;

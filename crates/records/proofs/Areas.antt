@@ -18,7 +18,7 @@ use Rattle.records.specs.Indexed.{recordedWith}
 use Rattle.postings.specs.Area.{asLent, recordsFor, recorded}
 use Rattle.postings.proofs.Long.{length-record, length-records}
 use Rattle.notes.specs.declared.Notes.{Notes}
-use Rattle.reader.specs.Reader.{itemAt}
+use Rattle.engine.specs.Engine.{itemAt}
 use Rattle.judge.specs.declared.Verdict.the-variants.{Accepted, Refused}
 use Rattle.judge.specs.declared.Survey.{Survey}
 use Rattle.judge.specs.Verdict.{meant, versionOf}

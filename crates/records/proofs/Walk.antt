@@ -18,7 +18,7 @@ use Rattle.items.specs.Places.{fieldPlace}
 use Rattle.items.proofs.Accepted.{accepted-chained}
 use Rattle.notes.specs.declared.Notes.{Notes}
 use Rattle.notes.proofs.Sums.{Summed}
-use Rattle.reader.specs.Reader.{itemAt}
+use Rattle.engine.specs.Engine.{itemAt}
 use Rattle.judge.specs.declared.Verdict.the-variants.{Accepted}
 use Rattle.judge.specs.declared.Survey.{Survey}
 use Rattle.judge.specs.Verdict.{meant, versionOf}

@@ -1,4 +1,5 @@
 // The posting records of an accepted message, written into a lent area.
+use engines::Engine;
 use judge::Verdict;
 use notes::Met;
 use notes::Notes;
@@ -162,7 +163,14 @@ fn write(part: &mut [u8], rec: [u8; LENGTH])
 }
 
 // The second walk over the items: each is read again, and its record goes to its part of the area.
-fn fill(m: &[u8], count: usize, first: usize, above: [u32; profile::FIELDS], area: &mut [u8])
+fn fill(
+    e: Engine,
+    m: &[u8],
+    count: usize,
+    first: usize,
+    above: [u32; profile::FIELDS],
+    area: &mut [u8],
+)
     requires { ⌜ Room (now m) count first above (now area) ⌝ }
     ensures { λ _. ⌜ now (area .exit) ≡ recordsFor (theHeader (now (m .entry))) (theItems (now (m .entry))) ++ drop (recordLength * count) (now (area .entry)) ⌝ }
 {
@@ -170,7 +178,7 @@ fn fill(m: &[u8], count: usize, first: usize, above: [u32; profile::FIELDS], are
     let mut i = 0;
     let mut at = first;
     while i < count {
-        let r = reader::item(m, at, version);
+        let r = engines::item(e, m, at, version);
         let met = r.met;
         let st = r.state;
         match met {
@@ -187,12 +195,12 @@ fn fill(m: &[u8], count: usize, first: usize, above: [u32; profile::FIELDS], are
     }
 }
 
-// The verdict on a message; where it is accepted and the area has room, a record for each of its items, in order. The index is cleared.
-pub fn records(m: &[u8], area: &mut [u8], index: &mut [u32]) -> Verdict
+// The verdict on a message, read by an engine; where it is accepted and the area has room, a record for each of its items, in order. The index is cleared.
+fn records_by(e: Engine, m: &[u8], area: &mut [u8], index: &mut [u32]) -> Verdict
     ensures { λ r. ⌜ (meant r ≡ recordedWith (now (index .entry)) (now (m .entry)) (now (area .entry)) .verdict)
         × (now (area .exit) ≡ recordedWith (now (index .entry)) (now (m .entry)) (now (area .entry)) .area) × (now (index .exit) ≡ cleared (now (index .entry))) ⌝ }
 {
-    let r = judge::read(m, index);
+    let r = judge::read_by(e, m, index);
     let f = r.finding;
     let v = f.verdict;
     let first = f.first;
@@ -203,8 +211,24 @@ pub fn records(m: &[u8], area: &mut [u8], index: &mut [u32]) -> Verdict
             if ((area.len() / LENGTH) as u64) < count {
                 return Verdict::Refused(17, 0);
             }
-            fill(m, count as usize, first, above, area);
+            fill(e, m, count as usize, first, above, area);
             Verdict::Accepted(count, cents)
         }
     }
+}
+
+// The same by the straight engine.
+pub fn records(m: &[u8], area: &mut [u8], index: &mut [u32]) -> Verdict
+    ensures { λ r. ⌜ (meant r ≡ recordedWith (now (index .entry)) (now (m .entry)) (now (area .entry)) .verdict)
+        × (now (area .exit) ≡ recordedWith (now (index .entry)) (now (m .entry)) (now (area .entry)) .area) × (now (index .exit) ≡ cleared (now (index .entry))) ⌝ }
+{
+    records_by(Engine::Straight, m, area, index)
+}
+
+// The same by the table-led engine.
+pub fn records_by_table(m: &[u8], area: &mut [u8], index: &mut [u32]) -> Verdict
+    ensures { λ r. ⌜ (meant r ≡ recordedWith (now (index .entry)) (now (m .entry)) (now (area .entry)) .verdict)
+        × (now (area .exit) ≡ recordedWith (now (index .entry)) (now (m .entry)) (now (area .entry)) .area) × (now (index .exit) ≡ cleared (now (index .entry))) ⌝ }
+{
+    records_by(Engine::Table, m, area, index)
 }

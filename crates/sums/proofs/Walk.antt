@@ -16,7 +16,7 @@ use Rattle.items.specs.Sums.{mostSum}
 use Rattle.items.proofs.Sums.{bulk-most}
 use Rattle.bulks.proofs.Typed.{sequence}
 use Rattle.notes.specs.declared.Notes.{Notes}
-use Rattle.reader.specs.Reader.{itemAt}
+use Rattle.engine.specs.Engine.{itemAt}
 use Rattle.judge.specs.Verdict.{versionOf}
 use Rattle.records.specs.Engine.{startOf, ownOr, Ready}
 use Rattle.records.proofs.Values.{from-wherever, its-cents}

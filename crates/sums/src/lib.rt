@@ -1,5 +1,6 @@
 // What a bulk adds to a table of cents, by service and sequence type; together with its key, from one reading of the message.
 use codes::Element;
+use engines::Engine;
 use judge::Survey;
 use judge::Verdict;
 use keys::Keyed;
@@ -68,7 +69,7 @@ fn sum_up(m: &[u8], count: usize, first: usize, above: [u32; profile::FIELDS]) -
     let mut i = 0;
     let mut at = first;
     while i < count {
-        let r = reader::item(m, at, version);
+        let r = engines::item(Engine::Straight, m, at, version);
         let met = r.met;
         let st = r.state;
         match met {

@@ -29,8 +29,10 @@ unless-second-requires c κs = search needs
 
 returns : tie.Need-returns
 returns c =
-    c .unless-second .ensures ∙ found-second (c .before .before .before .before .before .before .before .before .args .m .now) (surveyedAs (c .before .before .before .before .before .read-but .result)) (c .before .before .before .before .before .read-but .ensures .0) (c .before .before .before .before .before .read-but .last .1 .0) (c .before .before .before .before .before .read-but .kept .1 .0)
-    (c .before .before .before .before .before .read-but .ensures .1) (c .before .plainly .result) (c .before .plainly .ensures)
+    let a = c .before .before .before .before .before .before .before .before .args in
+    let b = c .before .before .before .before .before .read-but in
+    c .unless-second .ensures
+    ∙ found-second (a .m .now) (surveyedAs (b .result)) (b .ensures .0) (b .last .1 .1 .0) (b .kept .1 .1 .0) (b .ensures .1) (c .before .plainly .result) (c .before .plainly .ensures)
 
 pub read-plainly-spec : {M : Type 1} → statement M
 read-plainly-spec =

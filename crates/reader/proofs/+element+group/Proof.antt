@@ -11,11 +11,13 @@ use Rattle.table.proofs.Rows.{row-tied, few-rows}
 use Rattle.notes.specs.Steps.{stated, metIn, stepped, reads}
 use Rattle.notes.proofs.Stays.{later}
 use Rattle.tags.specs.Tags.{skipped}
-use Rattle.reader.specs.Reader.{closedBy, elementIn, placed}
-use Rattle.reader.proofs.Steps.{passed-on, fine-on, fine-stop, halted, went-on, missing-fine}
+use Rattle.engine.specs.Engine.{closedBy, placed}
+use Rattle.engine.proofs.Steps.{passed-on, fine-on, fine-stop, halted, went-on}
+use Rattle.engine.proofs.Elements.{missing-fine}
+use Rattle.engine.proofs.Placed.{closed-placed}
+use Rattle.reader.specs.Reader.{elementIn}
 use Rattle.reader.proofs.Turns.{deep, deepIn, element-deep}
 use Rattle.reader.proofs.Rows.{tells, ended, element-stops, element-group, element-value, element-stops-placed, element-group-placed, element-value-placed, inner-deep, within}
-use Rattle.reader.proofs.Placed.{closed-placed}
 use Rattle.reader.proofs.Room.{due-fair, group-room, value-room}
 use Rattle.reader.proofs.Loops.{Loop, begin, element-amounts, loop-end, loop-cut, loop-miss, loop-pass, loop-fail, loop-next, loop-more}
 use borrow.Fn.Kinds.{In}
@@ -30,7 +32,7 @@ use Rattle.notes.proofs.State.refuse.Reads as refuse-reads
 use Rattle.reader.proofs.close.Reads as close-reads
 use Rattle.reader.proofs.due_now.Reads as due-now-reads
 use Rattle.reader.proofs.enter.Reads as enter-reads
-use Rattle.reader.proofs.is_stopped.Reads as is-stopped-reads
+use Rattle.engine.proofs.is_stopped.Reads as is-stopped-reads
 use Rattle.reader.proofs.pass.Reads as pass-reads
 use Rattle.reader.proofs.skip.Reads as skip-reads
 use Rattle.reader.proofs.start_at.Reads as start-at-reads

@@ -1,6 +1,6 @@
 -- `reader::check_currency` meets its contract.
 use mathlib.Core.Path.{_∙_}
-use Rattle.reader.proofs.Steps.{in-euro, no-euro}
+use Rattle.engine.proofs.Elements.{in-euro, no-euro}
 use borrow.Author.Needs.{needs}
 use Rattle.reader.proofs.check_currency.Statement.{statement}
 use Rattle.reader.proofs.check_currency.Tie as tie

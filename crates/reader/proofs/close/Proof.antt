@@ -4,7 +4,7 @@ use native.Mathlib.Omega.{arith}
 use Rattle.table.specs.Table.{closesBy}
 use Rattle.reading.specs.Noted.{on}
 use Rattle.notes.specs.Steps.{stepped}
-use Rattle.reader.proofs.Steps.{close-fits, closed-whole, closed-cut, closed-other}
+use Rattle.engine.proofs.Steps.{close-fits, closed-whole, closed-cut, closed-other}
 use borrow.Author.Needs.{needs}
 use Rattle.reader.proofs.close.Statement.{statement}
 use Rattle.reader.proofs.close.Tie as tie

@@ -2,11 +2,10 @@
 use mathlib.Core.Path.{_∙_, ap, sym}
 use lib.ListN.{drop}
 use Rattle.tags.specs.Tags.{look}
-use Rattle.table.specs.Table.{due}
-use Rattle.notes.specs.Steps.{stated, stepped, reads}
-use Rattle.reader.specs.Reader.{elementIn}
+use Rattle.notes.specs.Steps.{stated, stepped}
+use Rattle.engine.proofs.Whole.{item-long, item-far, begins, item-enters, item-cut, item-other}
 use Rattle.reader.proofs.Room.{item-room}
-use Rattle.reader.proofs.Whole.{item-long, item-far, begins, item-enters, item-cut, item-other, item-start, item-below, item-there, item-within}
+use Rattle.reader.proofs.Whole.{item-read, item-start, item-below, item-there, item-within}
 use borrow.Author.Needs.{needs}
 use Rattle.reader.proofs.item.Statement.{statement}
 use Rattle.reader.proofs.item.Tie as tie
@@ -133,7 +132,8 @@ returns-3 c =
     (item-start (a .v) (the-tags-of .result) (the-rows-of .result) (the-row-at .result) (the-item-row .result) (the-tags-of .ensures) (the-rows-of .ensures)
     (the-item-row .ensures (a .v)) (the-row-at .ensures)))
     (c .before .before .before .before .before .enum-told .given .1) (stepped (c .before .element .result))
-    (c .before .element .ensures .0 ∙ ap (λ k. reads (elementIn (due (a .v) k) (a .m .now) (the-skip .result .at)) (the-skip .result .notes)) (the-item-row .ensures (a .v)))
+    (item-read (a .v) (a .m .now) (the-skip .result .at) (the-skip .result .notes) (the-item-row .result) (the-item-row .ensures (a .v))
+    (stepped (c .before .element .result)) (c .before .element .ensures .0))
     (c .before .element .ensures .1)
 
 returns-4 : tie.Need-returns-4

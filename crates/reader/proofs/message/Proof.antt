@@ -1,9 +1,9 @@
 -- `reader::message` meets its contract.
-use mathlib.Core.Path.{_∙_, ap}
 use Rattle.table.proofs.Rows.{first-row}
 use Rattle.notes.specs.Steps.{stated, stepped}
+use Rattle.engine.proofs.Whole.{message-long, message-far, begins, message-is, places-long, places-far, places-are}
 use Rattle.reader.proofs.Room.{profile-room}
-use Rattle.reader.proofs.Whole.{message-long, message-far, begins, message-is, places-long, places-far, places-are}
+use Rattle.reader.proofs.Whole.{profile-read, profile-placed}
 use borrow.Author.Needs.{needs}
 use Rattle.reader.proofs.message.Statement.{statement}
 use Rattle.reader.proofs.message.Tie as tie
@@ -71,9 +71,12 @@ returns-3 c =
     let the-if1 = c .before .before .before .before .before .before .before .before .before .before .if1 in
     let the-if2 = c .before .before .before .before .before .before .before .before .before .if2 in
     let the-new3 = c .before .before .before .before .before .before .before .before .new3 in
+    let the-group = c .before .before .group in
     let y = message-is (a .v) (a .m .now) (a .at) (the-if1 .left) (the-if2 .left) (stated (the-new3 .result)) (the-new3 .ensures)
-    (stepped (c .before .before .group .result)) (c .before .before .group .ensures .0) (c .before .before .group .ensures .1) in
-    (y .0, y .1, places-are (a .v) (a .m .now) (a .at) (the-if1 .left) (the-if2 .left) (stated (the-new3 .result)) (the-new3 .ensures) (a .places .now) _ (c .before .before .group .ensures .2))
+    (stepped (the-group .result)) (profile-read (a .v) (a .m .now) (the-new3 .result .at) (the-new3 .result .notes) (stepped (the-group .result)) (the-group .ensures .0)) (the-group .ensures .1) in
+    let z = places-are (a .v) (a .m .now) (a .at) (the-if1 .left) (the-if2 .left) (stated (the-new3 .result)) (the-new3 .ensures) (a .places .now) _
+    (profile-placed (a .v) (a .m .now) (the-new3 .result .at) (the-new3 .result .notes) (a .places .now) _ (the-group .ensures .2)) in
+    (y .0, y .1, z)
 
 pub message-spec : {M : Type 1} → statement M
 message-spec =

@@ -1,7 +1,7 @@
 -- `reader::skip` meets its contract.
 use native.Mathlib.Omega.{arith}
 use Rattle.notes.specs.Steps.{stated}
-use Rattle.reader.proofs.Steps.{spaces-fit, skips}
+use Rattle.engine.proofs.Steps.{spaces-fit, skips}
 use borrow.Author.Needs.{needs}
 use Rattle.reader.proofs.skip.Statement.{statement}
 use Rattle.reader.proofs.skip.Tie as tie

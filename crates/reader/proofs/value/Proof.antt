@@ -3,7 +3,7 @@ use mathlib.Core.Path.{_∙_, ap, sym, refl}
 use native.Mathlib.Omega.{arith}
 use Rattle.table.specs.Table.{closesBy, kindOf, fieldOf}
 use Rattle.notes.specs.Steps.{stated, metIn, stepped}
-use Rattle.reader.proofs.Steps.{value-fits, value-none, value-sum, value-good, value-stops, value-closes, none-placed, stops-placed, value-placed}
+use Rattle.engine.proofs.Steps.{value-fits, value-none, value-sum, value-good, value-stops, value-closes, none-placed, stops-placed, value-placed}
 use borrow.Author.Needs.{needs}
 use Rattle.reader.proofs.value.Statement.{statement}
 use Rattle.reader.proofs.value.Tie as tie

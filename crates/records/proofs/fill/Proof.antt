@@ -4,16 +4,16 @@ use Prim.Native.Nat.{_-_}
 use borrow.Author.Needs.{needs}
 use native.Mathlib.Omega.{arith}
 use Rattle.notes.specs.Steps.{stated, metIn, stepped}
-use Rattle.reader.specs.Reader.{itemAt}
+use Rattle.engine.specs.Engine.{itemAt}
 use Rattle.records.proofs.Areas.{Filling, fill-begins, fill-ends, part-fits, part-long, fill-stops, fill-on}
 use Rattle.records.proofs.fill.Statement.{statement}
 use Rattle.records.proofs.fill.Tie as tie
 
 abbrev Inv-loop : tie.InvT-loop
-Inv-loop m count first above area₀ version₀ i₀ at₀ area i at = Filling m count area₀ i at area
+Inv-loop e m count first above area₀ version₀ i₀ at₀ area i at = Filling m count area₀ i at area
 
 abbrev μ-loop : tie.MeasureT-loop
-μ-loop m count first above area₀ version₀ i₀ at₀ area i at = count - i
+μ-loop e m count first above area₀ version₀ i₀ at₀ area i at = count - i
 
 version-of-requires : tie.Need-version-of-requires Inv-loop μ-loop
 version-of-requires c κs = search needs

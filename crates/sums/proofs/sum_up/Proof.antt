@@ -3,7 +3,7 @@ use mathlib.Core.Path.{_∙_, ap}
 use Prim.Native.Nat.{_-_}
 use borrow.Author.Needs.{needs}
 use Rattle.notes.specs.Steps.{stated, metIn, stepped}
-use Rattle.reader.specs.Reader.{itemAt}
+use Rattle.engine.specs.Engine.{itemAt}
 use Rattle.sums.proofs.Walk.{Adding, add-begins, add-ends, add-stops, add-fits, add-on}
 use Rattle.sums.proofs.sum_up.Statement.{statement}
 use Rattle.sums.proofs.sum_up.Tie as tie

@@ -1,0 +1,4 @@
+pub mod Placed
+pub mod Steps
+pub mod Elements
+pub mod Whole

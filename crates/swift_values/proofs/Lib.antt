@@ -1,0 +1,14 @@
+pub mod Lanes
+pub mod Values
+pub mod Blocks
+pub mod Parts
+pub mod Rests
+pub mod Ibans
+pub mod Weights
+pub mod Lengths
+pub mod Identifiers
+pub mod Any
+pub mod Dates
+pub mod Bics
+pub mod Amounts
+pub mod Codes

@@ -1,0 +1,25 @@
+-- `swift_values::iban` meets its contract.
+use borrow.Author.Needs.{needs}
+use Rattle.swift_values.proofs.iban.Statement.{statement}
+use Rattle.swift_values.proofs.iban.Tie as tie
+
+usual-iban-requires : tie.Need-usual-iban-requires
+usual-iban-requires c κs = search needs
+
+next-iban-requires : tie.Need-next-iban-requires
+next-iban-requires c κs = search needs
+
+returns : tie.Need-returns
+returns c = (c .next-iban .ensures .0, c .next-iban .ensures .1)
+
+returns-2 : tie.Need-returns-2
+returns-2 c = (c .before .usual-iban .ensures .0, c .before .usual-iban .ensures .1)
+
+pub iban-spec : {M : Type 1} → statement M
+iban-spec =
+    tie.close
+    (tie.spec
+    usual-iban-requires
+    next-iban-requires
+    returns
+    returns-2)
