@@ -40,7 +40,11 @@ extern "C" {
 /* A message: 0, its count, its cents; or number, place, 0. */
 void bulk_judge(const uint8_t *message, size_t length, uint32_t *index, size_t index_length, uint64_t answer[BULK_ANSWER]);
 
-/* The same without an index, never 25: each TxId is compared with all before it, so its time grows with the square of the items. */
+/* The same by the table-led engine; all other calls take the straight one. On every input both answer the same. */
+void bulk_judge_by_table(const uint8_t *message, size_t length, uint32_t *index, size_t index_length,
+                         uint64_t answer[BULK_ANSWER]);
+
+/* bulk_judge without an index, never 25: each TxId is compared with all before it, so its time grows with the square of the items. */
 void bulk_judge_plainly(const uint8_t *message, size_t length, uint64_t answer[BULK_ANSWER]);
 
 /* Where item i lies, from 0: 0, the place of its `<`, the place behind its `>`; or number, place, 0. It judges the whole message. */
@@ -51,6 +55,10 @@ void bulk_item(const uint8_t *message, size_t length, uint64_t i, uint32_t *inde
  * the area is as lent. Bytes behind the last record are as lent. */
 void bulk_records(const uint8_t *message, size_t length, uint8_t *area, size_t area_length, uint32_t *index, size_t index_length,
                   uint64_t answer[BULK_ANSWER]);
+
+/* The same by the table-led engine: on every input the same answer and the same area. */
+void bulk_records_by_table(const uint8_t *message, size_t length, uint8_t *area, size_t area_length, uint32_t *index,
+                           size_t index_length, uint64_t answer[BULK_ANSWER]);
 
 /* The plain form, which two messages share exactly when they say the same in one version: 0, its length, 0, and the area begins with
  * it; or number, place, 0, and the area is as lent. Bytes behind the form are as lent. It is at most 38 bytes, and 3 for the total and

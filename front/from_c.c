@@ -5,6 +5,8 @@
 #include <string.h>
 
 typedef void checker(const uint8_t *value, size_t length, uint64_t answer[BULK_ANSWER]);
+typedef void recorder(const uint8_t *message, size_t length, uint8_t *area, size_t area_length, uint32_t *index, size_t index_length,
+                      uint64_t answer[BULK_ANSWER]);
 
 static int wrong = 0;
 
@@ -45,13 +47,17 @@ static void hold_index(const char *what, uint32_t rubbish, size_t many, int is_c
     }
 }
 
-/* The judge with rubbish in the index, and the judge without one: both answer the same. */
+/* The judge by either engine with rubbish in the index, and the judge without one: all answer the same. */
 static void judge(const char *what, const uint8_t *message, size_t length, uint64_t first, uint64_t second, uint64_t third)
 {
     uint64_t answer[BULK_ANSWER], plainly[BULK_ANSWER];
     fill(1);
     bulk_judge(message, length, lent, BULK_INDEX, answer);
     hold_index(what, 1, BULK_INDEX, 1);
+    hold(what, answer, first, second, third);
+    fill(2);
+    bulk_judge_by_table(message, length, lent, BULK_INDEX, answer);
+    hold_index(what, 2, BULK_INDEX, 1);
     hold(what, answer, first, second, third);
     bulk_judge_plainly(message, length, plainly);
     hold(what, plainly, first, second, third);
@@ -416,24 +422,24 @@ static void check_wrong_total(const uint8_t *message, size_t length)
     hold("find, another total", answer, 0, 1, 0);
 }
 
-/* The record of the example, in an area too small and in one that is larger. */
-static void check_records(const uint8_t *message, size_t length, const uint8_t record[BULK_RECORD])
+/* The record of the example, in an area too small and in one that is larger, by either engine. */
+static void check_records(recorder *of, const uint8_t *message, size_t length, const uint8_t record[BULK_RECORD])
 {
     uint64_t answer[BULK_ANSWER];
     uint8_t area[BULK_RECORD + 1];
     memset(area, 7, sizeof area);
     fill(3);
-    bulk_records(message, length, area, sizeof area, lent, BULK_INDEX - 1, answer);
+    of(message, length, area, sizeof area, lent, BULK_INDEX - 1, answer);
     hold("records, an index too short", answer, 25, 0, 0);
     hold_index("records, an index too short", 3, BULK_INDEX - 1, 0);
-    bulk_records(message, length, area, BULK_RECORD - 1, lent, BULK_INDEX, answer);
+    of(message, length, area, BULK_RECORD - 1, lent, BULK_INDEX, answer);
     hold("records, an area too small", answer, 17, 0, 0);
     hold_index("records, an area too small", 3, BULK_INDEX, 1);
     if (area[0] != 7 || memcmp(area, area + 1, BULK_RECORD) != 0) {
         printf("records, an area too small: the area is not as lent\n");
         wrong++;
     }
-    bulk_records(message, length, area, sizeof area, lent, BULK_INDEX, answer);
+    of(message, length, area, sizeof area, lent, BULK_INDEX, answer);
     hold("records", answer, 0, 1, 1234);
     if (memcmp(area, record, BULK_RECORD) != 0 || area[BULK_RECORD] != 7) {
         printf("records: not the record, or more than it\n");
@@ -648,7 +654,8 @@ int main(int words, char **word)
     check_withdraw(message, length);
     check_handmade();
     check_wrong_total(message, length);
-    check_records(message, length, record);
+    check_records(bulk_records, message, length, record);
+    check_records(bulk_records_by_table, message, length, record);
     check_no_instruction(message, length, record);
     check_plain(message, length);
     check_collapsed(message, length, record);

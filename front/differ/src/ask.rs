@@ -4,6 +4,7 @@
 use crate::collapse;
 use crate::damage::{Case, Known};
 use crate::face::{self, Words, RECORD};
+use crate::form;
 use crate::kind::Kind;
 use crate::random::Random;
 use crate::slow::{self, Slow};
@@ -52,6 +53,17 @@ pub(crate) fn is_large(bytes: &[u8]) -> bool {
     bytes.len() > 1_000_000
 }
 
+/// The records by each engine, which is so named where answers differ.
+type Records = fn(&[u8], &mut [u8]) -> Words;
+const ENGINES: [(&str, Records); 2] =
+    [("library", face::records), ("by the table", face::records_by_table)];
+
+/// The table-led engine is the slower one: where a question asks a message that is made from a case, it
+/// is asked of one case in four, by the case's number. The straight one is asked of all.
+fn is_shared(name: &Name) -> bool {
+    name.number % 4 == 0
+}
+
 /// The questions about one case after another. Those about the plain form are in [`crate::form`].
 pub struct Asker {
     pub tally: Tally,
@@ -85,16 +97,17 @@ impl Asker {
         }
     }
 
-    /// The judge: the library in its two ways, the plain judge, what is known, and the law of the first
-    /// fault.
+    /// The judge: the library by its two engines and in its two ways, the plain judge, what is known, and
+    /// the law of the first fault.
     pub fn quickly(&mut self, name: &Name, case: &Case) -> Words {
         let library = face::judge(&case.bytes);
+        self.second_engine(name, &case.bytes, library);
         self.second_way(name, &case.bytes, library);
         self.judged(name, case, library);
         library
     }
 
-    /// The same by the library's plain search alone, which needs no index.
+    /// The same by the straight engine's plain search alone, which needs no index.
     pub fn plainly(&mut self, name: &Name, case: &Case) -> Words {
         let library = face::judge_plainly(&case.bytes);
         self.judged(name, case, library);
@@ -103,6 +116,12 @@ impl Asker {
 
     /// What the library answered, held against the plain judge, what is known, and the law.
     fn judged(&mut self, name: &Name, case: &Case, library: Words) {
+        self.told(name, case, library);
+        self.first_fault(name, &case.bytes, library);
+    }
+
+    /// What the library answered, held against the plain judge and what is known.
+    fn told(&mut self, name: &Name, case: &Case, library: Words) {
         let bytes = &case.bytes;
         let plain = verdict_words(plain::judge(bytes));
         self.tally.met(library[0]);
@@ -121,7 +140,6 @@ impl Asker {
             let question = || "is it refused?".to_string();
             self.tally.hold(name, &question, bytes, ("library", &refused), ("known", &true));
         }
-        self.first_fault(name, bytes, library);
     }
 
     /// "The first fault met ends it": for a refusal 2 to 12, 19, 23 or 24 at place p, the first p bytes
@@ -139,8 +157,80 @@ impl Asker {
             let question = || format!("judge, the first {place} bytes alone");
             let library = face::judge_plainly(before);
             self.tally.hold(name, &question, bytes, ("library", &library), ("law", &law));
+            if is_shared(name) {
+                let table = face::judge_by_table(before);
+                self.tally.hold(name, &question, bytes, ("by the table", &table), ("law", &law));
+            }
             let plain = verdict_words(plain::judge(before));
             self.tally.hold(name, &question, bytes, ("plain", &plain), ("law", &law));
+        }
+    }
+
+    /// Request 14: "show the two give one answer .. on every input". The index, which has rubbish in it, is
+    /// cleared by both, or the face ends the program.
+    pub(crate) fn second_engine(&mut self, name: &Name, bytes: &[u8], library: Words) {
+        let table = face::judge_by_table(bytes);
+        let question = || "judge, the two engines".to_string();
+        self.tally.hold(name, &question, bytes, ("straight", &library), ("by the table", &table));
+    }
+
+    /// The records of so many items by the straight engine, held against those by the table-led one:
+    /// "and one record area".
+    pub(crate) fn records_by_both(
+        &mut self,
+        name: &Name,
+        bytes: &[u8],
+        count: u64,
+    ) -> (Words, Vec<u8>) {
+        let [straight, table] = ENGINES.map(|(_, records)| {
+            let mut area = vec![0xAA; RECORD * count as usize];
+            (records(bytes, &mut area), area)
+        });
+        let question = || "records, the two engines".to_string();
+        let words = (("straight", &straight.0), ("by the table", &table.0));
+        self.tally.hold(name, &question, bytes, words.0, words.1);
+        let areas = (("straight", &straight.1[..]), ("by the table", &table.1[..]));
+        self.tally.hold_areas(name, &question, bytes, areas.0, areas.1);
+        straight
+    }
+
+    /// The judge and, of what is accepted, the records: both engines, the plain judge and what is known.
+    /// In one case of eight the second way and the law of the first fault are tried too, in one of 64 the
+    /// slow judge.
+    pub fn engines(&mut self, name: &Name, case: &Case) {
+        let library = match name.number % 8 {
+            0 => self.quickly(name, case),
+            _ => self.engines_alone(name, case),
+        };
+        if library[0] == 0 {
+            self.exact_records(name, case, library);
+        }
+        if name.number % 64 == 0 {
+            self.slowly(name, case, library);
+        }
+    }
+
+    /// The judge by both engines, the plain judge, and what is known.
+    fn engines_alone(&mut self, name: &Name, case: &Case) -> Words {
+        let library = face::judge(&case.bytes);
+        self.second_engine(name, &case.bytes, library);
+        self.told(name, case, library);
+        library
+    }
+
+    /// The records of an accepted message, in an area of just their size: both engines, the plain judge,
+    /// and what is known.
+    fn exact_records(&mut self, name: &Name, case: &Case, verdict: Words) {
+        let bytes = &case.bytes;
+        let (words, area) = self.records_by_both(name, bytes, verdict[1]);
+        let mut due = vec![0xAA; area.len()];
+        let plain = verdict_words(plain::records(bytes, &mut due));
+        let question = || "records".to_string();
+        self.tally.hold(name, &question, bytes, ("library", &words), ("plain", &plain));
+        self.tally.hold_areas(name, &question, bytes, ("library", &area), ("plain", &due));
+        if !case.records.is_empty() {
+            let known = ("known", &case.records[..]);
+            self.tally.hold_areas(name, &question, bytes, ("library", &area), known);
         }
     }
 
@@ -211,6 +301,9 @@ impl Asker {
         let question = || "judge, with other names".to_string();
         let answer = face::judge(&other);
         self.tally.hold(name, &question, bytes, ("as it is", &library), ("other names", &answer));
+        if is_shared(name) {
+            self.second_engine(name, &other, answer);
+        }
         if is_large(bytes) && library[0] != 0 {
             return;
         }
@@ -218,13 +311,14 @@ impl Asker {
         let answers = (face::item(bytes, 0), face::item(&other, 0));
         let (one, two) = (("as it is", &answers.0), ("other names", &answers.1));
         self.tally.hold(name, &question, bytes, one, two);
-        let room = if library[0] == 0 { RECORD * library[1] as usize } else { RECORD };
-        let (mut one, mut two) = (vec![0xAA; room], vec![0xAA; room]);
+        let count = if library[0] == 0 { library[1] } else { 1 };
         let question = || "records, with other names".to_string();
-        let answers = (face::records(bytes, &mut one), face::records(&other, &mut two));
-        let words = (("as it is", &answers.0), ("other names", &answers.1));
-        self.tally.hold(name, &question, bytes, words.0, words.1);
-        let areas = (("as it is", one.as_slice()), ("other names", two.as_slice()));
+        let (one, two) = match is_shared(name) {
+            true => [bytes, &other].map(|m| self.records_by_both(name, m, count)).into(),
+            false => [bytes, &other].map(|m| form::records(m, count)).into(),
+        };
+        self.tally.hold(name, &question, bytes, ("as it is", &one.0), ("other names", &two.0));
+        let areas = (("as it is", one.1.as_slice()), ("other names", two.1.as_slice()));
         self.tally.hold_areas(name, &question, bytes, areas.0, areas.1);
     }
 
@@ -237,13 +331,16 @@ impl Asker {
         for &length in lengths {
             let lent = Area::new(length, name.number);
             let (words, written) = self.expected(name, case, verdict, &records, &lent);
-            let mut area = lent.clone();
-            let library = face::records(bytes, area.area());
-            let question = || format!("records, area of {length}");
-            self.tally.hold(name, &question, bytes, ("library", &library), ("expected", &words));
-            let question = || format!("the area of {length}, from {} bytes before it", lent.before);
-            let areas = (("library", &area.bytes[..]), ("expected", &written.bytes[..]));
-            self.tally.hold_areas(name, &question, bytes, areas.0, areas.1);
+            for (who, records) in ENGINES {
+                let mut area = lent.clone();
+                let library = records(bytes, area.area());
+                let question = || format!("records, area of {length}");
+                self.tally.hold(name, &question, bytes, (who, &library), ("expected", &words));
+                let question =
+                    || format!("the area of {length}, from {} bytes before it", lent.before);
+                let areas = ((who, &area.bytes[..]), ("expected", &written.bytes[..]));
+                self.tally.hold_areas(name, &question, bytes, areas.0, areas.1);
+            }
         }
         let question = || "the message after its records".to_string();
         self.tally.hold_areas(name, &question, bytes, ("after", bytes), ("before", &before));

@@ -174,7 +174,7 @@ pub fn large(seed: u64, case: u64) -> Case {
 }
 
 /// A message damaged in any way that fits it.
-fn damaged(message: Message, random: &mut Random) -> Case {
+pub(crate) fn damaged(message: Message, random: &mut Random) -> Case {
     loop {
         let (damage, make) = DAMAGES[random.below(DAMAGES.len())];
         if let Some((bytes, known)) = make(message.clone(), random) {
@@ -243,7 +243,7 @@ pub(crate) fn values_of(message: &Message, kind: Kind) -> Vec<usize> {
 }
 
 /// The length up to the end of `</Document>`.
-fn due(message: &Message) -> usize {
+pub(crate) fn due(message: &Message) -> usize {
     let trailing = message.parts.last().filter(|part| part.what == What::White);
     message.bytes().len() - trailing.map_or(0, |part| part.bytes.len())
 }

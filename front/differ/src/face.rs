@@ -3,11 +3,17 @@
 use crate::indexed::filled;
 use crate::kind::Kind;
 pub use face::{item_with, judge_plainly, judge_with, plain_with, records_with};
+pub use face::{judge_by_table as judge_by_table_with, records_by_table as records_by_table_with};
 pub use face::{Words, FOLDER, INDEX, RECORD};
 
 /// The judge: `0, count, cents`, or `number, place, 0`.
 pub fn judge(message: &[u8]) -> Words {
     judge_with(message, &mut filled(message.len()))
+}
+
+/// The same by the table-led engine; all else here is asked of the straight one.
+pub fn judge_by_table(message: &[u8]) -> Words {
+    judge_by_table_with(message, &mut filled(message.len()))
 }
 
 /// Where item `i` lies, from 0: `0, start, end`, or `number, place, 0`.
@@ -18,6 +24,11 @@ pub fn item(message: &[u8], i: u64) -> Words {
 /// The records: `0, count, cents` and the area written, or `number, place, 0` and the area as lent.
 pub fn records(message: &[u8], area: &mut [u8]) -> Words {
     records_with(message, area, &mut filled(message.len()))
+}
+
+/// The same by the table-led engine.
+pub fn records_by_table(message: &[u8], area: &mut [u8]) -> Words {
+    records_by_table_with(message, area, &mut filled(message.len()))
 }
 
 /// The plain form: `0, length, 0` and the form at the area's start, or `number, place, 0`.

@@ -103,11 +103,13 @@ impl Asker {
         let question = || "judge, of the plain form".to_string();
         let verdict = face::judge(bytes);
         let (own, plain) = (face::judge(&form), verdict_words(plain::judge(&form)));
+        self.second_engine(name, &form, own);
         self.tally.hold(name, &question, bytes, ("the form's", &own), ("as it is", &verdict));
         self.tally.hold(name, &question, bytes, ("plain", &plain), ("as it is", &verdict));
 
         let question = || "records, of the plain form".to_string();
-        let (one, other) = (records(&form, verdict[1]), records(bytes, verdict[1]));
+        let one = self.records_by_both(name, &form, verdict[1]);
+        let other = self.records_by_both(name, bytes, verdict[1]);
         self.tally.hold(name, &question, bytes, ("the form's", &one.0), ("as it is", &other.0));
         let areas = (("the form's", &one.1[..]), ("as it is", &other.1[..]));
         self.tally.hold_areas(name, &question, bytes, areas.0, areas.1);

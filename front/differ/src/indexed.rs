@@ -72,18 +72,29 @@ impl Index {
     }
 }
 
+/// The records by each engine, with a lent index.
+type Records = fn(&[u8], &mut [u8], &mut [u32]) -> Words;
+const ENGINES: [(&str, Records); 2] =
+    [("records", face::records_with), ("records by the table", face::records_by_table_with)];
+
 /// The lengths that an index is lent with: none, too few, just enough, more.
 pub const LENGTHS: [usize; 6] = [0, 1, INDEX - 1, INDEX, INDEX + 1, 4 * INDEX];
 
 impl Asker {
     /// A message with indexes of all lengths: the judge, two items, the records and the plain form; of a
-    /// large one the judge alone. What is due is the plain judge's own answer, or 25.
+    /// large one the judge alone. The judge and the records by both engines, but that the slower one reads
+    /// no large message with a longer index than is due. What is due is the plain judge's own answer, or
+    /// 25.
     pub fn indexed(&mut self, name: &Name, case: &Case) {
         let bytes = &case.bytes;
         let due = verdict_words(plain::judge(bytes));
         for (turn, length) in LENGTHS.into_iter().enumerate() {
             let turn = (turn, length, name.number as usize);
             self.lent(name, bytes, turn, ("judge", due), |index| face::judge_with(bytes, index));
+            let table = |index: &mut [u32]| face::judge_by_table_with(bytes, index);
+            if length <= INDEX || !is_large(bytes) {
+                self.lent(name, bytes, turn, ("judge by the table", due), table);
+            }
             if is_large(bytes) {
                 continue;
             }
@@ -102,12 +113,14 @@ impl Asker {
         let is_short = turn.1 < INDEX;
         let count = verdict_words(plain::judge(bytes))[1].min(10_000) as usize;
         for room in [RECORD * count, RECORD / 2] {
-            let mut areas = [vec![0xAA; room], vec![0xAA; room]];
-            let [library, plain] = &mut areas;
-            let due = verdict_words(plain::records(bytes, plain));
-            let call = |index: &mut [u32]| face::records_with(bytes, library, index);
-            self.lent(name, bytes, turn, ("records", due), call);
-            self.area(name, bytes, "records", is_short, &areas);
+            for (what, records) in ENGINES {
+                let mut areas = [vec![0xAA; room], vec![0xAA; room]];
+                let [library, plain] = &mut areas;
+                let due = verdict_words(plain::records(bytes, plain));
+                let call = |index: &mut [u32]| records(bytes, library, index);
+                self.lent(name, bytes, turn, (what, due), call);
+                self.area(name, bytes, what, is_short, &areas);
+            }
         }
         for room in [2 * bytes.len() + 38, 40] {
             let mut areas = [vec![0xAA; room], vec![0xAA; room]];

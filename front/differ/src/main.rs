@@ -6,11 +6,14 @@
 use ::face::book::Numbers;
 use differ::ask::{area_lengths, verdict_words, Asker};
 use differ::bench::{bench, Machine};
+use differ::counted::repeat;
 use differ::damage::{self, Case, Known, Twin};
+use differ::in_items::{self, Bases};
 use differ::random::Random;
 use differ::tally::Name;
 use differ::{
-    days, face, form, plays, slips, spellings, sweep, twice, twins, typed, value, versions,
+    answers, days, face, form, layouts, plays, slips, spellings, sweep, twice, twins, typed, value,
+    versions,
 };
 use std::process::ExitCode;
 
@@ -24,6 +27,9 @@ differ typed SEED             the payment type in the header, in items, in both,
 differ versions SEED          both versions, elements and roots of the other and of neither; cut
 differ twice SEED             a TxId twice, at every distance, with other faults; indexes
 differ slips N SEED           every slip of N messages
+differ layouts N SEED         N messages of items in many layouts, damaged behind the first item
+differ in-items N SEED        one in N of the values of value-sweep, each in an item
+differ engines N SEED         N messages as of `messages`: judge and records alone
 differ records N SEED         N messages with record areas of all sizes
 differ plain N SEED           N messages with areas of all sizes for the plain form
 differ twins N SEED           N pairs of messages, of the same plain form or not: that, records
@@ -38,7 +44,9 @@ differ samples FOLDER         the sample messages, and the October day otherwise
 differ again RUN SEED NUMBER  one case of a run again, with every question
 differ show RUN SEED NUMBER   the bytes of one case to standard output
 differ file FILE              every question about the bytes of a file
+differ answers N SEED         N messages and 2 large ones with the library's answers, to standard output
 differ bench OUT PROCESSOR KERNEL RUST DAY   the stopwatch; the table goes to OUT
+differ repeat WHO FILE TIMES  one contender of the stopwatch, to be counted by valgrind
 Exit status: 0 no difference, 1 a difference, 2 bad usage.";
 
 /// Runs what the words ask for, or tells the usage.
@@ -64,6 +72,7 @@ fn main() -> ExitCode {
         ["bench", out, processor, kernel, rust, day] => {
             Some(bench(out, &Machine { processor, kernel, rust, day }))
         }
+        ["repeat", who, file, rounds] => numbers(who, rounds).map(|of| repeat(file, of)),
         ["all", times] => times.parse().ok().map(all),
         ["limits"] => Some(limits()),
         ["one-slot"] => Some(one_slot()),
@@ -107,10 +116,14 @@ fn counted(run: &str, n: u64, seed: u64) -> Option<ExitCode> {
         "values" => values(n, seed),
         "messages" => messages(n, seed),
         "slips" => slipped(n, seed),
+        "layouts" => laid_out(n, seed),
+        "in-items" => value_items(n, seed),
+        "engines" => engines(n, seed),
         "records" => records(n, seed),
         "plain" => plain_forms(n, seed),
         "twins" => twinned(n, seed),
         "large" => large(n, seed),
+        "answers" => answered(n, seed),
         "days" => booked(n, seed),
         "play" => played(n, seed),
         _ => return None,
@@ -132,6 +145,9 @@ fn all(times: u64) -> ExitCode {
     runs.push(values(100_000 * times, 1));
     runs.push(messages(20_000 * times, 1));
     runs.push(slipped(100 * times, 1));
+    runs.push(laid_out(layouts::GATE * times, 1));
+    runs.push(value_items(in_items::SHARE.div_ceil(times).max(1), 1));
+    runs.push(engines(10_000 * times, 2));
     runs.push(records(2_000 * times, 1));
     runs.push(plain_forms(2_000 * times, 1));
     runs.push(twinned(10_000 * times, 1));
@@ -164,8 +180,9 @@ fn values(n: u64, seed: u64) -> ExitCode {
     asker.tally.end()
 }
 
-/// Every question but the records is asked of one case in sixteen; of the others the judge only, in both
-/// its ways of one in four, and the plain form of those that are accepted.
+/// Every question but the records is asked of one case in sixteen; of the others the judge only, by both
+/// engines and in both ways of one in four, and the plain form of those that are accepted. (There are over
+/// a million: the straight engine is asked of all.)
 fn message_sweep(seed: u64) -> ExitCode {
     let mut asker = Asker::new(format!("sweep {seed}"));
     sweep::sweep(seed, |number, case| {
@@ -242,6 +259,40 @@ fn slipped(n: u64, seed: u64) -> ExitCode {
         slips::slips(seed, message, |number, case| {
             asker.quickly(&Name { run: "slips", seed, number, sort: case.damage }, &case);
         });
+    }
+    asker.tally.end()
+}
+
+/// So many messages of items in many layouts, each whole and damaged in hundreds of ways.
+fn laid_out(n: u64, seed: u64) -> ExitCode {
+    let mut asker = Asker::new(format!("layouts {n} {seed}"));
+    for base in 0..n {
+        layouts::layouts(seed, base, |number, case| {
+            asker.engines(&Name { run: "layouts", seed, number, sort: case.damage }, &case);
+        });
+    }
+    asker.tally.end()
+}
+
+/// One in so many of the swept values, by its number, in an item.
+fn value_items(share: u64, seed: u64) -> ExitCode {
+    let mut asker = Asker::new(format!("in-items {share} {seed}"));
+    let bases = Bases::new(seed);
+    value::sweep(seed, |number, value| {
+        if number % share == 0 {
+            let case = bases.with(number, &value);
+            asker.engines(&Name { run: "in-items", seed, number, sort: case.damage }, &case);
+        }
+    });
+    asker.tally.end()
+}
+
+/// So many messages, each with the judge and the records alone.
+fn engines(n: u64, seed: u64) -> ExitCode {
+    let mut asker = Asker::new(format!("engines {n} {seed}"));
+    for number in 0..n {
+        let case = damage::case(seed, number);
+        asker.engines(&Name { run: "engines", seed, number, sort: case.damage }, &case);
     }
     asker.tally.end()
 }
@@ -519,7 +570,8 @@ fn read(file: &str) -> Option<Vec<u8>> {
 fn file_asked(file: &str) -> ExitCode {
     let Some(bytes) = read(file) else { return ExitCode::from(2) };
     let name = Name { run: "file", seed: 0, number: 0, sort: file };
-    println!("library: {:?}, plain: {:?}", face::judge(&bytes), plain::judge(&bytes));
+    let (straight, table) = (face::judge(&bytes), face::judge_by_table(&bytes));
+    println!("library: {straight:?}, by the table: {table:?}, plain: {:?}", plain::judge(&bytes));
     let case = Case::new(bytes, "file", Known::Nothing);
     every_question(&name, &case)
 }
@@ -569,7 +621,7 @@ fn one_message(run: &str, seed: u64, number: u64, of_message: OneMessage) -> Opt
         }
     };
     match run {
-        "messages" | "records" | "plain" => message(number, damage::case(seed, number)),
+        "messages" | "records" | "plain" | "engines" => message(number, damage::case(seed, number)),
         "twins" => message(number, twins::case(seed, number)),
         "spellings" => spellings::spellings(seed, message),
         "large" => message(number, damage::large(seed, number)),
@@ -578,6 +630,15 @@ fn one_message(run: &str, seed: u64, number: u64, of_message: OneMessage) -> Opt
         "versions" => versions::sweep(seed, message),
         "twice" => twice::sweep(seed, message),
         "slips" => slips::slips(seed, number / slips::NUMBERS, message),
+        "layouts" => layouts::layouts(seed, number / layouts::NUMBERS, message),
+        "in-items" => {
+            let bases = Bases::new(seed);
+            value::sweep(seed, |at, value| {
+                if at == number {
+                    message(at, bases.with(at, &value));
+                }
+            });
+        }
         "limits" => sweep::limits(message),
         "one-slot" => twice::one_slot(message),
         _ => {}
@@ -643,6 +704,18 @@ fn show_value(_: &Name, case: &value::Case) -> ExitCode {
 /// The bytes of a message.
 fn show_message(_: &Name, case: &Case) -> ExitCode {
     show(&case.bytes)
+}
+
+/// Messages with the library's answers to standard output: those of `messages`, and two of `large`.
+fn answered(n: u64, seed: u64) -> ExitCode {
+    let mut out = std::io::BufWriter::new(std::io::stdout().lock());
+    let small = (0..n).map(|number| damage::case(seed, number));
+    let large = (0..2).map(|number| damage::large(seed, number));
+    let written = small.chain(large).try_for_each(|case| answers::write(&mut out, &case.bytes));
+    match written.and_then(|()| std::io::Write::flush(&mut out)) {
+        Ok(()) => ExitCode::SUCCESS,
+        Err(_) => ExitCode::from(2),
+    }
 }
 
 /// Bytes to standard output.

@@ -1,5 +1,6 @@
 //! Accepted messages, in parts that a damage can take hold of, with what is known of them.
 
+use crate::edges;
 use crate::face::RECORD;
 use crate::kind::Kind;
 use crate::random::Random;
@@ -96,6 +97,8 @@ pub enum Spacing {
     Everywhere,
     /// A new line and the depth.
     Indented,
+    /// These two: once, and then for each level.
+    Lines(&'static str, &'static str),
 }
 
 /// What a message is to be made like.
@@ -147,6 +150,8 @@ struct Writer<'r> {
     random: &'r mut Random,
     spacing: Spacing,
     small: bool,
+    /// Every other value at the edges of what is read at once.
+    at_edges: bool,
     version: Version,
     depth: usize,
     parts: Vec<Part>,
@@ -170,6 +175,7 @@ impl Writer<'_> {
                 self.random.bytes(WHITE, length)
             }
             Spacing::Indented => format!("\n{}", "  ".repeat(self.depth)).into_bytes(),
+            Spacing::Lines(end, level) => format!("{end}{}", level.repeat(self.depth)).into_bytes(),
         };
         self.part(What::White, "", bytes);
     }
@@ -216,6 +222,9 @@ impl Writer<'_> {
 
     /// A value of this kind, as long as the plan has it.
     fn value(&mut self, kind: Kind) -> Valid {
+        if self.at_edges && self.random.once_in(2) {
+            return edges::valid(kind, self.random);
+        }
         let mut value = value::valid(kind, self.random);
         while self.small && value.bytes.len() > short(kind) {
             value = value::valid(kind, self.random);
@@ -405,9 +414,21 @@ fn short(kind: Kind) -> usize {
 
 /// An accepted message by this plan.
 pub fn accepted(plan: &Plan, random: &mut Random) -> Message {
+    written(plan, &[], random)
+}
+
+/// The same, with each item in one of these layouts, and every other value at the edges of what is read
+/// at once.
+pub fn laid_out(plan: &Plan, layouts: &[Spacing], random: &mut Random) -> Message {
+    written(plan, layouts, random)
+}
+
+/// An accepted message: its items in these layouts, or all as the plan has it.
+fn written(plan: &Plan, layouts: &[Spacing], random: &mut Random) -> Message {
     let &Plan { spacing, small, version, .. } = plan;
-    let (parts, transactions) = (Vec::new(), HashSet::new());
-    let mut writer = Writer { random, spacing, small, version, depth: 0, parts, transactions };
+    let (parts, transactions, at_edges) = (Vec::new(), HashSet::new(), !layouts.is_empty());
+    let mut writer =
+        Writer { random, spacing, small, at_edges, version, depth: 0, parts, transactions };
     let w = &mut writer;
     let amounts: Vec<u64> = (0..plan.items)
         .map(|_| if plan.small { w.random.worth(1, 9999) } else { value::item_cents(w.random) })
@@ -428,6 +449,9 @@ pub fn accepted(plan: &Plan, random: &mut Random) -> Message {
     let mut records = Vec::new();
     for cents in amounts {
         let first = w.parts.len();
+        if !layouts.is_empty() {
+            w.spacing = layouts[w.random.below(layouts.len())];
+        }
         let mut by_chance = || plan.optional.unwrap_or_else(|| w.random.once_in(2));
         let optional = (by_chance(), by_chance());
         records.push(w.item(cents, &instrument, sequence.as_deref(), optional));

@@ -5,7 +5,6 @@
 use crate::ask::Asker;
 use crate::damage::Case;
 use crate::face::RECORD;
-use crate::form::records;
 use crate::tally::Name;
 
 /// So many items of each message are asked about.
@@ -19,7 +18,10 @@ impl Asker {
         let (bytes, other) = (&case.bytes, &twin.bytes);
         let (Ok(one), Ok(two)) = (self.slow.judge(bytes), self.slow.judge(other)) else { return };
         let fields = (self.slow.recorded(&one.said), self.slow.recorded(&two.said));
-        let areas = (records(bytes, one.count).1, records(other, two.count).1);
+        let areas = (
+            self.records_by_both(name, bytes, one.count).1,
+            self.records_by_both(name, other, two.count).1,
+        );
         for (i, record) in areas.0.chunks(RECORD).enumerate().take(FEW) {
             for (j, other) in areas.1.chunks(RECORD).enumerate().take(FEW) {
                 let (is_equal, agree) = (record == other, fields.0[i] == fields.1[j]);

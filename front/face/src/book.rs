@@ -1,8 +1,8 @@
 //! The day book: a lent list of entries, the open ones first in order of entry, and beside it the
 //! number open and their total. The caller lends both, and a call that changes the book changes both.
 
-use super::{answered, answered_with, own_index, Words};
-use std::mem::{align_of, offset_of, size_of};
+use super::{answered, answered_with, own_index, Length, Words};
+use std::mem::{align_of, size_of};
 
 /// The most bulks that are open, and the fewest places that a book has.
 pub const BOOK: usize = 64;
@@ -27,7 +27,6 @@ pub struct Entry {
 }
 
 const _: () = assert!(size_of::<Entry>() == 72 && align_of::<Entry>() == 8);
-const _: () = assert!(offset_of!(Entry, key) == 0 && offset_of!(Entry, cents) == 64);
 
 /// What stands beside the entries of a book, as front/bulk.h has it. The empty book has 0 and 0.
 #[repr(C)]
@@ -40,29 +39,38 @@ pub struct Numbers {
 }
 
 const _: () = assert!(size_of::<Numbers>() == 16 && align_of::<Numbers>() == 8);
-const _: () = assert!(offset_of!(Numbers, open) == 0 && offset_of!(Numbers, total) == 8);
+
+/// The places of the fields, wherever the compiler can tell them: that for WebAssembly is too old.
+#[cfg(not(target_arch = "wasm32"))]
+mod places {
+    use super::{Entry, Numbers};
+    use std::mem::offset_of;
+
+    const _: () = assert!(offset_of!(Entry, key) == 0 && offset_of!(Entry, cents) == 64);
+    const _: () = assert!(offset_of!(Numbers, open) == 0 && offset_of!(Numbers, total) == 8);
+}
 
 extern "C" {
     fn bulk_book_enter(
         entries: *mut Entry,
-        places: usize,
+        places: Length,
         numbers: *mut Numbers,
         message: *const u8,
-        length: usize,
+        length: Length,
         index: *mut u32,
-        index_length: usize,
+        index_length: Length,
         answer: *mut u64,
     );
     fn bulk_book_withdraw(
         entries: *mut Entry,
-        places: usize,
+        places: Length,
         numbers: *mut Numbers,
         key: *const u8,
         answer: *mut u64,
     );
     fn bulk_book_find(
         entries: *const Entry,
-        places: usize,
+        places: Length,
         numbers: *const Numbers,
         key: *const u8,
         answer: *mut u64,
@@ -70,7 +78,7 @@ extern "C" {
     fn bulk_book_total(numbers: *const Numbers, answer: *mut u64);
     fn bulk_book_check(
         entries: *const Entry,
-        places: usize,
+        places: Length,
         numbers: *const Numbers,
         answer: *mut u64,
     );
@@ -89,8 +97,8 @@ pub fn enter_with(
     message: &[u8],
     index: &mut [u32],
 ) -> Words {
-    let (lent, places) = (entries.as_mut_ptr(), entries.len());
-    let (bytes, length) = (message.as_ptr(), message.len());
+    let (lent, places) = (entries.as_mut_ptr(), entries.len() as Length);
+    let (bytes, length) = (message.as_ptr(), message.len() as Length);
     // SAFETY: entries, numbers and index are lent mutably for the call, the message too, the answer
     // is three words.
     answered_with(index, |index, many, answer| unsafe {
@@ -101,7 +109,7 @@ pub fn enter_with(
 /// Withdraws a key: `0, number open, cents of the bulk`, the open ones behind it one place further
 /// down; or `number, 0, 0` and every entry and both numbers as lent.
 pub fn withdraw(entries: &mut [Entry], numbers: &mut Numbers, key: &Key) -> Words {
-    let (lent, places, key) = (entries.as_mut_ptr(), entries.len(), key.as_ptr());
+    let (lent, places, key) = (entries.as_mut_ptr(), entries.len() as Length, key.as_ptr());
     // SAFETY: entries and numbers are lent mutably for the call, the key has its bytes, the answer is
     // three words.
     answered(|answer| unsafe { bulk_book_withdraw(lent, places, numbers, key, answer) })
@@ -110,7 +118,7 @@ pub fn withdraw(entries: &mut [Entry], numbers: &mut Numbers, key: &Key) -> Word
 /// The first open entry with a key: `0, 1, its place from 0`; `0, 0, 0` for none; or `29, 0, 0`. The
 /// stored total is not looked at.
 pub fn find(entries: &[Entry], numbers: &Numbers, key: &Key) -> Words {
-    let (lent, places, key) = (entries.as_ptr(), entries.len(), key.as_ptr());
+    let (lent, places, key) = (entries.as_ptr(), entries.len() as Length, key.as_ptr());
     // SAFETY: entries and numbers are lent for the call, the key has its bytes, the answer is three
     // words.
     answered(|answer| unsafe { bulk_book_find(lent, places, numbers, key, answer) })
@@ -124,7 +132,7 @@ pub fn total(numbers: &Numbers) -> Words {
 
 /// Whether an entry and a withdrawal take what is lent for a book: `0, 0, 0`; or `29, 0, 0`.
 pub fn check(entries: &[Entry], numbers: &Numbers) -> Words {
-    let (lent, places) = (entries.as_ptr(), entries.len());
+    let (lent, places) = (entries.as_ptr(), entries.len() as Length);
     // SAFETY: entries and numbers are lent for the call, the answer is three words.
     answered(|answer| unsafe { bulk_book_check(lent, places, numbers, answer) })
 }
@@ -152,7 +160,8 @@ pub fn parts(key: &Key) -> [&[u8]; 4] {
     PARTS.map(|length| {
         let (part, behind) = rest.split_at(length);
         rest = behind;
-        part.trim_ascii_end()
+        let end = part.iter().rposition(|byte| !byte.is_ascii_whitespace());
+        &part[..end.map_or(0, |end| end + 1)]
     })
 }
 

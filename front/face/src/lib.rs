@@ -38,55 +38,75 @@ pub enum Kind {
     Text140,
 }
 
+/// A length as the library takes it: 64 bits on every machine, also where an address has 32, as in
+/// WebAssembly.
+type Length = u64;
+
 /// A single checker, as the library exports it.
-type Checker = unsafe extern "C" fn(*const u8, usize, *mut u64);
+type Checker = unsafe extern "C" fn(*const u8, Length, *mut u64);
 
 extern "C" {
-    fn bulk_iban(value: *const u8, length: usize, answer: *mut u64);
-    fn bulk_creditor_id(value: *const u8, length: usize, answer: *mut u64);
-    fn bulk_bic(value: *const u8, length: usize, answer: *mut u64);
-    fn bulk_bicfi(value: *const u8, length: usize, answer: *mut u64);
-    fn bulk_date(value: *const u8, length: usize, answer: *mut u64);
-    fn bulk_time(value: *const u8, length: usize, answer: *mut u64);
-    fn bulk_reference(value: *const u8, length: usize, answer: *mut u64);
-    fn bulk_end_to_end(value: *const u8, length: usize, answer: *mut u64);
-    fn bulk_text70(value: *const u8, length: usize, answer: *mut u64);
-    fn bulk_text140(value: *const u8, length: usize, answer: *mut u64);
-    fn bulk_count(value: *const u8, length: usize, answer: *mut u64);
-    fn bulk_item_amount(value: *const u8, length: usize, answer: *mut u64);
-    fn bulk_header_amount(value: *const u8, length: usize, answer: *mut u64);
+    fn bulk_iban(value: *const u8, length: Length, answer: *mut u64);
+    fn bulk_creditor_id(value: *const u8, length: Length, answer: *mut u64);
+    fn bulk_bic(value: *const u8, length: Length, answer: *mut u64);
+    fn bulk_bicfi(value: *const u8, length: Length, answer: *mut u64);
+    fn bulk_date(value: *const u8, length: Length, answer: *mut u64);
+    fn bulk_time(value: *const u8, length: Length, answer: *mut u64);
+    fn bulk_reference(value: *const u8, length: Length, answer: *mut u64);
+    fn bulk_end_to_end(value: *const u8, length: Length, answer: *mut u64);
+    fn bulk_text70(value: *const u8, length: Length, answer: *mut u64);
+    fn bulk_text140(value: *const u8, length: Length, answer: *mut u64);
+    fn bulk_count(value: *const u8, length: Length, answer: *mut u64);
+    fn bulk_item_amount(value: *const u8, length: Length, answer: *mut u64);
+    fn bulk_header_amount(value: *const u8, length: Length, answer: *mut u64);
     fn bulk_judge(
         message: *const u8,
-        length: usize,
+        length: Length,
         index: *mut u32,
-        index_length: usize,
+        index_length: Length,
         answer: *mut u64,
     );
-    fn bulk_judge_plainly(message: *const u8, length: usize, answer: *mut u64);
+    fn bulk_judge_by_table(
+        message: *const u8,
+        length: Length,
+        index: *mut u32,
+        index_length: Length,
+        answer: *mut u64,
+    );
+    fn bulk_judge_plainly(message: *const u8, length: Length, answer: *mut u64);
     fn bulk_item(
         message: *const u8,
-        length: usize,
+        length: Length,
         i: u64,
         index: *mut u32,
-        index_length: usize,
+        index_length: Length,
         answer: *mut u64,
     );
     fn bulk_records(
         message: *const u8,
-        length: usize,
+        length: Length,
         area: *mut u8,
-        area_length: usize,
+        area_length: Length,
         index: *mut u32,
-        index_length: usize,
+        index_length: Length,
+        answer: *mut u64,
+    );
+    fn bulk_records_by_table(
+        message: *const u8,
+        length: Length,
+        area: *mut u8,
+        area_length: Length,
+        index: *mut u32,
+        index_length: Length,
         answer: *mut u64,
     );
     fn bulk_plain(
         message: *const u8,
-        length: usize,
+        length: Length,
         area: *mut u8,
-        area_length: usize,
+        area_length: Length,
         index: *mut u32,
-        index_length: usize,
+        index_length: Length,
         answer: *mut u64,
     );
 }
@@ -124,11 +144,11 @@ fn answered<const N: usize>(call: impl FnOnce(*mut u64)) -> [u64; N] {
 /// where it has not, it is as lent. It ends the program where that is otherwise.
 fn answered_with<const N: usize>(
     index: &mut [u32],
-    call: impl FnOnce(*mut u32, usize, *mut u64),
+    call: impl FnOnce(*mut u32, Length, *mut u64),
 ) -> [u64; N] {
     let is_short = index.len() < INDEX;
     let lent = if is_short { index.to_vec() } else { Vec::new() };
-    let (numbers, length) = (index.as_mut_ptr(), index.len());
+    let (numbers, length) = (index.as_mut_ptr(), index.len() as Length);
     let words = answered(|answer| call(numbers, length, answer));
     if is_short && *index != *lent {
         end("it wrote into an index that is too short");
@@ -171,7 +191,7 @@ pub fn check(kind: Kind, value: &[u8]) -> Words {
         Kind::Text140 => bulk_text140,
     };
     // SAFETY: the value is lent for the call, the answer is three words.
-    answered(|answer| unsafe { checker(value.as_ptr(), value.len(), answer) })
+    answered(|answer| unsafe { checker(value.as_ptr(), value.len() as Length, answer) })
 }
 
 /// The judge: `0, count, cents`, or `number, place, 0`.
@@ -183,14 +203,24 @@ pub fn judge(message: &[u8]) -> Words {
 pub fn judge_with(message: &[u8], index: &mut [u32]) -> Words {
     // SAFETY: the message is lent for the call, the index mutably so, the answer is three words.
     answered_with(index, |index, numbers, answer| unsafe {
-        bulk_judge(message.as_ptr(), message.len(), index, numbers, answer)
+        bulk_judge(message.as_ptr(), message.len() as Length, index, numbers, answer)
+    })
+}
+
+/// The judge by the table-led engine, with the caller's index: it answers the same.
+pub fn judge_by_table(message: &[u8], index: &mut [u32]) -> Words {
+    // SAFETY: the message is lent for the call, the index mutably so, the answer is three words.
+    answered_with(index, |index, numbers, answer| unsafe {
+        bulk_judge_by_table(message.as_ptr(), message.len() as Length, index, numbers, answer)
     })
 }
 
 /// The judge without an index, by the plain search: it answers the same.
 pub fn judge_plainly(message: &[u8]) -> Words {
     // SAFETY: the message is lent for the call, the answer is three words.
-    answered(|answer| unsafe { bulk_judge_plainly(message.as_ptr(), message.len(), answer) })
+    answered(|answer| unsafe {
+        bulk_judge_plainly(message.as_ptr(), message.len() as Length, answer)
+    })
 }
 
 /// Where item `i` lies, from 0: `0, start, end`, or `number, place, 0`. It judges the whole message.
@@ -202,7 +232,7 @@ pub fn item(message: &[u8], i: u64) -> Words {
 pub fn item_with(message: &[u8], i: u64, index: &mut [u32]) -> Words {
     // SAFETY: the message is lent for the call, the index mutably so, the answer is three words.
     answered_with(index, |index, numbers, answer| unsafe {
-        bulk_item(message.as_ptr(), message.len(), i, index, numbers, answer)
+        bulk_item(message.as_ptr(), message.len() as Length, i, index, numbers, answer)
     })
 }
 
@@ -213,10 +243,35 @@ pub fn records(message: &[u8], area: &mut [u8]) -> Words {
 
 /// The same with the caller's index.
 pub fn records_with(message: &[u8], area: &mut [u8], index: &mut [u32]) -> Words {
-    let (lent, length) = (area.as_mut_ptr(), area.len());
+    let (lent, length) = (area.as_mut_ptr(), area.len() as Length);
     // SAFETY: the message is lent for the call, area and index mutably so, the answer is three words.
     answered_with(index, |index, numbers, answer| unsafe {
-        bulk_records(message.as_ptr(), message.len(), lent, length, index, numbers, answer)
+        bulk_records(
+            message.as_ptr(),
+            message.len() as Length,
+            lent,
+            length,
+            index,
+            numbers,
+            answer,
+        )
+    })
+}
+
+/// The records by the table-led engine, with the caller's index: the same answer, the same area.
+pub fn records_by_table(message: &[u8], area: &mut [u8], index: &mut [u32]) -> Words {
+    let (lent, length) = (area.as_mut_ptr(), area.len() as Length);
+    // SAFETY: the message is lent for the call, area and index mutably so, the answer is three words.
+    answered_with(index, |index, numbers, answer| unsafe {
+        bulk_records_by_table(
+            message.as_ptr(),
+            message.len() as Length,
+            lent,
+            length,
+            index,
+            numbers,
+            answer,
+        )
     })
 }
 
@@ -228,10 +283,10 @@ pub fn plain(message: &[u8], area: &mut [u8]) -> Words {
 
 /// The same with the caller's index.
 pub fn plain_with(message: &[u8], area: &mut [u8], index: &mut [u32]) -> Words {
-    let (lent, length) = (area.as_mut_ptr(), area.len());
+    let (lent, length) = (area.as_mut_ptr(), area.len() as Length);
     // SAFETY: the message is lent for the call, area and index mutably so, the answer is three words.
     answered_with(index, |index, numbers, answer| unsafe {
-        bulk_plain(message.as_ptr(), message.len(), lent, length, index, numbers, answer)
+        bulk_plain(message.as_ptr(), message.len() as Length, lent, length, index, numbers, answer)
     })
 }
 

@@ -1,7 +1,7 @@
 //! Playback: a day is rerun from its recording, on a lent book that is emptied first.
 
 use super::book::{Entry, Numbers};
-use super::{answered_with, own_index};
+use super::{answered_with, own_index, Length};
 
 /// The bytes of one record of a recording, as front/bulk.h has its fields.
 pub const RECORD: usize = 64;
@@ -27,16 +27,16 @@ pub struct Day<'d> {
 extern "C" {
     fn bulk_play(
         recording: *const u8,
-        recording_length: usize,
+        recording_length: Length,
         buffer: *const u8,
-        buffer_length: usize,
+        buffer_length: Length,
         ends: *const u64,
-        messages: usize,
+        messages: Length,
         entries: *mut Entry,
-        places: usize,
+        places: Length,
         numbers: *mut Numbers,
         index: *mut u32,
-        index_length: usize,
+        index_length: Length,
         answer: *mut u64,
     );
 }
@@ -55,17 +55,17 @@ pub fn play_with(
     index: &mut [u32],
 ) -> Played {
     let Day { recording, buffer, ends } = day;
-    let (lent, places) = (entries.as_mut_ptr(), entries.len());
+    let (lent, places) = (entries.as_mut_ptr(), entries.len() as Length);
     // SAFETY: entries, numbers and index are lent mutably for the call, the recording, the buffer and the
     // ends too, the answer is ten words.
     answered_with(index, |index, many, answer| unsafe {
         bulk_play(
             recording.as_ptr(),
-            recording.len(),
+            recording.len() as Length,
             buffer.as_ptr(),
-            buffer.len(),
+            buffer.len() as Length,
             ends.as_ptr(),
-            ends.len(),
+            ends.len() as Length,
             lent,
             places,
             numbers,

@@ -43,7 +43,7 @@ fn cleared(numbers: usize, but: Option<usize>) -> Words {
     // SAFETY: the numbers are lent, and so are the three words.
     answered_with(&mut index, |index, length, answer| unsafe {
         for at in 0..length {
-            index.add(at).write(u32::from(but == Some(at)));
+            index.add(at as usize).write(u32::from(but == Some(at as usize)));
         }
         (0..3).for_each(|word| answer.add(word).write(word as u64));
     })
@@ -106,11 +106,18 @@ fn the_caller_s_index() {
     let (mut area, mut other) = (vec![7; room], vec![7; room]);
     assert_eq!(judge(EXAMPLE), judge_with(EXAMPLE, &mut index));
     assert_eq!((judge(EXAMPLE), judge_plainly(EXAMPLE)), ([0, 1, 1234], [0, 1, 1234]));
+    index.fill(9);
+    assert_eq!(judge(EXAMPLE), judge_by_table(EXAMPLE, &mut index));
     index.fill(u32::MAX);
     assert_eq!(item(EXAMPLE, 0), item_with(EXAMPLE, 0, &mut index));
     index.fill(1);
     assert_eq!(records(EXAMPLE, &mut area), records_with(EXAMPLE, &mut other, &mut index));
     assert_eq!(plain(EXAMPLE, &mut area), plain_with(EXAMPLE, &mut other, &mut index));
+    assert!(area == other && area != vec![7; room]);
+    area.fill(7);
+    other.fill(7);
+    index.fill(3);
+    assert_eq!(records(EXAMPLE, &mut area), records_by_table(EXAMPLE, &mut other, &mut index));
     assert!(area == other && area != vec![7; room]);
     let short = &mut vec![7; INDEX - 1];
     assert_eq!(
