@@ -155,7 +155,10 @@ fn between<'a>(
             Some(one) if others.iter().all(|other| !is_one(&other.0, &one.0)) => Some(one),
             _ => others.first(),
         };
-        let Some((path, _)) = next else { return found };
+        let path = match next {
+            Some((path, _)) => path,
+            None => return found,
+        };
         let path = ones.first().map(|one| &one.0).filter(|one| is_one(one, path)).unwrap_or(path);
         let values = [take(&mut ones, path), take(&mut others, path)];
         if values[0] != values[1] {

@@ -1,8 +1,8 @@
 //! Items for a spreadsheet: semicolons, a heading, the decimal mark of the language.
 
 use crate::euro;
-use crate::items::Row;
 use crate::language::Language;
+use crate::rows::Row;
 use crate::show::shown;
 
 const ENGLISH: [&str; 13] = [

@@ -1,25 +1,11 @@
 //! `judge`: one line per file, in order, and a closing line for several.
 
 use crate::call::{Call, Command, Form};
-use crate::language::Language;
 use crate::trouble::Trouble;
-use crate::verdict::{unread_json, Judged, Verdict};
+use crate::verdict::{unread_json, Judged};
 use crate::{out, read, show, Status};
-use std::collections::HashMap;
-use std::ffi::{OsStr, OsString};
-
-/// What all files of a call come to.
-#[derive(Default)]
-struct Tally {
-    files: u128,
-    accepted: u128,
-    refused: u128,
-    items: u128,
-    /// Wide enough for the totals of any number of files.
-    cents: u128,
-    /// The first file of each MsgId.
-    msg_ids: HashMap<Vec<u8>, OsString>,
-}
+use std::ffi::OsStr;
+use told::tally::Tally;
 
 /// Judges every file. One that cannot be read does not keep the others from being judged.
 pub fn judge(call: &Call, names: &[&OsStr]) -> Result<Status, Trouble> {
@@ -82,43 +68,4 @@ fn unread(
         _ => {}
     }
     Ok(Status::Trouble)
-}
-
-impl Tally {
-    /// Counts a file, and tells it which earlier file has its MsgId.
-    fn add(&mut self, judged: &mut Judged) {
-        self.files += 1;
-        match judged.verdict {
-            Verdict::Accepted { count, cents } => {
-                self.accepted += 1;
-                self.items += u128::from(count);
-                self.cents += u128::from(cents);
-            }
-            Verdict::Refused { .. } => self.refused += 1,
-        }
-        let msg_id = judged.contents.header.msg_id;
-        if !msg_id.is_empty() {
-            judged.same_msg_id = self.msg_ids.get(msg_id).cloned();
-            self.msg_ids.entry(msg_id.to_vec()).or_insert_with(|| judged.name.to_owned());
-        }
-    }
-
-    /// `3 files: 1 accepted (5 items, 2,024.90 EUR), 1 refused, 1 not read`.
-    fn closing(&self, language: Language) -> String {
-        let (items, euros) = (language.items(self.items), language.euros(self.cents));
-        let Tally { files, accepted, refused, .. } = self;
-        let unread = files - accepted - refused;
-        let word = if *files == 1 { ("file", "Datei") } else { ("files", "Dateien") };
-        let sum = if *accepted == 0 { String::new() } else { format!(" ({items}, {euros})") };
-        let mut text = language.say(
-            format!("{files} {}: {accepted} accepted{sum}, {refused} refused", word.0),
-            format!("{files} {}: {accepted} angenommen{sum}, {refused} abgelehnt", word.1),
-        );
-        if unread > 0 {
-            let not_read = language.say("not read", "nicht gelesen");
-            text.push_str(&format!(", {unread} {not_read}"));
-        }
-        text.push('\n');
-        text
-    }
 }

@@ -9,6 +9,7 @@ use crate::verdict::{Judged, Verdict};
 use crate::{out, read, show, Status};
 use std::ffi::OsStr;
 use std::os::unix::ffi::OsStrExt;
+use told::{written, Disagreement};
 
 /// What is made of an accepted message.
 #[derive(Clone, Copy, Debug, PartialEq, Eq)]
@@ -19,10 +20,10 @@ pub enum Made {
 
 impl Made {
     /// It, of an accepted message with so many items.
-    fn of(self, message: &[u8], count: u64) -> Result<Vec<u8>, Trouble> {
+    fn of(self, message: &[u8], count: u64) -> Result<Vec<u8>, Disagreement> {
         match self {
-            Made::Records => records(message, count),
-            Made::Plain => plain(message, count),
+            Made::Records => written::records(message, count),
+            Made::Plain => written::plain(message, count),
         }
     }
 
@@ -43,31 +44,6 @@ impl Made {
         }
     }
 }
-
-/// The records of an accepted message with so many items.
-fn records(message: &[u8], count: u64) -> Result<Vec<u8>, Trouble> {
-    let mut area = vec![0; face::RECORD * count as usize];
-    match face::records(message, &mut area) {
-        [0, written, _] if written == count => Ok(area),
-        _ => Err(Trouble::Disagreement),
-    }
-}
-
-/// The plain form of an accepted message with so many items. It is longer than the message by a
-/// declaration at most, and by `.00` for each amount.
-pub fn plain(message: &[u8], count: u64) -> Result<Vec<u8>, Trouble> {
-    let mut area = vec![0; message.len() + DECLARATION + 3 * (count as usize + 1)];
-    match face::plain(message, &mut area) {
-        [0, length, _] if length <= area.len() as u64 => {
-            area.truncate(length as usize);
-            Ok(area)
-        }
-        _ => Err(Trouble::Disagreement),
-    }
-}
-
-/// The bytes of the declaration.
-const DECLARATION: usize = 38;
 
 /// Writes what is made to `out`. A refused message leaves it as it was, and so does any failure.
 pub fn made(call: &Call, made: Made, name: &OsStr, out: &OsStr) -> Result<Status, Trouble> {

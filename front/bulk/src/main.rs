@@ -5,62 +5,31 @@
 mod book;
 mod call;
 mod check;
-mod collapsed;
-mod compared;
-mod csv;
 mod day;
-mod doubled;
-mod euro;
+mod explain;
 mod failure;
 mod help;
 mod items;
-mod json;
 mod judge;
-mod language;
 mod made;
-mod message;
 mod out;
-mod pages;
-mod place;
 mod play;
-mod profile;
 mod read;
 mod recording;
-mod refusal;
 mod same;
 mod script;
-mod show;
 #[allow(unsafe_code)]
 mod system;
-mod tags;
 mod target;
 mod trouble;
 mod unplayed;
-mod verdict;
-mod version;
-mod why;
 
 use call::{Call, Command};
 use language::Language;
 use made::Made;
 use std::process::ExitCode;
+use told::{csv, euro, json, language, pages, show, verdict, why, Status};
 use trouble::Trouble;
-
-/// The exit status: 0, 1 or 2, each worse than the one before. Two bulks that differ end as a refusal
-/// does.
-#[derive(Clone, Copy, Debug, PartialEq, Eq, PartialOrd, Ord)]
-pub enum Status {
-    Accepted,
-    Refused,
-    Trouble,
-}
-
-impl Status {
-    /// The worse of two.
-    fn worse(self, other: Status) -> Status {
-        self.max(other)
-    }
-}
 
 /// Runs the command, and puts a trouble into words.
 fn main() -> ExitCode {
@@ -96,9 +65,9 @@ fn run(call: &Call) -> Result<Status, Trouble> {
         (Command::Book, [script]) => book::book(call, script),
         (Command::Day, words) => day::day(call, words),
         (Command::Check, [kind, value]) => check::check(call, kind, value),
-        (Command::Explain, []) => pages::explain(call, None).map(|()| Status::Accepted),
+        (Command::Explain, []) => explain::explain(call, None).map(|()| Status::Accepted),
         (Command::Explain, [number]) => {
-            pages::explain(call, Some(number)).map(|()| Status::Accepted)
+            explain::explain(call, Some(number)).map(|()| Status::Accepted)
         }
         (Command::Help, [word]) if *word == "day" => told(help::day(call.language)),
         (Command::Help, _) => told(help::page(call.language)),

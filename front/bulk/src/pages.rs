@@ -1,26 +1,22 @@
 //! The pages of the refusals. Their texts live in docs/REFUSALS.md alone, and are read from it.
 
-use crate::call::Call;
 use crate::language::Language;
-use crate::out;
-use crate::trouble::Trouble;
-use std::ffi::OsStr;
 
 const TEXT: &str = include_str!("../../../docs/REFUSALS.md");
 const WIDTH: usize = 78;
 
 /// A text in English and in German.
-type Both = [&'static str; 2];
+pub type Both = [&'static str; 2];
 
 /// One refusal number: its sentence of the overview, and the rows of its page.
-struct Page {
-    number: u64,
-    sentence: [String; 2],
-    rows: Vec<(Both, Both)>,
+pub struct Page {
+    pub number: u64,
+    pub sentence: [String; 2],
+    pub rows: Vec<(Both, Both)>,
 }
 
 /// All pages in their order.
-fn all() -> Vec<Page> {
+pub fn all() -> Vec<Page> {
     let mut parts = TEXT.split("\n## ");
     let overview = parts.next().unwrap_or("");
     let mut pages: Vec<Page> = rows(overview)
@@ -64,34 +60,15 @@ pub fn sentence(number: u64, language: Language) -> String {
     })
 }
 
-/// `explain`: the list of the numbers, or the page of one. In the language that was chosen; where
-/// none was, in both, that of the locale first.
-pub fn explain(call: &Call, number: Option<&OsStr>) -> Result<(), Trouble> {
-    let languages: &[usize] = match (call.language, call.is_chosen) {
-        (Language::English, true) => &[0],
-        (Language::German, true) => &[1],
-        (Language::English, false) => &[0, 1],
-        (Language::German, false) => &[1, 0],
-    };
-    let text = match number {
-        None => list(languages),
-        Some(word) => {
-            let page = page(word).ok_or_else(|| Trouble::UnknownNumber(word.to_owned()))?;
-            let told: Vec<String> = languages.iter().map(|&of| told(&page, of)).collect();
-            told.join("\n")
-        }
-    };
-    out::put(&text)
-}
-
-/// The page of the number that a word says.
-fn page(word: &OsStr) -> Option<Page> {
-    let number: u64 = word.to_str()?.parse().ok()?;
-    all().into_iter().find(|page| page.number == number)
+/// The page of a number in each of these languages, 0 English, 1 German; none where there is no such number.
+pub fn page(number: u64, languages: &[usize]) -> Option<String> {
+    let page = all().into_iter().find(|page| page.number == number)?;
+    let told: Vec<String> = languages.iter().map(|&of| told(&page, of)).collect();
+    Some(told.join("\n"))
 }
 
 /// A line or two for each number: its sentence in each of the languages.
-fn list(languages: &[usize]) -> String {
+pub fn list(languages: &[usize]) -> String {
     let mut text = String::new();
     for page in all() {
         let number = format!("{:2}", page.number);

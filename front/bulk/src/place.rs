@@ -84,15 +84,20 @@ fn tag_or_text(rest: &[u8]) -> &[u8] {
 /// The line of a place, cut on both sides where it is long, and below it a caret at the place. Both
 /// lines are indented. It helps in a message that is one long line.
 pub fn excerpt(message: &[u8], place: usize) -> String {
+    let (left, right) = around(message, place);
+    let caret = " ".repeat(left.chars().count());
+    format!("    {left}{right}\n    {caret}^\n")
+}
+
+/// What an excerpt shows before the place, and from the place on.
+pub fn around(message: &[u8], place: usize) -> (String, String) {
     let (before, behind) = message.split_at(place.min(message.len()));
     let before = &before[line_start(before)..];
     // The line's own indentation would only push the text to the right.
     let indented = before.iter().take_while(|byte| b" \t".contains(byte)).count();
     let left = last_columns(&before[indented..]);
     let behind = until(behind, b'\n');
-    let right = first_columns(behind.strip_suffix(b"\r").unwrap_or(behind));
-    let caret = " ".repeat(left.chars().count());
-    format!("    {left}{right}\n    {caret}^\n")
+    (left, first_columns(behind.strip_suffix(b"\r").unwrap_or(behind)))
 }
 
 /// The end of a text, as much as fits: an escape is wider than its byte.

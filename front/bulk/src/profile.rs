@@ -153,7 +153,10 @@ pub fn innermost(open: &Open) -> Option<Element> {
     let mut names = open.names();
     let mut element = (names.next()? == DOCUMENT.name.as_bytes()).then_some(DOCUMENT)?;
     for name in names {
-        let Content::Group(children) = element.content else { return None };
+        let children = match element.content {
+            Content::Group(children) => children,
+            _ => return None,
+        };
         let mut children = children.iter().map(|child| child.in_version(version));
         element = children.find(|child| child.name.as_bytes() == name)?;
     }
@@ -162,8 +165,9 @@ pub fn innermost(open: &Open) -> Option<Element> {
 
 /// The tags that may come at a place where a tag is due.
 pub fn expected(open: &Open) -> Vec<String> {
-    let (Some(element), Some(version)) = (innermost(open), open.version) else {
-        return Vec::new();
+    let (element, version) = match (innermost(open), open.version) {
+        (Some(element), Some(version)) => (element, version),
+        _ => return Vec::new(),
     };
     let end = format!("</{}>", element.name);
     match element.content {

@@ -99,7 +99,10 @@ impl<'a> Refusal<'a> {
     /// Which payment it is: TxId, debtor and amount, as far as they were read. Before the TxId there is
     /// the EndToEndId to go by.
     fn payment(&self, language: Language) -> String {
-        let Some((_, item)) = &self.item else { return String::new() };
+        let item = match &self.item {
+            Some((_, item)) => item,
+            None => return String::new(),
+        };
         let debtor = language.say("debtor", "Zahlungspflichtiger");
         let mut parts = Vec::new();
         match (item.tx_id, &*item.end_to_end_id) {
@@ -118,7 +121,7 @@ impl<'a> Refusal<'a> {
     }
 
     /// What was found, and in brackets why it was refused.
-    fn found_told(&self, language: Language) -> String {
+    pub fn found_told(&self, language: Language) -> String {
         match self.found {
             Found::Nothing => String::new(),
             Found::NoByte => {
@@ -145,7 +148,7 @@ impl<'a> Refusal<'a> {
     }
 
     /// For a wrong count or total: what the header says, and what the items come to.
-    fn against_told(&self, language: Language) -> String {
+    pub fn against_told(&self, language: Language) -> String {
         match self.against {
             None => String::new(),
             Some(Against::Limit { came }) => {
@@ -184,7 +187,7 @@ pub fn value(language: Language, bytes: &[u8], most: usize, why: Option<&Why>) -
 
 /// What stands in brackets behind a value.
 fn details(language: Language, length: Option<usize>, why: Option<&Why>) -> String {
-    let length = length.filter(|_| !why.is_some_and(Why::tells_length));
+    let length = length.filter(|_| !matches!(why, Some(why) if why.tells_length()));
     let length = length.map(|length| format!("{length} {}", language.say("bytes", "Bytes")));
     let why = why.map(|why| why.words(language));
     let parts: Vec<String> = length.into_iter().chain(why).collect();
@@ -240,7 +243,8 @@ fn expected(open: &Open, found: &Found) -> Why<'static> {
 /// Whether a tag is one of a BIC, in either version.
 fn is_bic(tag: &[u8]) -> bool {
     let name = tag.strip_prefix(b"</").or_else(|| tag.strip_prefix(b"<"));
-    name.and_then(|name| name.strip_suffix(b">")).is_some_and(Version::is_bic)
+    let name = name.and_then(|name| name.strip_suffix(b">"));
+    matches!(name, Some(name) if Version::is_bic(name))
 }
 
 /// The limit that an amount is under or over. One of no cents has only zeros.

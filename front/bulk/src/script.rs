@@ -8,30 +8,10 @@ use crate::show::{beginning, name, shown};
 use crate::trouble::Trouble;
 use std::ffi::{OsStr, OsString};
 use std::os::unix::ffi::OsStrExt;
+pub use told::booked::{Ask, Line, Named};
 
 /// The most bytes of a wrong line that are shown.
 const MOST_SHOWN: usize = 60;
-
-/// Service, MsgId, instructing BIC and settlement date, as a line names them.
-pub type Named = [Vec<u8>; 4];
-
-/// What a line asks for.
-#[derive(Debug, PartialEq, Eq)]
-pub enum Ask {
-    Enter(OsString),
-    Withdraw(Named),
-    Find(Named),
-    Total,
-    List,
-}
-
-/// A line that is a call.
-#[derive(Debug, PartialEq, Eq)]
-pub struct Line {
-    /// From 1.
-    pub number: usize,
-    pub ask: Ask,
-}
 
 /// Why a script cannot be done.
 #[derive(Debug)]

@@ -2,7 +2,6 @@
 //! cursor, turn the direction of writing or hide.
 
 use std::ffi::OsStr;
-use std::os::unix::ffi::OsStrExt;
 use std::str;
 
 /// Bytes as text on one line: letters of UTF-8 as they are, all else as an escape.
@@ -82,9 +81,18 @@ pub fn ending(bytes: &[u8], most: usize) -> &[u8] {
     &bytes[from + cut..]
 }
 
+/// The bytes of a file name. In a browser there are names of UTF-8 alone.
+pub fn bytes_of(name: &OsStr) -> &[u8] {
+    #[cfg(unix)]
+    let bytes = std::os::unix::ffi::OsStrExt::as_bytes(name);
+    #[cfg(not(unix))]
+    let bytes = name.to_str().map_or(&b""[..], str::as_bytes);
+    bytes
+}
+
 /// A file name on one line: it may hold any byte, and a line break would make two lines of one.
 pub fn name(name: &OsStr) -> String {
-    match name.as_bytes() {
+    match bytes_of(name) {
         [] => "\"\"".to_string(),
         bytes => shown(bytes),
     }

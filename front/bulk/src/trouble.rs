@@ -2,7 +2,6 @@
 //! once, here, in the chosen language.
 
 use crate::call::{Command, Form};
-use crate::check;
 use crate::day;
 use crate::failure::cause;
 use crate::language::Language;
@@ -57,6 +56,13 @@ pub enum Trouble {
     Disagreement,
 }
 
+impl From<told::Disagreement> for Trouble {
+    /// As it is told.
+    fn from(told::Disagreement: told::Disagreement) -> Trouble {
+        Trouble::Disagreement
+    }
+}
+
 impl Trouble {
     /// In words, for standard error.
     pub fn words(&self, language: Language) -> String {
@@ -109,7 +115,7 @@ impl Trouble {
                 )
             }
             Trouble::UnknownKind(_) => {
-                let all = check::names();
+                let all = told::checked::names();
                 language.say(
                     format!("Unknown kind {quoted}. Kinds: {all}"),
                     format!("Unbekannte Art {quoted}. Arten: {all}"),

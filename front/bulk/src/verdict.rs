@@ -6,11 +6,10 @@ use crate::language::Language;
 use crate::message::{self, Contents, Item};
 use crate::place::{self, Found};
 use crate::refusal::{Against, Refusal};
-use crate::show::{self, beginning, shown};
+use crate::show::{self, beginning, bytes_of, shown};
 use crate::version::Version;
 use crate::{euro, pages, Status};
 use std::ffi::{OsStr, OsString};
-use std::os::unix::ffi::OsStrExt;
 
 /// The most bytes of what was found that JSON has.
 const MOST: usize = 200;
@@ -116,27 +115,39 @@ impl<'a> Judged<'a> {
     }
 
     /// The version that the root names; nothing where it was not read.
-    fn version(&self) -> &'static str {
+    pub fn version(&self) -> &'static str {
         self.contents.version.map_or("", Version::name)
     }
 
     /// What stands below the line, indented: an excerpt of the place, doubled items, and the warnings.
     pub fn below(&self, language: Language) -> String {
         let mut text = match self.verdict {
-            Verdict::Refused { number, place } if number != 1 && !self.message.is_empty() => {
+            Verdict::Refused { place, .. } if self.has_excerpt() => {
                 place::excerpt(self.message, place)
             }
             _ => String::new(),
         };
         text.push_str(&doubled::told(&self.contents.items, &self.doubled, language));
-        if let Some(file) = &self.same_msg_id {
-            let (id, file) = (shown(self.contents.header.msg_id), show::name(file));
-            text.push_str(&language.say(
-                format!("  Warning: {file} has the same MsgId, {id}\n"),
-                format!("  Warnung: {file} hat dieselbe MsgId, {id}\n"),
-            ));
+        if let Some(warning) = self.same_msg_id_told(language) {
+            text.push_str(&format!("  {warning}\n"));
         }
         text
+    }
+
+    /// Whether there are bytes to show at the place of the refusal.
+    pub fn has_excerpt(&self) -> bool {
+        matches!(self.verdict, Verdict::Refused { number, .. } if number != 1)
+            && !self.message.is_empty()
+    }
+
+    /// The warning of an earlier file with the same MsgId.
+    pub fn same_msg_id_told(&self, language: Language) -> Option<String> {
+        let file = show::name(self.same_msg_id.as_ref()?);
+        let id = shown(self.contents.header.msg_id);
+        Some(language.say(
+            format!("Warning: {file} has the same MsgId, {id}"),
+            format!("Warnung: {file} hat dieselbe MsgId, {id}"),
+        ))
     }
 
     /// The line in words and all below it.
@@ -147,7 +158,7 @@ impl<'a> Judged<'a> {
     /// One object, with every key whatever the verdict.
     pub fn json(&self, language: Language) -> Object {
         let header = &self.contents.header;
-        let object = Object::default().text("file", self.name.as_bytes());
+        let object = Object::default().text("file", bytes_of(self.name));
         let object = match self.verdict {
             Verdict::Accepted { count, cents } => {
                 let object = object.text("verdict", b"accepted");
@@ -170,14 +181,14 @@ impl<'a> Judged<'a> {
             .list("looks_doubled", self.doubled.alike.iter().map(|group| alike_json(items, group)))
             .text_or_null(
                 "same_msg_id",
-                self.same_msg_id.as_ref().map_or(b"", |file| file.as_bytes()),
+                self.same_msg_id.as_ref().map_or(b"", |file| bytes_of(file)),
             )
     }
 }
 
 /// The object of a file that could not be read, with the same keys.
 pub fn unread_json(name: &OsStr, error: &str) -> Object {
-    let object = Object::default().text("file", name.as_bytes()).text("verdict", b"unread");
+    let object = Object::default().text("file", bytes_of(name)).text("verdict", b"unread");
     let object = no_refusal(object.raw("count", "null").raw("cents", "null"));
     let object = object.text("error", error.as_bytes());
     let keys = ["msg_id", "settlement_date", "instrument", "version"];
