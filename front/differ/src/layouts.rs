@@ -6,6 +6,7 @@
 use crate::damage::{damaged, due, fine, is_tag, is_value, kind_of, malform, whole};
 use crate::damage::{Case, Known, MALFORMED};
 use crate::edges;
+use crate::kind::Kind;
 use crate::message::{concat, laid_out, Message, Part, Plan, Spacing, Version, What};
 use crate::random::Random;
 use crate::twins::may_have_white;
@@ -117,6 +118,7 @@ pub fn layouts(seed: u64, base: u64, mut each: impl FnMut(u64, Case)) {
     bytes(&one, stride, random, &mut give);
     lengths(&one, random, &mut give);
     values(&one, random, &mut give);
+    figures(&one, random, &mut give);
     tags(&one, random, &mut give);
     white_space(&one, random, &mut give);
     for _ in 0..EACH {
@@ -237,6 +239,30 @@ fn values(item: &Item, random: &mut Random, give: Give) {
         let value = make(kind_of(&item.message.parts[part]), random);
         let bytes = item.with(part, &value);
         give(Case::new(bytes, "layout, value replaced", Known::Nothing));
+    }
+}
+
+/// Two digits that follow each other in values of the item, written so that they would weigh the same to
+/// one who takes any byte for a digit: one more or less in the first, ten less or more in the second.
+fn figures(item: &Item, random: &mut Random, give: Give) {
+    let weighs = |part: &Part| {
+        let kinds = [Kind::Iban, Kind::CreditorId, Kind::ItemAmount, Kind::Date];
+        kinds.iter().any(|kind| part.what == What::Value(*kind))
+    };
+    for _ in 0..EACH {
+        let part = item.part(weighs, random);
+        let mut value = item.message.parts[part].bytes.clone();
+        let are_digits = |at: &usize| value[*at..at + 2].iter().all(u8::is_ascii_digit);
+        let pairs: Vec<usize> = (0..value.len() - 1).filter(are_digits).collect();
+        if !pairs.is_empty() {
+            let at = pairs[random.below(pairs.len())];
+            (value[at], value[at + 1]) = match random.once_in(2) {
+                true => (value[at] - 1, value[at + 1] + 10),
+                false => (value[at] + 1, value[at + 1] - 10),
+            };
+            let bytes = item.with(part, &value);
+            give(Case::new(bytes, "layout, digits that weigh the same", Known::Nothing));
+        }
     }
 }
 

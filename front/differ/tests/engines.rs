@@ -132,7 +132,7 @@ fn said(case: &Case) -> (u64, usize) {
 }
 
 /// The ways of damage, and the numbers that each of them must have given.
-const DAMAGES: [(&str, &[u64]); 11] = [
+const DAMAGES: [(&str, &[u64]); 12] = [
     ("layout", &[0]),
     ("layout, byte replaced", &[0, 4, 7, 8, 9, 10, 15, 19]),
     ("layout, byte replaced and cut", &[3, 4, 7, 8, 10, 19]),
@@ -142,6 +142,7 @@ const DAMAGES: [(&str, &[u64]); 11] = [
     ("layout, value of a length", &[0, 7]),
     ("layout, value of a length, damaged", &[0, 4, 7]),
     ("layout, value replaced", &[0, 4, 7, 8, 9, 10, 11, 15, 19]),
+    ("layout, digits that weigh the same", &[7, 8]),
     ("layout, tag malformed", &[4, 7]),
     ("layout, any damage", &[0, 2, 3, 4, 6, 7, 8, 10, 11, 14, 15, 16, 19, 23, 24]),
 ];
