@@ -139,41 +139,5 @@ module _ (m : List ℕ) (p : ℕ) (fits : p + 4 ≤ length m) where
       ed ∙ rw (ec, eb, ea) (sym (ap (number 0) four-list ∙ number-cons 0 b0 (b1 ∷ b2 ∷ b3 ∷ []) ∙ number-cons (followedBy 0 (spell b0)) b1 (b2 ∷ b3 ∷ [])
       ∙ number-cons (followedBy (followedBy 0 (spell b0)) (spell b1)) b2 (b3 ∷ []) ∙ number-cons (followedBy (followedBy (followedBy 0 (spell b0)) (spell b1)) (spell b2)) b3 []))
 
-seven-from : (b0 b1 b2 b3 b4 b5 b6 d0 d1 d2 d3 d4 d5 d6 : ℕ) → b0 ≡ d0 + 48 → b1 ≡ d1 + 48 → b2 ≡ d2 + 48 → b3 ≡ d3 + 48 → b4 ≡ d4 + 48 → b5 ≡ d5 + 48 → b6 ≡ d6 + 48
-    → (b0 * 10 + b1) * 100000 + (b2 * 10 + b3) * 1000 + (b4 * 10 + b5) * 10 + b6 - 53333328 ≡ ((((((0 * 10 + d0) * 10 + d1) * 10 + d2) * 10 + d3) * 10 + d4) * 10 + d5) * 10 + d6
-seven-from b0 b1 b2 b3 b4 b5 b6 d0 d1 d2 d3 d4 d5 d6 e0 e1 e2 e3 e4 e5 e6 = omega arith
-
 pub back : (b : ℕ) → 48 ≤ b → b ≡ (b - 48) + 48
 back b h = omega arith
-
-seven-value : (b0 b1 b2 b3 b4 b5 b6 : ℕ) → 48 ≤ b0 → 48 ≤ b1 → 48 ≤ b2 → 48 ≤ b3 → 48 ≤ b4 → 48 ≤ b5 → 48 ≤ b6
-    → (b0 * 10 + b1) * 100000 + (b2 * 10 + b3) * 1000 + (b4 * 10 + b5) * 10 + b6 - 53333328 ≡ followedBy 0 (b0 ∷ b1 ∷ b2 ∷ b3 ∷ b4 ∷ b5 ∷ b6 ∷ [])
-seven-value b0 b1 b2 b3 b4 b5 b6 h0 h1 h2 h3 h4 h5 h6 =
-    seven-from b0 b1 b2 b3 b4 b5 b6 (b0 - 48) (b1 - 48) (b2 - 48) (b3 - 48) (b4 - 48) (b5 - 48) (b6 - 48)
-    (back b0 h0) (back b1 h1) (back b2 h2) (back b3 h3) (back b4 h4) (back b5 h5) (back b6 h6)
-
-module _ (m : List ℕ) (p : ℕ) (fits : p + 7 ≤ length m) (a : All digit m p 7) where
-  seven-list : part p 7 m ≡ getD m p 0 ∷ getD m (p + 1) 0 ∷ getD m (p + 2) 0 ∷ getD m (p + 3) 0 ∷ getD m (p + 4) 0 ∷ getD m (p + 5) 0 ∷ getD m (p + 6) 0 ∷ []
-  seven-list = ext-getD 0 (part p 7 m) (getD m p 0 ∷ getD m (p + 1) 0 ∷ getD m (p + 2) 0 ∷ getD m (p + 3) 0 ∷ getD m (p + 4) 0 ∷ getD m (p + 5) 0 ∷ getD m (p + 6) 0 ∷ []) (part-size m p 7 fits) (λ i h. go i (omega (arith, part-size m p 7 fits)))
-    where
-      go : (i : ℕ) → i < 7 → getD (part p 7 m) i 0 ≡ getD (getD m p 0 ∷ getD m (p + 1) 0 ∷ getD m (p + 2) 0 ∷ getD m (p + 3) 0 ∷ getD m (p + 4) 0 ∷ getD m (p + 5) 0 ∷ getD m (p + 6) 0 ∷ []) i 0
-      go zero h = part-byte m p 7 fits 0 h ∙ ap (λ (x : ℕ). getD m x 0) (add-zero p)
-      go (suc zero) h = part-byte m p 7 fits 1 h
-      go (suc (suc zero)) h = part-byte m p 7 fits 2 h
-      go (suc (suc (suc zero))) h = part-byte m p 7 fits 3 h
-      go (suc (suc (suc (suc zero)))) h = part-byte m p 7 fits 4 h
-      go (suc (suc (suc (suc (suc zero))))) h = part-byte m p 7 fits 5 h
-      go (suc (suc (suc (suc (suc (suc zero)))))) h = part-byte m p 7 fits 6 h
-      go (suc (suc (suc (suc (suc (suc (suc i))))))) h = absurd (let z : ⊥ = omega arith in z)
-
-  pub digit-at : (i : ℕ) → i < 7 → (48 ≤ getD m (p + i) 0) × (getD m (p + i) 0 ≤ 57)
-  digit-at i h = digit-bounds (getD m (p + i) 0) (a .each i h)
-
-  pub digit-first : (48 ≤ getD m p 0) × (getD m p 0 ≤ 57)
-  digit-first = digit-bounds (getD m p 0) (ap (λ (x : ℕ). digit (getD m x 0)) (sym (add-zero p)) ∙ a .each 0 (omega arith))
-
-  pub seven-number : (getD m p 0 * 10 + getD m (p + 1) 0) * 100000 + (getD m (p + 2) 0 * 10 + getD m (p + 3) 0) * 1000 + (getD m (p + 4) 0 * 10 + getD m (p + 5) 0) * 10 + getD m (p + 6) 0 - 53333328 ≡ followedBy 0 (part p 7 m)
-  seven-number =
-      seven-value (getD m p 0) (getD m (p + 1) 0) (getD m (p + 2) 0) (getD m (p + 3) 0) (getD m (p + 4) 0) (getD m (p + 5) 0) (getD m (p + 6) 0)
-      (digit-first .0) (digit-at 1 (omega arith) .0) (digit-at 2 (omega arith) .0) (digit-at 3 (omega arith) .0) (digit-at 4 (omega arith) .0) (digit-at 5 (omega arith) .0) (digit-at 6 (omega arith) .0)
-      ∙ sym (ap (followedBy 0) seven-list)

@@ -1,16 +1,14 @@
--- A creditor identifier by its head, its business code and its digits.
+-- A creditor identifier by its head, its business code and what follows.
 use mathlib.Core.Path.{_≡_, refl, sym, ap, _∙_}
 use mathlib.Core.Bool.{Bool, true, _&&_}
 use mathlib.Core.List.{List, [], _∷_}
-use Prim.Native.Nat.{ℕ, zero, suc, _+_, _-_, _*_, _%_, _≤_, _<_}
+use Prim.Native.Nat.{ℕ, zero, suc, _+_, _-_, _%_, _≤_, _<_}
 use native.Mathlib.Omega.{arith}
 use native.Mathlib.Nat.{add-zero}
 use lib.ListN.{length, drop, getD}
 use Rattle.text.specs.Truth.{part, every, some}
-use Rattle.text.specs.Quoted.{followedBy}
 use Rattle.text.specs.Classes.{digit, capital, letterOrDigit, referenceSet}
 use Rattle.text.proofs.Truths.{between-of, pass, done}
-use Rattle.text.proofs.Digits.{digit-bounds}
 use Rattle.answers.specs.Given.{yes as said}
 use Rattle.accounts.specs.Identifier.{identifierForm, identifierGiven}
 use Rattle.accounts.proofs.Forms.{digit-counts, capital-counts, counts-reference, identifier-turned}
@@ -21,9 +19,8 @@ use Rattle.tags.specs.Values.{inValue}
 use Rattle.kinds.specs.Given.{simpleGiven}
 use Rattle.swift_values.specs.Stands.{Stands}
 use Rattle.swift_values.specs.Blocks.{All, number, Headed, Identified}
-use Rattle.swift_values.specs.Dates.{pairAt}
 use Rattle.swift_values.proofs.Values.{ref-in}
-use Rattle.swift_values.proofs.Blocks.{part-size, part-byte, four-list, all-join}
+use Rattle.swift_values.proofs.Blocks.{part-size, part-byte, all-join}
 use Rattle.swift_values.proofs.Parts.{and-split, every-part, stands-part}
 use Rattle.swift_values.proofs.Ibans.{part-part, drop-part, head-is, range-is, turned-leaves}
 
@@ -43,25 +40,13 @@ three-of s p a b c ea eb ec h = record { each = each }
     each (suc (suc zero)) l = sym ec ∙ x .1
     each (suc (suc (suc j))) l = absurd (let z : ⊥ = omega arith in z)
 
--- four digits as two pairs
-four-value : (x0 x1 x2 x3 : ℕ) → (48 ≤ x0) × (x0 ≤ 57) → (48 ≤ x1) × (x1 ≤ 57) → (48 ≤ x2) × (x2 ≤ 57) → (48 ≤ x3) × (x3 ≤ 57)
-    → (53328 ≤ (x0 * 10 + x1) * 100 + (x2 * 10 + x3)) × ((x0 * 10 + x1) * 100 + (x2 * 10 + x3) - 53328 ≡ followedBy 0 (x0 ∷ x1 ∷ x2 ∷ x3 ∷ [])) × ((x0 * 10 + x1) * 100 + (x2 * 10 + x3) - 53328 ≤ 9999)
-four-value x0 x1 x2 x3 h0 h1 h2 h3 = (omega arith, omega arith, omega arith)
+-- digits are of the reference set, and the first of them counts
+module _ (m : List ℕ) (p k : ℕ) (ds : All digit m p k) where
+  pub digits-set : All referenceSet m p k
+  digits-set = record { each = λ j h. counts-reference (getD m (p + j) 0) (digit-counts (getD m (p + j) 0) (ds .each j h)) }
 
-module _ (m : List ℕ) (p : ℕ) (fits : p + 4 ≤ length m) (ds : All digit m p 4) where
-  pub four-digits : (a b : ℕ) → a ≡ pairAt m p → b ≡ pairAt m (p + 2) → (53328 ≤ a * 100 + b) × (a * 100 + b - 53328 ≡ followedBy 0 (part p 4 m)) × (a * 100 + b - 53328 ≤ 9999)
-  four-digits a b ea eb =
-      rw (ea, fb, four-list m p fits)
-      (four-value (getD m p 0) (getD m (p + 1) 0) (getD m (p + 2) 0) (getD m (p + 3) 0) d0 (bounds 1 (omega arith)) (bounds 2 (omega arith)) (bounds 3 (omega arith)))
-    where
-      fb : b ≡ getD m (p + 2) 0 * 10 + getD m (p + 3) 0
-      fb = let z : p + 2 + 1 ≡ p + 3 = omega arith in eb ∙ ap (λ (x : ℕ). getD m (p + 2) 0 * 10 + getD m x 0) z
-
-      bounds : (j : ℕ) → j < 4 → (48 ≤ getD m (p + j) 0) × (getD m (p + j) 0 ≤ 57)
-      bounds j h = digit-bounds (getD m (p + j) 0) (ds .each j h)
-
-      d0 : (48 ≤ getD m p 0) × (getD m p 0 ≤ 57)
-      d0 = digit-bounds (getD m p 0) (ap (λ (x : ℕ). digit (getD m x 0)) (sym (add-zero p)) ∙ ds .each 0 (omega arith))
+  pub digits-first : 0 < k → letterOrDigit (getD m p 0) ≡ true
+  digits-first h = ap (λ (x : ℕ). letterOrDigit (getD m x 0)) (sym (add-zero p)) ∙ digit-counts (getD m (p + 0) 0) (ds .each 0 h)
 
 -- ---- the first four
 module _ (m : List ℕ) (p : ℕ) (h : Headed m p) where
@@ -75,9 +60,6 @@ module _ (m : List ℕ) (p : ℕ) (h : Headed m p) where
       each (suc (suc (suc zero))) l = i (getD m (p + 3) 0) (h .fourth)
       each (suc (suc (suc (suc j)))) l = absurd (let z : ⊥ = omega arith in z)
 
-counts-in : (c : ℕ) → letterOrDigit c ≡ true → inValue c ≡ true
-counts-in c e = ref-in c (counts-reference c e)
-
 -- one of some is there
 some-first : (f : ℕ → Bool) (s : List ℕ) → 0 < length s → f (getD s 0 0) ≡ true → some f s ≡ true
 some-first f [] h e = absurd (let z : ⊥ = omega arith in z)
@@ -90,16 +72,16 @@ module _ (m : List ℕ) (p k : ℕ) (begun : 0 < p) (fits : p + (7 + k) < length
   head-counts : All letterOrDigit m p 4
   head-counts = head-all m p (i .head) letterOrDigit capital-counts digit-counts
 
-  digits-count : All letterOrDigit m (p + 7) k
-  digits-count = record { each = λ j h. digit-counts (getD m (p + 7 + j) 0) (i .digits .each j h) }
+  seven-count : All letterOrDigit m p 7
+  seven-count = all-join letterOrDigit m p 4 (p + 4) 3 head-counts (i .business) (omega arith) (omega arith) 7 (omega arith)
 
-  all-count : All letterOrDigit m p (7 + k)
-  all-count =
-      all-join letterOrDigit m p 7 (p + 7) k (all-join letterOrDigit m p 4 (p + 4) 3 head-counts (i .business) (omega arith) (omega arith) 7 (omega arith))
-      digits-count (omega arith) (omega arith) (7 + k) (omega arith)
+  all-in : All inValue m p (7 + k)
+  all-in =
+      all-join inValue m p 7 (p + 7) k (record { each = λ j h. ref-in (getD m (p + j) 0) (counts-reference (getD m (p + j) 0) (seven-count .each j h)) })
+      (record { each = λ j h. ref-in (getD m (p + 7 + j) 0) (i .set .each j h) }) (omega arith) (omega arith) (7 + k) (omega arith)
 
   value-is : every inValue (part p (7 + k) m) ≡ true
-  value-is = every-part m p (7 + k) within inValue (record { each = λ j h. counts-in (getD m (p + j) 0) (all-count .each j h) })
+  value-is = every-part m p (7 + k) within inValue all-in
 
   business-is : every letterOrDigit (part 4 3 (part p (7 + k) m)) ≡ true
   business-is = ap (every letterOrDigit) (part-part m p (7 + k) within 4 3 (omega arith)) ∙ every-part m (p + 4) 3 (omega arith) letterOrDigit (i .business)
@@ -110,13 +92,13 @@ module _ (m : List ℕ) (p k : ℕ) (begun : 0 < p) (fits : p + (7 + k) < length
   set-is : every referenceSet (drop 7 (part p (7 + k) m)) ≡ true
   set-is =
       ap (every referenceSet) rest-is
-      ∙ every-part m (p + 7) k (omega arith) referenceSet (record { each = λ j h. counts-reference (getD m (p + 7 + j) 0) (digits-count .each j h) })
+      ∙ every-part m (p + 7) k (omega arith) referenceSet (i .set)
 
   some-is : some letterOrDigit (drop 7 (part p (7 + k) m)) ≡ true
   some-is =
       ap (some letterOrDigit) rest-is
       ∙ some-first letterOrDigit (part (p + 7) k m) (omega (arith, part-size m (p + 7) k (omega arith)))
-      (ap letterOrDigit (part-byte m (p + 7) k (omega arith) 0 (omega arith)) ∙ digits-count .each 0 (omega arith))
+      (ap letterOrDigit (part-byte m (p + 7) k (omega arith) 0 (omega arith) ∙ ap (λ (x : ℕ). getD m x 0) (add-zero (p + 7))) ∙ i .first)
 
   form-is : identifierForm (part p (7 + k) m) ≡ true
   unfolding identifierForm

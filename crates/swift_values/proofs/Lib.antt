@@ -12,3 +12,4 @@ pub mod Dates
 pub mod Bics
 pub mod Amounts
 pub mod Codes
+pub mod Writes

@@ -1,13 +1,13 @@
 -- Digits by weights: their sum leaves by 97 what their number leaves.
 use mathlib.Core.Path.{_≡_, refl, sym, ap, _∙_}
-use mathlib.Core.Bool.{Bool, true, false}
+use mathlib.Core.Bool.{true, false}
 use mathlib.Core.List.{List, [], _∷_}
 use Prim.Native.Nat.{ℕ, zero, suc, _+_, _-_, _*_, _%_, _≤_, _<_}
 use native.Mathlib.Omega.{arith}
 use native.Mathlib.Nat.{mul-le-mul}
 use native.Mathlib.Numerals.{add-one}
 use borrow.Author.Tests.{eqb-true, leb-true}
-use lib.Dec.{eqb, leb}
+use lib.Dec.{eqb}
 use lib.ListN.{length, getD}
 use Rattle.text.specs.Truth.{part, every}
 use Rattle.text.specs.Quoted.{followedBy}
@@ -83,12 +83,12 @@ module _ (m : List ℕ) (p : ℕ) (fits : p + 22 ≤ length m) (ds : All digit m
         fourth = all-at digit m (p + 2) 20 1 (p + 3) ds (omega arith) (omega arith);
       }
 
-  pub german-caps : All capitalOrDigit m p 8
+  pub german-caps : All capitalOrDigit m p 22
   german-caps =
       all-join capitalOrDigit m p 4 (p + 2) 20 (head-all m p german-head capitalOrDigit capital-cap digit-cap) (record {
         each = λ j h. digit-cap
             (getD m (p + 2 + j) 0) (ds .each j h);
-      }) (omega arith) (omega arith) 8 (omega arith)
+      }) (omega arith) (omega arith) 22 (omega arith)
 
   head-is : number 0 (part p 4 m) ≡ ((1314 * 10 + (getD m (p + 2) 0 - 48)) * 10 + (getD m (p + 3) 0 - 48))
   head-is = rw (e0, e1) at (head-number m p (omega arith) german-head)

@@ -1,5 +1,5 @@
 -- Bytes of one class, and the number that characters write.
-use Prim.Native.Nat.{ℕ, zero, suc, _+_, _*_, _%_, _≤_, _<_}
+use Prim.Native.Nat.{ℕ, zero, suc, _+_, _*_, _-_, _%_, _≤_, _<_}
 use mathlib.Core.Path.{_≡_}
 use mathlib.Core.Bool.{Bool, true}
 use mathlib.Core.List.{List, [], _∷_}
@@ -7,7 +7,7 @@ use lib.Dec.{leb}
 use lib.ListN.{getD}
 use Rattle.text.specs.Truth.{part, between}
 use Rattle.text.specs.Quoted.{followedBy, decimal}
-use Rattle.text.specs.Classes.{digit, capital, capitalOrDigit, letterOrDigit}
+use Rattle.text.specs.Classes.{referenceSet, digit, capital, capitalOrDigit, letterOrDigit}
 use Rattle.check97.specs.Check.{spelled}
 use Rattle.accounts.specs.Lengths.{lengthOf}
 
@@ -32,6 +32,10 @@ balance s p w (suc n) = balance s p w n + getD s (p + n) 0 * getD w n 0
 abbrev pub number : ℕ → List ℕ → ℕ
 number n s = followedBy n (spelled s)
 
+-- the characters of t write, behind a number, that number times w, and v more
+pub record Writes (t : List ℕ) (w v : ℕ) : Type 0 where
+  pub is : (s : ℕ) → number s t ≡ s * w + v
+
 -- two capitals, two digits
 pub record Headed (s : List ℕ) (p : ℕ) : Type 0 where
   pub first : capital (getD s p 0) ≡ true
@@ -39,19 +43,19 @@ pub record Headed (s : List ℕ) (p : ℕ) : Type 0 where
   pub third : digit (getD s (p + 2) 0) ≡ true
   pub fourth : digit (getD s (p + 3) 0) ≡ true
 
--- the 8 + k characters from p on are an IBAN with digits from the ninth on
-pub record Checked (s : List ℕ) (p k : ℕ) : Type 0 where
+-- the n characters from p on are an IBAN but for its length
+pub record Checked (s : List ℕ) (p n : ℕ) : Type 0 where
   pub head : Headed s p
-  pub caps : All capitalOrDigit s p 8
-  pub digits : All digit s (p + 8) k
+  pub caps : All capitalOrDigit s p n
   pub range : between 2 98 (decimal (getD s (p + 2) 0 ∷ getD s (p + 3) 0 ∷ [])) ≡ true
-  pub leaves : number (number 0 (part (p + 4) (4 + k) s)) (part p 4 s) % 97 ≡ 1
+  pub leaves : number (number 0 (part (p + 4) (n - 4) s)) (part p 4 s) % 97 ≡ 1
 
--- the 7 + k characters from p on are a creditor identifier with digits from the eighth on
+-- the 7 + k characters from p on are a creditor identifier, with a letter or a digit at the eighth place
 pub record Identified (s : List ℕ) (p k : ℕ) : Type 0 where
   pub head : Headed s p
   pub business : All letterOrDigit s (p + 4) 3
-  pub digits : All digit s (p + 7) k
+  pub set : All referenceSet s (p + 7) k
+  pub first : letterOrDigit (getD s (p + 7) 0) ≡ true
   pub range : between 2 98 (decimal (getD s (p + 2) 0 ∷ getD s (p + 3) 0 ∷ [])) ≡ true
   pub leaves : number (number 0 (part (p + 7) k s)) (part p 4 s) % 97 ≡ 1
 

@@ -5,7 +5,7 @@ use mathlib.Core.Bool.{Bool, true, not, _&&_, _||_}
 use mathlib.Core.List.{List}
 use lib.ListN.{getD}
 use lib.Dec.{eqb}
-use Rattle.text.specs.Classes.{referenceSet, textSet, digit}
+use Rattle.text.specs.Classes.{referenceSet, textSet, capitalOrDigit}
 
 -- a byte of a reference, with the byte behind it: no slash before a slash or before the end of the value
 abbrev pub refPair : ℕ → ℕ → Bool
@@ -19,9 +19,12 @@ slashless b c = referenceSet b && not (eqb b 47)
 abbrev pub textOne : ℕ → ℕ → Bool
 textOne b c = textSet b
 
--- a digit, likewise
-abbrev pub digitOne : ℕ → ℕ → Bool
-digitOne b c = digit b
+-- one of the reference set, and a capital or a digit, likewise
+abbrev pub refOne : ℕ → ℕ → Bool
+refOne b c = referenceSet b
+
+abbrev pub capOne : ℕ → ℕ → Bool
+capOne b c = capitalOrDigit b
 
 -- the first r bytes from p on pass, each with the byte behind it
 pub record Run (f : ℕ → ℕ → Bool) (s : List ℕ) (p r : ℕ) : Type 0 where

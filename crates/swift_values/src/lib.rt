@@ -5,18 +5,18 @@ use money::Range;
 use profile::Kind;
 use profile::Simple;
 ghost use mathlib.Core.Path.{_≡_};
-ghost use mathlib.Core.Bool.{true, false};
+ghost use mathlib.Core.Bool.{true, false, _||_};
 ghost use mathlib.Core.List.{_∷_, []};
 ghost use mathlib.Core.Logic.{_⊎_};
 ghost use Prim.Native.Nat.{ℕ, _+_, _-_, _*_, _%_, _<_, _≤_};
 ghost use lib.ListN.{length, getD};
 ghost use Rattle.text.specs.Truth.{part, between, every};
-ghost use Rattle.text.specs.Classes.{referenceSet, textSet, digit, capital, capitalOrDigit, letterOrDigit};
+ghost use Rattle.text.specs.Classes.{referenceSet, textSet, digit, capital, small, capitalOrDigit, letterOrDigit};
 ghost use Rattle.text.specs.Quoted.{followedBy, decimal};
 ghost use Rattle.check97.specs.Check.{spell};
 ghost use Rattle.accounts.specs.Lengths.{lengthOf};
-ghost use Rattle.swift_values.specs.Lanes.{refPair, slashless, textOne, digitOne, Run};
-ghost use Rattle.swift_values.specs.Blocks.{All, AllAt, light, balance, number, Headed, Checked, Identified, Long};
+ghost use Rattle.swift_values.specs.Lanes.{refPair, slashless, refOne, textOne, capOne, Run};
+ghost use Rattle.swift_values.specs.Blocks.{All, AllAt, light, balance, number, Writes, Headed, Checked, Identified, Long};
 ghost use Rattle.swift_values.specs.Bics.{lowest as lowestOf, inBic, bicKind};
 ghost use Rattle.answers.specs.Given.{worth};
 ghost use Rattle.codes.specs.Listed.{codeGiven};
@@ -335,13 +335,64 @@ fn quick_name(m: &[u8], at: usize) -> usize
     e
 }
 
-// A name stands at a place, and `<` behind it: where it ends, or 0.
-pub fn name(m: &[u8], at: usize) -> usize
+// One that most names are made of, by few ranges: it is tried first.
+fn in_name(b: u8) -> bool
+    ensures { λ r. ⌜ ((c : ℕ) → r ≡ true → textOne b c ≡ true) ⌝ }
+{
+    ((b >= 43) & (b <= 58)) | (((b | 32) >= 97) & ((b | 32) <= 122)) | (b == 32)
+}
+
+// How many bytes of 32, from the first on, are such ones.
+fn name_lanes(m: &[u8], at: usize) -> usize
+    requires { ⌜ at + 32 ≤ length (now m) ⌝ }
+    ensures { λ r. ⌜ (r ≤ 32) × Run textOne (now (m .entry)) at r ⌝ }
+{
+    let mut r: u8 = 32;
+    for i in 0..32 {
+        r = low(r, key(in_name(m[at + i]), i as u8));
+    }
+    r as usize
+}
+
+// A name of up to 32 such bytes stands at a place, and `<` behind it: where it ends, or 0 where this does not tell.
+fn usual_name(m: &[u8], at: usize) -> usize
+    ensures { λ r. ⌜ (r ≤ length (now (m .entry))) × Found (Stands Simple.Text70 (now (m .entry)) at) r ⌝ }
+{
+    if !room(m, at, 33) {
+        return 0;
+    }
+    let n = name_lanes(m, at);
+    if n == 0 {
+        return 0;
+    }
+    let e = at + n;
+    if m[e] != 60 {
+        return 0;
+    }
+    if m[at] == 32 {
+        return 0;
+    }
+    e
+}
+
+// The same of any name.
+fn rare_name(m: &[u8], at: usize) -> usize
     ensures { λ r. ⌜ (r ≤ length (now (m .entry))) × Found (Stands Simple.Text70 (now (m .entry)) at) r ⌝ }
 {
     let r = quick_name(m, at);
     if r == 0 {
         return plain(Simple::Text70, m, at);
+    }
+    r
+}
+
+// A name stands at a place, and `<` behind it: where it ends, or 0.
+pub fn name(m: &[u8], at: usize) -> usize
+    ensures { λ r. ⌜ (r ≤ length (now (m .entry))) × Found (Stands Simple.Text70 (now (m .entry)) at) r ⌝ }
+{
+    let r = usual_name(m, at);
+    if r == 0 {
+        return rare_name(m, at);
     }
     r
 }
@@ -400,17 +451,6 @@ fn caps(m: &[u8], p: usize) -> bool
     r == 0
 }
 
-// Seven digits as a number.
-fn seven(m: &[u8], p: usize) -> u64
-    requires { ⌜ (p + 7 ≤ length (now m)) × All digit (now m) p 7 ⌝ }
-    ensures { λ r. ⌜ (r ≡ followedBy 0 (part p 7 (now (m .entry)))) × (r ≤ 9999999) ⌝ }
-{
-    let a = wide(m[p]) * 10 + wide(m[p + 1]);
-    let b = wide(m[p + 2]) * 10 + wide(m[p + 3]);
-    let c = wide(m[p + 4]) * 10 + wide(m[p + 5]);
-    a * 100000 + b * 1000 + c * 10 + wide(m[p + 6]) - 53333328
-}
-
 // A capital or a digit written behind s.
 fn onto(s: u64, b: u8) -> u64
     requires { ⌜ (s ≤ 999999) × (capitalOrDigit b ≡ true) ⌝ }
@@ -459,102 +499,15 @@ fn leaves(m: &[u8], p: usize, s: u64) -> bool
     (s % 97 * 1000000 + h) % 97 == 1
 }
 
-// The number of 22 characters leaves 1, of which the last fourteen are digits. The weights are what the powers of ten leave: one division for all.
-fn leaves_22(m: &[u8], p: usize) -> bool
-    requires { ⌜ (p + 22 ≤ length (now m)) × All capitalOrDigit (now m) p 8 × All digit (now m) (p + 8) 14 × Headed (now m) p ⌝ }
-    ensures { λ r. ⌜ (r ≡ true → number (number 0 (part (p + 4) 18 (now (m .entry)))) (part p 4 (now (m .entry))) % 97 ≡ 1) ⌝ }
-{
-    let h = four(m, p);
-    let q = four(m, p + 4);
-    let a = seven(m, p + 8);
-    let b = seven(m, p + 15);
-    (q * 73 + a * 15 + b * 27 + h) % 97 == 1
-}
-
-// A country whose IBANs have 22 characters.
-fn has_22(a: u8, b: u8) -> bool
-    ensures { λ r. ⌜ (r ≡ true → lengthOf (a ∷ b ∷ []) ≡ 22) ⌝ }
-{
-    if a == 68 {
-        return b == 69;
-    }
-    if a == 66 {
-        return b == 71;
-    }
-    if a == 71 {
-        return b == 66;
-    }
-    if a == 73 {
-        return b == 69;
-    }
-    if a == 86 {
-        return b == 65;
-    }
-    false
-}
-
-// An IBAN of 22 characters with digits from the ninth on stands at a place, and `<` behind it: where it ends, or 0 where this does not tell.
-fn quick_iban(m: &[u8], at: usize) -> usize
-    ensures { λ r. ⌜ (r ≤ length (now (m .entry))) × Found (Stands Simple.Iban (now (m .entry)) at) r ⌝ }
-{
-    if !room(m, at, 23) {
-        return 0;
-    }
-    if m[at + 22] != 60 {
-        return 0;
-    }
-    if !has_22(m[at], m[at + 1]) {
-        return 0;
-    }
-    if iban_here(m, at) {
-        return at + 22;
-    }
-    0
-}
-
-// An IBAN that is not told by the usual form stands at a place, and `<` behind it: where it ends, or 0.
-fn next_iban(m: &[u8], at: usize) -> usize
-    ensures { λ r. ⌜ (r ≤ length (now (m .entry))) × Found (Stands Simple.Iban (now (m .entry)) at) r ⌝ }
-{
-    let r = quick_iban(m, at);
-    if r == 0 {
-        return rare_iban(m, at);
-    }
-    r
-}
-
 // An IBAN stands at a place, and `<` behind it: where it ends, or 0.
 pub fn iban(m: &[u8], at: usize) -> usize
     ensures { λ r. ⌜ (r ≤ length (now (m .entry))) × Found (Stands Simple.Iban (now (m .entry)) at) r ⌝ }
 {
     let r = usual_iban(m, at);
     if r == 0 {
-        return next_iban(m, at);
+        return rare_iban(m, at);
     }
     r
-}
-
-// The same, of 22 characters that stand there.
-fn iban_here(m: &[u8], at: usize) -> bool
-    requires { ⌜ at + 23 ≤ length (now m) ⌝ }
-    ensures { λ r. ⌜ (r ≡ true → Checked (now (m .entry)) at 14) ⌝ }
-{
-    if !heads(m, at) {
-        return false;
-    }
-    if !caps(m, at) {
-        return false;
-    }
-    if !digits(m, at + 8) {
-        return false;
-    }
-    if !digits(m, at + 14) {
-        return false;
-    }
-    if !ranged(m, at) {
-        return false;
-    }
-    leaves_22(m, at)
 }
 
 // ---- Digits by weights
@@ -607,7 +560,7 @@ fn digits_20(m: &[u8], p: usize) -> bool
 // The 22 characters at a place are a German IBAN.
 fn german(m: &[u8], at: usize) -> bool
     requires { ⌜ at + 22 ≤ length (now m) ⌝ }
-    ensures { λ r. ⌜ (r ≡ true → Checked (now (m .entry)) at 14 × (getD (now (m .entry)) at 0 ≡ 68) × (getD (now (m .entry)) (at + 1) 0 ≡ 69)) ⌝ }
+    ensures { λ r. ⌜ (r ≡ true → Checked (now (m .entry)) at 22 × (getD (now (m .entry)) at 0 ≡ 68) × (getD (now (m .entry)) (at + 1) 0 ≡ 69)) ⌝ }
 {
     if m[at] != b'D' {
         return false;
@@ -693,6 +646,16 @@ fn days_of(month: u64) -> u64
     559
 }
 
+// A day that every month has, or how many days the month has: a number of days that is not too many.
+fn days_for(month: u64, day: u64) -> u64
+    ensures { λ r. ⌜ ((y : ℕ) → r ≤ daysIn y (month - 528) + 528) ⌝ }
+{
+    if day <= 556 {
+        return day;
+    }
+    days_of(month)
+}
+
 // The year is not 0, and the month has the day in any year.
 fn real_day(m: &[u8], p: usize) -> bool
     requires { ⌜ p + 10 ≤ length (now m) ⌝ }
@@ -701,7 +664,7 @@ fn real_day(m: &[u8], p: usize) -> bool
     let year = pair_at(m, p) + pair_at(m, p + 2);
     let month = pair_at(m, p + 5);
     let day = pair_at(m, p + 8);
-    (year >= 1057) & (month >= 529) & (month <= 540) & (day >= 529) & (day <= days_of(month))
+    (year >= 1057) & (month >= 529) & (month <= 540) & (day >= 529) & (day <= days_for(month, day))
 }
 
 // A date that is no 29 February stands at a place, and `<` behind it: where it ends, or 0 where this does not tell.
@@ -1058,8 +1021,48 @@ fn quick_remittance(m: &[u8], at: usize) -> usize
     e
 }
 
-// A remittance text stands at a place, and `<` behind it: where it ends, or 0.
-pub fn remittance(m: &[u8], at: usize) -> usize
+// How many bytes of 160, from the first on, are of the text set, if the first 32 are such as most names are made of.
+fn usual_run(m: &[u8], at: usize) -> usize
+    requires { ⌜ at + 160 ≤ length (now m) ⌝ }
+    ensures { λ r. ⌜ (r ≤ 160) × Run textOne (now (m .entry)) at r ⌝ }
+{
+    let n = name_lanes(m, at);
+    if n < 32 {
+        return n;
+    }
+    let k = text_run(m, at + 32);
+    if k < 64 {
+        return 32 + k;
+    }
+    96 + text_run(m, at + 96)
+}
+
+// A remittance text that begins so stands at a place, and `<` behind it: where it ends, or 0 where this does not tell.
+fn usual_remittance(m: &[u8], at: usize) -> usize
+    ensures { λ r. ⌜ (r ≤ length (now (m .entry))) × Found (Stands Simple.Text140 (now (m .entry)) at) r ⌝ }
+{
+    if !room(m, at, 161) {
+        return 0;
+    }
+    let n = usual_run(m, at);
+    if n == 0 {
+        return 0;
+    }
+    if 140 < n {
+        return 0;
+    }
+    let e = at + n;
+    if m[e] != 60 {
+        return 0;
+    }
+    if m[at] == 32 {
+        return 0;
+    }
+    e
+}
+
+// The same of any remittance text.
+fn rare_remittance(m: &[u8], at: usize) -> usize
     ensures { λ r. ⌜ (r ≤ length (now (m .entry))) × Found (Stands Simple.Text140 (now (m .entry)) at) r ⌝ }
 {
     let r = quick_remittance(m, at);
@@ -1069,57 +1072,159 @@ pub fn remittance(m: &[u8], at: usize) -> usize
     r
 }
 
-// ---- Long numbers
-
-// How many bytes of 32, from the first on, are digits.
-fn digit_lanes(m: &[u8], at: usize) -> usize
-    requires { ⌜ at + 32 ≤ length (now m) ⌝ }
-    ensures { λ r. ⌜ (r ≤ 32) × Run digitOne (now (m .entry)) at r ⌝ }
+// A remittance text stands at a place, and `<` behind it: where it ends, or 0.
+pub fn remittance(m: &[u8], at: usize) -> usize
+    ensures { λ r. ⌜ (r ≤ length (now (m .entry))) × Found (Stands Simple.Text140 (now (m .entry)) at) r ⌝ }
 {
-    let mut r: u8 = 32;
-    for i in 0..32 {
-        r = low(r, key(in_digit(m[at + i]), i as u8));
+    let r = usual_remittance(m, at);
+    if r == 0 {
+        return rare_remittance(m, at);
     }
-    r as usize
+    r
 }
 
-// The remainder by 97 of s with digits from p on written behind it, seven at a time: how many of k, up to the last six.
-fn by_sevens(m: &[u8], p: usize, k: usize, s: u64) -> Figures
-    requires { ⌜ (p + k ≤ length (now m)) × All digit (now m) p k × (s < 97) ⌝ }
-    ensures { λ r. ⌜ (r .many ≤ k) × (k < r .many + 7) × (r .number < 97) × (r .number % 97 ≡ followedBy s (part p (r .many) (now (m .entry))) % 97) ⌝ }
+// ---- Letters among digits
+
+// What characters write behind a number: the number times a weight, and a worth more.
+struct Tail {
+    weight: u64,
+    worth: u64,
+}
+
+// A letter.
+fn in_letter(b: u8) -> bool
+    ensures { λ r. ⌜ r ≡ (capital b || small b) ⌝ }
+{
+    ((b | 32) >= 97) & ((b | 32) <= 122)
+}
+
+// What a character writes.
+fn behind(b: u8) -> Tail
+    ensures { λ r. ⌜ Writes (b ∷ []) (r .weight) (r .worth) × (r .weight ≤ 100) × (r .worth ≤ 35) ⌝ }
+{
+    if in_digit(b) {
+        return Tail {
+            weight: 10,
+            worth: wide(b) - 48,
+        };
+    }
+    if in_letter(b) {
+        return Tail {
+            weight: 100,
+            worth: wide(b | 32) - 87,
+        };
+    }
+    Tail {
+        weight: 1,
+        worth: 0,
+    }
+}
+
+// What two characters write.
+fn behind_2(m: &[u8], p: usize) -> Tail
+    requires { ⌜ p + 2 ≤ length (now m) ⌝ }
+    ensures { λ r. ⌜ Writes (part p 2 (now (m .entry))) (r .weight) (r .worth) × (r .weight ≤ 10000) × (r .worth ≤ 3535) ⌝ }
+{
+    let a = behind(m[p]);
+    let b = behind(m[p + 1]);
+    Tail {
+        weight: a.weight * b.weight,
+        worth: a.worth * b.weight + b.worth,
+    }
+}
+
+// What four characters write.
+fn behind_4(m: &[u8], p: usize) -> Tail
+    requires { ⌜ p + 4 ≤ length (now m) ⌝ }
+    ensures { λ r. ⌜ Writes (part p 4 (now (m .entry))) (r .weight) (r .worth) × (r .weight ≤ 100000000) × (r .worth ≤ 35353535) ⌝ }
+{
+    let a = behind_2(m, p);
+    let b = behind_2(m, p + 2);
+    Tail {
+        weight: a.weight * b.weight,
+        worth: a.worth * b.weight + b.worth,
+    }
+}
+
+// What eight characters write.
+fn behind_8(m: &[u8], p: usize) -> Tail
+    requires { ⌜ p + 8 ≤ length (now m) ⌝ }
+    ensures { λ r. ⌜ Writes (part p 8 (now (m .entry))) (r .weight) (r .worth) × (r .weight ≤ 10000000000000000) × (r .worth ≤ 3535353535353535) ⌝ }
+{
+    let a = behind_4(m, p);
+    let b = behind_4(m, p + 4);
+    Tail {
+        weight: a.weight * b.weight,
+        worth: a.worth * b.weight + b.worth,
+    }
+}
+
+// A number below 97 with characters written behind it, by 97.
+fn taken(n: u64, t: Tail) -> u64
+    requires { ⌜ (n < 97) × (t .weight ≤ 10000000000000000) × (t .worth ≤ 3535353535353535) ⌝ }
+    ensures { λ r. ⌜ (r < 97) × (r ≡ (n * t .weight + t .worth) % 97) ⌝ }
+{
+    (n * t.weight + t.worth) % 97
+}
+
+// The remainder by 97 of the number that characters from p on write, eight at a time: how many of k, up to the last seven.
+fn by_eights(m: &[u8], p: usize, k: usize) -> Figures
+    requires { ⌜ p + k ≤ length (now m) ⌝ }
+    ensures { λ r. ⌜ (r .many ≤ k) × (k < r .many + 8) × (r .number < 97) × (r .number % 97 ≡ number 0 (part p (r .many) (now (m .entry))) % 97) ⌝ }
 {
     let mut i: usize = 0;
-    let mut n = s;
-    while 7 <= k - i {
-        n = (n * 10000000 + seven(m, p + i)) % 97;
-        i += 7;
+    let mut n: u64 = 0;
+    while 8 <= k - i {
+        n = taken(n, behind_8(m, p + i));
+        i += 8;
     }
     Figures { many: i, number: n }
 }
 
-// s with k digits from p on written behind it, of which there are at most six.
-fn with_few(m: &[u8], p: usize, k: usize, s: u64) -> u64
-    requires { ⌜ (p + k ≤ length (now m)) × (k < 7) × All digit (now m) p k × (s < 97) ⌝ }
-    ensures { λ r. ⌜ r ≡ followedBy s (part p k (now (m .entry))) ⌝ }
+// A number of the same remainder as s with k characters from p on written behind it, of which there is at most one.
+fn with_one(m: &[u8], p: usize, k: usize, s: u64) -> u64
+    requires { ⌜ (p + k ≤ length (now m)) × (k < 2) × (s < 97) ⌝ }
+    ensures { λ r. ⌜ r % 97 ≡ number s (part p k (now (m .entry))) % 97 ⌝ }
 {
-    let mut i: usize = 0;
-    let mut n = s;
-    while i < k {
-        n = n * 10 + (wide(m[p + i]) - 48);
-        i += 1;
+    if k == 0 {
+        return s;
     }
-    n
+    taken(s, behind(m[p]))
 }
 
-// A number of the same remainder by 97 as s with the k digits from p on written behind it.
-fn remainder(m: &[u8], p: usize, k: usize, s: u64) -> u64
-    requires { ⌜ (p + k ≤ length (now m)) × All digit (now m) p k × (s < 97) ⌝ }
-    ensures { λ r. ⌜ r % 97 ≡ followedBy s (part p k (now (m .entry))) % 97 ⌝ }
+// The same of at most three.
+fn with_two(m: &[u8], p: usize, k: usize, s: u64) -> u64
+    requires { ⌜ (p + k ≤ length (now m)) × (k < 4) × (s < 97) ⌝ }
+    ensures { λ r. ⌜ r % 97 ≡ number s (part p k (now (m .entry))) % 97 ⌝ }
 {
-    let f = by_sevens(m, p, k, s);
+    if k < 2 {
+        return with_one(m, p, k, s);
+    }
+    let n = taken(s, behind_2(m, p));
+    with_one(m, p + 2, k - 2, n)
+}
+
+// The same of at most seven.
+fn with_four(m: &[u8], p: usize, k: usize, s: u64) -> u64
+    requires { ⌜ (p + k ≤ length (now m)) × (k < 8) × (s < 97) ⌝ }
+    ensures { λ r. ⌜ r % 97 ≡ number s (part p k (now (m .entry))) % 97 ⌝ }
+{
+    if k < 4 {
+        return with_two(m, p, k, s);
+    }
+    let n = taken(s, behind_4(m, p));
+    with_two(m, p + 4, k - 4, n)
+}
+
+// A number of the same remainder by 97 as the one that the k characters from p on write.
+fn remainder(m: &[u8], p: usize, k: usize) -> u64
+    requires { ⌜ p + k ≤ length (now m) ⌝ }
+    ensures { λ r. ⌜ r % 97 ≡ number 0 (part p k (now (m .entry))) % 97 ⌝ }
+{
+    let f = by_eights(m, p, k);
     let i = f.many;
     let n = f.number;
-    with_few(m, p + i, k - i, n)
+    with_four(m, p + i, k - i, n)
 }
 
 // ---- Creditor identifier
@@ -1139,9 +1244,9 @@ fn business(m: &[u8], p: usize) -> bool
     in_business(m[p]) & in_business(m[p + 1]) & in_business(m[p + 2])
 }
 
-// The 7 + k characters at a place, of which the last k are digits, are an identifier.
+// The 7 + k characters at a place, of which the last k are of the reference set, are an identifier with a letter or a digit at the eighth place.
 fn identified(m: &[u8], at: usize, k: usize) -> bool
-    requires { ⌜ (at + 7 + k ≤ length (now m)) × All digit (now m) (at + 7) k ⌝ }
+    requires { ⌜ (at + 7 + k ≤ length (now m)) × (1 ≤ k) × All referenceSet (now m) (at + 7) k ⌝ }
     ensures { λ r. ⌜ (r ≡ true → Identified (now (m .entry)) at k) ⌝ }
 {
     if !heads(m, at) {
@@ -1150,10 +1255,13 @@ fn identified(m: &[u8], at: usize, k: usize) -> bool
     if !business(m, at + 4) {
         return false;
     }
+    if !in_business(m[at + 7]) {
+        return false;
+    }
     if !ranged(m, at) {
         return false;
     }
-    leaves(m, at, remainder(m, at + 7, k, 0))
+    leaves(m, at, remainder(m, at + 7, k))
 }
 
 // Two capitals and two digits, each times its weight, as they are.
@@ -1175,6 +1283,18 @@ fn leaves_18(m: &[u8], p: usize) -> bool
     (whole(a) + whole(b) + h + 79) % 97 == 1
 }
 
+// Eleven digits stand at a place: eight, and the last eight.
+fn digits_11(m: &[u8], p: usize) -> bool
+    requires { ⌜ p + 11 ≤ length (now m) ⌝ }
+    ensures { λ r. ⌜ (r ≡ true → All digit (now (m .entry)) p 11) ⌝ }
+{
+    let mut r: u8 = 0;
+    for i in 0..8 {
+        r |= bad(in_digit(m[p + i]) & in_digit(m[p + 3 + i]));
+    }
+    r == 0
+}
+
 // The 18 characters at a place are an identifier with digits from the eighth on.
 fn identified_18(m: &[u8], at: usize) -> bool
     requires { ⌜ at + 18 ≤ length (now m) ⌝ }
@@ -1183,7 +1303,7 @@ fn identified_18(m: &[u8], at: usize) -> bool
     if !(heads(m, at) & business(m, at + 4)) {
         return false;
     }
-    if !(digits(m, at + 7) & digits(m, at + 10)) {
+    if !digits_11(m, at + 7) {
         return false;
     }
     if !ranged(m, at) {
@@ -1208,14 +1328,26 @@ fn usual_identifier(m: &[u8], at: usize) -> usize
     0
 }
 
-// An identifier with digits from the eighth character on stands at a place, and `<` behind it: where it ends, or 0 where this does not tell.
+// How many bytes of 32, from the first on, are of the reference set.
+fn set_lanes(m: &[u8], at: usize) -> usize
+    requires { ⌜ at + 32 ≤ length (now m) ⌝ }
+    ensures { λ r. ⌜ (r ≤ 32) × Run refOne (now (m .entry)) at r ⌝ }
+{
+    let mut r: u8 = 32;
+    for i in 0..32 {
+        r = low(r, key(in_ref(m[at + i]), i as u8));
+    }
+    r as usize
+}
+
+// An identifier with a letter or a digit at the eighth place stands at a place, and `<` behind it: where it ends, or 0 where this does not tell.
 fn quick_identifier(m: &[u8], at: usize) -> usize
     ensures { λ r. ⌜ (r ≤ length (now (m .entry))) × Found (Stands Simple.Identifier (now (m .entry)) at) r ⌝ }
 {
     if !room(m, at, 40) {
         return 0;
     }
-    let k = digit_lanes(m, at + 7);
+    let k = set_lanes(m, at + 7);
     if k == 0 {
         return 0;
     }
@@ -1411,48 +1543,51 @@ fn length_of(a: u8, b: u8) -> usize
     length_to_z(w)
 }
 
-// The number of the characters from the fifth on, of which k behind the eighth are digits; or one of the same remainder.
-fn longer_body(m: &[u8], p: usize, k: usize) -> u64
-    requires { ⌜ (p + 8 + k ≤ length (now m)) × All capitalOrDigit (now m) (p + 4) 4 × All digit (now m) (p + 8) k ⌝ }
-    ensures { λ r. ⌜ r % 97 ≡ number 0 (part (p + 4) (4 + k) (now (m .entry))) % 97 ⌝ }
+// How many bytes of 32, from the first on, are capitals or digits.
+fn cap_lanes(m: &[u8], at: usize) -> usize
+    requires { ⌜ at + 32 ≤ length (now m) ⌝ }
+    ensures { λ r. ⌜ (r ≤ 32) × Run capOne (now (m .entry)) at r ⌝ }
 {
-    let q = four(m, p + 4) % 97;
-    remainder(m, p + 8, k, q)
+    let mut r: u8 = 32;
+    for i in 0..32 {
+        r = low(r, key(in_cap(m[at + i]), i as u8));
+    }
+    r as usize
 }
 
-// The 8 + k characters at a place, of which the last k are digits, are an IBAN but for its length.
-fn checked(m: &[u8], at: usize, k: usize) -> bool
-    requires { ⌜ (at + 8 + k ≤ length (now m)) × All digit (now m) (at + 8) k ⌝ }
-    ensures { λ r. ⌜ (r ≡ true → Checked (now (m .entry)) at k) ⌝ }
+// The n capitals and digits at a place are an IBAN but for its length.
+fn checked(m: &[u8], at: usize, n: usize) -> bool
+    requires { ⌜ (at + n ≤ length (now m)) × (15 ≤ n) × All capitalOrDigit (now m) at n ⌝ }
+    ensures { λ r. ⌜ (r ≡ true → Checked (now (m .entry)) at n) ⌝ }
 {
     if !heads(m, at) {
-        return false;
-    }
-    if !caps(m, at) {
         return false;
     }
     if !ranged(m, at) {
         return false;
     }
-    leaves(m, at, longer_body(m, at, k))
+    leaves(m, at, remainder(m, at + 4, n - 4))
 }
 
-// An IBAN with digits from the ninth character on stands at a place, and `<` behind it: where it ends, or 0 where this does not tell.
+// An IBAN of up to 32 characters stands at a place, and `<` behind it: where it ends, or 0 where this does not tell.
 fn other_iban(m: &[u8], at: usize) -> usize
     ensures { λ r. ⌜ (r ≤ length (now (m .entry))) × Found (Stands Simple.Iban (now (m .entry)) at) r ⌝ }
 {
-    if !room(m, at, 41) {
+    if !room(m, at, 33) {
         return 0;
     }
-    let k = digit_lanes(m, at + 8);
-    if m[at + 8 + k] != b'<' {
+    let n = cap_lanes(m, at);
+    if n < 15 {
         return 0;
     }
-    if length_of(m[at], m[at + 1]) != 8 + k {
+    if m[at + n] != b'<' {
         return 0;
     }
-    if checked(m, at, k) {
-        return at + 8 + k;
+    if length_of(m[at], m[at + 1]) != n {
+        return 0;
+    }
+    if checked(m, at, n) {
+        return at + n;
     }
     0
 }

@@ -1,10 +1,7 @@
 -- `swift_values::german` meets its contract.
 use native.Mathlib.Omega.{arith}
-use Prim.Native.Nat.{_+_}
 use borrow.Author.Tests.{not-false}
-use Rattle.text.specs.Classes.{digit}
 use Rattle.swift_values.proofs.Lanes.{unlike}
-use Rattle.swift_values.proofs.Blocks.{all-part}
 use Rattle.swift_values.proofs.Weights.{german-head, german-caps}
 use borrow.Author.Needs.{needs}
 use Rattle.swift_values.proofs.german.Statement.{statement}
@@ -55,7 +52,6 @@ returns-5 c = λ e.
       record {
         head = german-head m p fits all first second;
         caps = german-caps m p fits all first second;
-        digits = all-part digit m (p + 2) 20 (p + 8) 14 all (omega arith) (omega arith);
         range = c .before .before .ranged .ensures (not-false _ (c .before .if4 .left));
         leaves = c .leaves-german .ensures e;
       },

@@ -1,17 +1,13 @@
 -- `swift_values::identified` meets its contract.
-use native.Mathlib.Omega.{arith}
-use Prim.Native.Nat.{ℕ, _+_, _%_}
-use mathlib.Core.Path.{sym, ap, _∙_}
-use borrow.Author.Tests.{not-false}
-use Rattle.text.specs.Truth.{part}
-use Rattle.text.specs.Classes.{capitalOrDigit}
-use Rattle.swift_values.specs.Blocks.{number}
-use Rattle.swift_values.proofs.Lanes.{unlike}
-use Rattle.swift_values.proofs.Parts.{digit-cap, capital-cap}
-use Rattle.swift_values.proofs.Rests.{digits-number}
-use Rattle.swift_values.proofs.Ibans.{behind-leaves}
-use Rattle.swift_values.proofs.Identifiers.{head-all}
 use borrow.Author.Needs.{needs}
+use native.Mathlib.Omega.{arith}
+use mathlib.Core.Path.{sym, _∙_}
+use borrow.Author.Tests.{not-false}
+use Rattle.text.specs.Classes.{capitalOrDigit}
+use Rattle.swift_values.proofs.Lanes.{unlike}
+use Rattle.swift_values.proofs.Parts.{capital-cap, digit-cap}
+use Rattle.swift_values.proofs.Identifiers.{head-all}
+use Rattle.swift_values.proofs.Writes.{behind-leaves}
 use Rattle.swift_values.proofs.identified.Statement.{statement}
 use Rattle.swift_values.proofs.identified.Tie as tie
 
@@ -30,47 +26,47 @@ business-requires c κs = search needs
 returns-2 : tie.Need-returns-2
 returns-2 c = λ e. unlike e
 
-ranged-requires : tie.Need-ranged-requires
-ranged-requires c κs = search needs
+add-in-business : tie.Need-add-in-business
+add-in-business c = search needs
+
+shared-slice-read-in-business : tie.Need-shared-slice-read-in-business
+shared-slice-read-in-business c = omega arith
+
+in-business-requires : tie.Need-in-business-requires
+in-business-requires c κs = search needs
 
 returns-3 : tie.Need-returns-3
 returns-3 c = λ e. unlike e
+
+ranged-requires : tie.Need-ranged-requires
+ranged-requires c κs = search needs
+
+returns-4 : tie.Need-returns-4
+returns-4 c = λ e. unlike e
 
 add-remainder : tie.Need-add-remainder
 add-remainder c = search needs
 
 remainder-requires : tie.Need-remainder-requires
-remainder-requires c κs = (omega arith, c .before .before .before .before .before .before .before .pre .1, omega arith)
+remainder-requires c κs = omega arith
 
 leaves-requires : tie.Need-leaves-requires
 leaves-requires c κs =
-    let the-args = c .before .before .before .before .before .before .before .before .args in
-    let the-heads = c .before .before .before .before .before .before .heads in
-    let the-if1 = c .before .before .before .before .before .if1 in
-    let h = the-heads .ensures (not-false _ (the-if1 .left)) in
-    (omega arith, head-all (the-args .m .now) (the-args .at) h capitalOrDigit capital-cap digit-cap, h)
+    let a = c .before .before .before .before .before .before .before .before .before .before .before .args in
+    let h = c .before .before .before .before .before .before .before .before .before .heads .ensures (not-false _ (c .before .before .before .before .before .before .before .before .if1 .left)) in
+    (omega arith, head-all (a .m .now) (a .at) h capitalOrDigit capital-cap digit-cap, h)
 
-returns-4 : tie.Need-returns-4
-returns-4 c = λ e.
-    let the-args = c .before .before .before .before .before .before .before .before .before .args in
-    let the-pre = c .before .before .before .before .before .before .before .before .before .pre in
-    let the-heads = c .before .before .before .before .before .before .before .heads in
-    let the-if1 = c .before .before .before .before .before .before .if1 in
-    let the-business = c .before .before .before .before .before .business in
-    let the-if2 = c .before .before .before .before .if2 in
-    let the-ranged = c .before .before .before .ranged in
-    let the-if3 = c .before .before .if3 in
-    let the-remainder = c .before .remainder in
-    let m = the-args .m .now in
-    let p = the-args .at in
-    let k = the-args .k in
-    let same = the-remainder .ensures ∙ ap (λ (x : ℕ). x % 97) (sym (digits-number m (p + 7) 0 k (omega arith) (the-pre .1))) in
+returns-5 : tie.Need-returns-5
+returns-5 c = λ e.
+    let a = c .before .before .before .before .before .before .before .before .before .before .before .before .args in
+    let r = c .before .remainder in
     record {
-      head = the-heads .ensures (not-false _ (the-if1 .left));
-      business = the-business .ensures (not-false _ (the-if2 .left));
-      digits = the-pre .1;
-      range = the-ranged .ensures (not-false _ (the-if3 .left));
-      leaves = behind-leaves m p (the-remainder .result) (number 0 (part (p + 7) k m)) same (c .leaves .ensures e);
+      head = c .before .before .before .before .before .before .before .before .before .before .heads .ensures (not-false _ (c .before .before .before .before .before .before .before .before .before .if1 .left));
+      business = c .before .before .before .before .before .before .before .before .business .ensures (not-false _ (c .before .before .before .before .before .before .before .if2 .left));
+      set = c .before .before .before .before .before .before .before .before .before .before .before .before .pre .2;
+      first = sym (c .before .before .before .before .before .in-business .ensures) ∙ not-false _ (c .before .before .before .before .if3 .left);
+      range = c .before .before .before .ranged .ensures (not-false _ (c .before .before .if4 .left));
+      leaves = behind-leaves (a .m .now) (a .at) (r .result) _ (r .ensures) (c .leaves .ensures e);
     }
 
 pub identified-spec : {M : Type 1} → statement M
@@ -82,9 +78,13 @@ identified-spec =
     add-business
     business-requires
     returns-2
-    ranged-requires
+    add-in-business
+    shared-slice-read-in-business
+    in-business-requires
     returns-3
+    ranged-requires
+    returns-4
     add-remainder
     remainder-requires
     leaves-requires
-    returns-4)
+    returns-5)

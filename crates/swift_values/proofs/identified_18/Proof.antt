@@ -1,11 +1,9 @@
 -- `swift_values::identified_18` meets its contract.
 use native.Mathlib.Omega.{arith}
-use Prim.Native.Nat.{_+_}
 use borrow.Author.Tests.{not-false}
-use Rattle.text.specs.Classes.{digit}
 use Rattle.swift_values.proofs.Lanes.{unlike}
-use Rattle.swift_values.proofs.Blocks.{all-join}
 use Rattle.swift_values.proofs.Parts.{and-split}
+use Rattle.swift_values.proofs.Identifiers.{digits-set, digits-first}
 use borrow.Author.Needs.{needs}
 use Rattle.swift_values.proofs.identified_18.Statement.{statement}
 use Rattle.swift_values.proofs.identified_18.Tie as tie
@@ -22,17 +20,11 @@ business-requires c κs = search needs
 returns : tie.Need-returns
 returns c = λ e. unlike e
 
-add-digits : tie.Need-add-digits
-add-digits c = search needs
+add-digits-11 : tie.Need-add-digits-11
+add-digits-11 c = search needs
 
-digits-requires : tie.Need-digits-requires
-digits-requires c κs = search needs
-
-add-digits-2 : tie.Need-add-digits-2
-add-digits-2 c = search needs
-
-digits-requires-2 : tie.Need-digits-requires-2
-digits-requires-2 c κs = search needs
+digits-11-requires : tie.Need-digits-11-requires
+digits-11-requires c κs = search needs
 
 returns-2 : tie.Need-returns-2
 returns-2 c = λ e. unlike e
@@ -45,35 +37,23 @@ returns-3 c = λ e. unlike e
 
 leaves-18-requires : tie.Need-leaves-18-requires
 leaves-18-requires c κs =
-    let the-args = c .before .before .before .before .before .before .before .before .before .args in
-    let the-heads = c .before .before .before .before .before .before .before .heads in
-    let the-business = c .before .before .before .before .before .before .business in
-    let the-if1 = c .before .before .before .before .before .if1 in
-    let the-digits = c .before .before .before .before .digits in
-    let the-digits2 = c .before .before .before .digits2 in
-    let the-if2 = c .before .before .if2 in
-    let x = and-split (the-heads .result) (the-business .result) (not-false _ (the-if1 .left)) in
-    let y = and-split (the-digits .result) (the-digits2 .result) (not-false _ (the-if2 .left)) in
-    (omega arith, all-join digit (the-args .m .now) (the-args .at + 7) 8 (the-args .at + 10) 8 (the-digits .ensures (y .0)) (the-digits2 .ensures (y .1)) (omega arith) (omega arith) 11 (omega arith), the-heads .ensures (x .0))
+    let the-heads = c .before .before .before .before .before .before .heads in
+    let the-business = c .before .before .before .before .before .business in
+    let x = and-split (the-heads .result) (the-business .result) (not-false _ (c .before .before .before .before .if1 .left)) in
+    (omega arith, c .before .before .before .digits-11 .ensures (not-false _ (c .before .before .if2 .left)), the-heads .ensures (x .0))
 
 returns-4 : tie.Need-returns-4
 returns-4 c = λ e.
-    let the-args = c .before .before .before .before .before .before .before .before .before .before .args in
-    let the-heads = c .before .before .before .before .before .before .before .before .heads in
-    let the-business = c .before .before .before .before .before .before .before .business in
-    let the-if1 = c .before .before .before .before .before .before .if1 in
-    let the-digits = c .before .before .before .before .before .digits in
-    let the-digits2 = c .before .before .before .before .digits2 in
-    let the-if2 = c .before .before .before .if2 in
-    let the-ranged = c .before .before .ranged in
-    let the-if3 = c .before .if3 in
-    let x = and-split (the-heads .result) (the-business .result) (not-false _ (the-if1 .left)) in
-    let y = and-split (the-digits .result) (the-digits2 .result) (not-false _ (the-if2 .left)) in
+    let the-heads = c .before .before .before .before .before .before .before .heads in
+    let the-business = c .before .before .before .before .before .before .business in
+    let x = and-split (the-heads .result) (the-business .result) (not-false _ (c .before .before .before .before .before .if1 .left)) in
+    let ds = c .before .before .before .before .digits-11 .ensures (not-false _ (c .before .before .before .if2 .left)) in
     record {
       head = the-heads .ensures (x .0);
       business = the-business .ensures (x .1);
-      digits = all-join digit (the-args .m .now) (the-args .at + 7) 8 (the-args .at + 10) 8 (the-digits .ensures (y .0)) (the-digits2 .ensures (y .1)) (omega arith) (omega arith) 11 (omega arith);
-      range = the-ranged .ensures (not-false _ (the-if3 .left));
+      set = digits-set _ _ 11 ds;
+      first = digits-first _ _ 11 ds (omega arith);
+      range = c .before .before .ranged .ensures (not-false _ (c .before .if3 .left));
       leaves = c .leaves-18 .ensures e;
     }
 
@@ -85,10 +65,8 @@ identified-18-spec =
     add-business
     business-requires
     returns
-    add-digits
-    digits-requires
-    add-digits-2
-    digits-requires-2
+    add-digits-11
+    digits-11-requires
     returns-2
     ranged-requires
     returns-3

@@ -7,7 +7,7 @@ use lib.ListN.{getD}
 use Rattle.profile.specs.declared.Simple.the-variants.{Identifier}
 use Rattle.swift_values.specs.Stands.{Stands}
 use Rattle.swift_values.proofs.Values.{found}
-use Rattle.swift_values.proofs.Rests.{run-all}
+use Rattle.swift_values.proofs.Writes.{run-refs}
 use Rattle.swift_values.proofs.Identifiers.{identifier-stands}
 use borrow.Author.Needs.{needs}
 use Rattle.swift_values.proofs.quick_identifier.Statement.{statement}
@@ -19,11 +19,11 @@ room-requires c κs = search needs
 returns : tie.Need-returns
 returns c = search needs
 
-add-digit-lanes : tie.Need-add-digit-lanes
-add-digit-lanes c = omega (arith, c .before .room .ensures (not-false (c .before .room .result) (c .if1 .left)))
+add-set-lanes : tie.Need-add-set-lanes
+add-set-lanes c = omega (arith, c .before .room .ensures (not-false (c .before .room .result) (c .if1 .left)))
 
-digit-lanes-requires : tie.Need-digit-lanes-requires
-digit-lanes-requires c κs = omega (arith, c .before .room .ensures (not-false (c .before .room .result) (c .if1 .left)))
+set-lanes-requires : tie.Need-set-lanes-requires
+set-lanes-requires c κs = omega (arith, c .before .room .ensures (not-false (c .before .room .result) (c .if1 .left)))
 
 returns-2 : tie.Need-returns-2
 returns-2 c = search needs
@@ -51,9 +51,9 @@ identified-requires c κs =
     let the-args = c .before .before .before .before .before .before .before .before .args in
     let the-room = c .before .before .before .before .before .before .room in
     let the-if1 = c .before .before .before .before .before .if1 in
-    let the-digit-lanes = c .before .before .before .before .digit-lanes in
+    let the-set-lanes = c .before .before .before .before .set-lanes in
     let h = the-room .ensures (not-false (the-room .result) (the-if1 .left)) in
-    (omega arith, run-all (the-args .m .now) (the-args .at + 7) (the-digit-lanes .result) (the-digit-lanes .ensures .1))
+    (omega arith, omega arith, run-refs (the-args .m .now) (the-args .at + 7) (the-set-lanes .result) (the-set-lanes .ensures .1))
 
 add-result : tie.Need-add-result
 add-result c =
@@ -71,13 +71,13 @@ returns-5 : tie.Need-returns-5
 returns-5 c =
     let the-args = c .before .before .before .before .before .before .before .before .before .before .args in
     let the-room = c .before .before .before .before .before .before .before .before .room in
-    let the-digit-lanes = c .before .before .before .before .before .before .digit-lanes in
+    let the-set-lanes = c .before .before .before .before .before .before .set-lanes in
     let the-if1 = c .before .before .before .before .before .before .before .if1 in
     let the-if4 = c .before .before .if4 in
     let the-identified = c .before .identified in
     let m = the-args .m .now in
     let p = the-args .at in
-    let k = the-digit-lanes .result in
+    let k = the-set-lanes .result in
     let h = the-room .ensures (not-false (the-room .result) (the-if1 .left)) in
     let z : p + 7 + k ≡ p + (7 + k) = omega arith in
     let b = ap (λ (x : ℕ). getD m x 0) (sym z) ∙ the-if4 .left in (
@@ -94,8 +94,8 @@ quick-identifier-spec =
     (tie.spec
     room-requires
     returns
-    add-digit-lanes
-    digit-lanes-requires
+    add-set-lanes
+    set-lanes-requires
     returns-2
     returns-3
     add-if4

@@ -28,8 +28,8 @@ add-pair-at-3 c = search needs
 pair-at-requires-4 : tie.Need-pair-at-requires-4
 pair-at-requires-4 c κs = search needs
 
-days-of-requires : tie.Need-days-of-requires
-days-of-requires c κs = search needs
+days-for-requires : tie.Need-days-for-requires
+days-for-requires c κs = search needs
 
 returns : tie.Need-returns
 returns c =
@@ -38,8 +38,8 @@ returns c =
     let the-pair-at2 = c .before .before .before .pair-at2 in
     let the-pair-at3 = c .before .before .pair-at3 in
     let the-pair-at4 = c .before .pair-at4 in
-    real-day (the-args .m .now) (the-args .p) (the-pair-at .result) (the-pair-at2 .result) (the-pair-at3 .result) (the-pair-at4 .result) (c .days-of .result)
-    (the-pair-at .ensures .0) (the-pair-at2 .ensures .0) (the-pair-at3 .ensures .0) (the-pair-at4 .ensures .0) (c .days-of .ensures)
+    real-day (the-args .m .now) (the-args .p) (the-pair-at .result) (the-pair-at2 .result) (the-pair-at3 .result) (the-pair-at4 .result) (c .days-for .result)
+    (the-pair-at .ensures .0) (the-pair-at2 .ensures .0) (the-pair-at3 .ensures .0) (the-pair-at4 .ensures .0) (c .days-for .ensures)
 
 pub real-day-spec : {M : Type 1} → statement M
 real-day-spec =
@@ -53,5 +53,5 @@ real-day-spec =
     pair-at-requires-3
     add-pair-at-3
     pair-at-requires-4
-    days-of-requires
+    days-for-requires
     returns)

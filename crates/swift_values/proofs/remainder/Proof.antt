@@ -1,42 +1,36 @@
 -- `swift_values::remainder` meets its contract.
-use native.Mathlib.Omega.{arith}
-use Prim.Native.Nat.{_+_, _-_}
-use Rattle.text.specs.Classes.{digit}
-use Rattle.swift_values.proofs.Blocks.{all-part}
-use Rattle.swift_values.proofs.Rests.{last-more}
 use borrow.Author.Needs.{needs}
+use native.Mathlib.Omega.{arith}
+use Prim.Native.Nat.{_-_}
+use Rattle.swift_values.proofs.Writes.{rest-more}
 use Rattle.swift_values.proofs.remainder.Statement.{statement}
 use Rattle.swift_values.proofs.remainder.Tie as tie
 
-by-sevens-requires : tie.Need-by-sevens-requires
-by-sevens-requires c κs = (c .before .pre .0, c .before .pre .1, c .before .pre .2)
+by-eights-requires : tie.Need-by-eights-requires
+by-eights-requires c κs = search needs
 
-add-with-few : tie.Need-add-with-few
-add-with-few c = search needs
+add-with-four : tie.Need-add-with-four
+add-with-four c = search needs
 
-sub-with-few : tie.Need-sub-with-few
-sub-with-few c = search needs
+sub-with-four : tie.Need-sub-with-four
+sub-with-four c = search needs
 
-with-few-requires : tie.Need-with-few-requires
-with-few-requires c κs =
-    let the-args = c .before .before .args in
-    let the-pre = c .before .before .pre in
-    let f = c .by-sevens .result in
-    (omega arith, omega arith, all-part digit (the-args .m .now) (the-args .p) (the-args .k) (the-args .p + f .many) (the-args .k - f .many) (the-pre .1) (omega arith) (omega arith), c .by-sevens .ensures .2)
+with-four-requires : tie.Need-with-four-requires
+with-four-requires c κs = search needs
 
 returns : tie.Need-returns
 returns c =
-    let the-args = c .before .before .before .args in
-    let the-by-sevens = c .before .by-sevens in
-    let f = the-by-sevens .result in
-    last-more (the-args .m .now) (the-args .p) (the-args .s) (f .many) (the-args .k) (f .number) (c .with-few .result) (the-by-sevens .ensures .0) (the-by-sevens .ensures .3) (c .with-few .ensures)
+    let a = c .before .before .before .args in
+    let e = c .before .by-eights in
+    let f = e .result in
+    rest-more (a .m .now) (a .p) (f .many) (a .k - f .many) (a .k) (f .number) (c .with-four .result) 0 (omega (arith, e .ensures .0)) (e .ensures .3) (c .with-four .ensures)
 
 pub remainder-spec : {M : Type 1} → statement M
 remainder-spec =
     tie.close
     (tie.spec
-    by-sevens-requires
-    add-with-few
-    sub-with-few
-    with-few-requires
+    by-eights-requires
+    add-with-four
+    sub-with-four
+    with-four-requires
     returns)

@@ -41,7 +41,7 @@ returns-3 c =
     let h = c .before .before .before .before .before .room .ensures (not-false (c .before .before .before .before .before .room .result) (c .before .before .before .before .if1 .left)) in
     let g = c .before .german .ensures (c .if3 .taken) in
     let long = has-22 (getD m p 0) (getD m (p + 1) 0) 68 69 (g .1) de-long (eq-eqb (getD m (p + 1) 0) 69 (g .2)) in
-    (omega arith, found (Stands Iban m p) (p + 22) (iban-stands m p 14 (omega arith) (omega arith) (c .before .before .if2 .left) (g .0) long (omega arith) (omega arith)))
+    (omega arith, found (Stands Iban m p) (p + 22) (iban-stands m p 22 (omega arith) (omega arith) (c .before .before .if2 .left) (g .0) long (omega arith) (omega arith)))
 
 returns-4 : tie.Need-returns-4
 returns-4 c = search needs

@@ -1,29 +1,29 @@
--- `swift_values::digit_lanes` meets its contract.
+-- `swift_values::set_lanes` meets its contract.
 use native.Mathlib.Omega.{arith}
 use Prim.Native.Nat.{_≤_, _-_}
-use Rattle.swift_values.specs.Lanes.{digitOne}
+use Rattle.swift_values.specs.Lanes.{refOne}
 use Rattle.swift_values.proofs.Lanes.{Seen, seen-none, seen-on, seen-all}
 use borrow.Author.Needs.{needs}
-use Rattle.swift_values.proofs.digit_lanes.Statement.{statement}
-use Rattle.swift_values.proofs.digit_lanes.Tie as tie
+use Rattle.swift_values.proofs.set_lanes.Statement.{statement}
+use Rattle.swift_values.proofs.set_lanes.Tie as tie
 
 abbrev Inv-loop : tie.InvT-loop
-Inv-loop m at r₀ i₀ r i = (i ≤ 32) × (r ≤ 32) × Seen digitOne m at i r
+Inv-loop m at r₀ i₀ r i = (i ≤ 32) × (r ≤ 32) × Seen refOne m at i r
 
 abbrev μ-loop : tie.MeasureT-loop
 μ-loop m at r₀ i₀ r i = 32 - i
 
 loop-holds : tie.Need-loop-holds Inv-loop μ-loop
-loop-holds c = (omega arith, omega arith, seen-none digitOne _ _ _)
+loop-holds c = (omega arith, omega arith, seen-none refOne _ _ _)
 
-add-in-digit : tie.Need-add-in-digit Inv-loop μ-loop
-add-in-digit c = search needs
+add-in-ref : tie.Need-add-in-ref Inv-loop μ-loop
+add-in-ref c = search needs
 
-shared-slice-read-in-digit : tie.Need-shared-slice-read-in-digit Inv-loop μ-loop
-shared-slice-read-in-digit c = search needs
+shared-slice-read-in-ref : tie.Need-shared-slice-read-in-ref Inv-loop μ-loop
+shared-slice-read-in-ref c = search needs
 
-in-digit-requires : tie.Need-in-digit-requires Inv-loop μ-loop
-in-digit-requires c κs = search needs
+in-ref-requires : tie.Need-in-ref-requires Inv-loop μ-loop
+in-ref-requires c κs = search needs
 
 cast-key : tie.Need-cast-key Inv-loop μ-loop
 cast-key c = search needs
@@ -44,31 +44,31 @@ loop-again : tie.Need-loop-again Inv-loop μ-loop
 loop-again c =
     let the-args = c .before .before .before .before .before .before .before .args in
     let the-loop = c .before .before .before .before .before .loop in
-    let the-in-digit = c .before .before .in-digit in
+    let the-in-ref = c .before .before .in-ref in
     let the-key = c .before .key in
     let a = the-args in
     let the-loop = the-loop in (
       omega arith,
       omega arith,
-      seen-on digitOne (a .m .now) (a .at) (the-loop .i) (the-loop .r) (the-key .result) (c .low .result) (the-in-digit .result) (the-loop .inv .2) (the-in-digit .ensures) (the-key .ensures) (c .low .ensures .0) (c .low .ensures .1),
+      seen-on refOne (a .m .now) (a .at) (the-loop .i) (the-loop .r) (the-key .result) (c .low .result) (the-in-ref .result) (the-loop .inv .2) (the-in-ref .ensures) (the-key .ensures) (c .low .ensures .0) (c .low .ensures .1),
     )
 
 cast-result : tie.Need-cast-result Inv-loop μ-loop
 cast-result c = search needs
 
 returns : tie.Need-returns Inv-loop μ-loop
-returns c = (c .before .loop .inv .1, seen-all digitOne _ _ (c .before .loop .i) (c .before .loop .r) (omega arith) (c .before .loop .inv .2))
+returns c = (c .before .loop .inv .1, seen-all refOne _ _ (c .before .loop .i) (c .before .loop .r) (omega arith) (c .before .loop .inv .2))
 
-pub digit-lanes-spec : {M : Type 1} → statement M
-digit-lanes-spec =
+pub set-lanes-spec : {M : Type 1} → statement M
+set-lanes-spec =
     tie.close
     (tie.spec
     Inv-loop
     μ-loop
     loop-holds
-    add-in-digit
-    shared-slice-read-in-digit
-    in-digit-requires
+    add-in-ref
+    shared-slice-read-in-ref
+    in-ref-requires
     cast-key
     key-requires
     low-requires
