@@ -1,8 +1,8 @@
 // The fixed bytes of a message: white space, tags and the currency in them, the declaration, and how they lie at a place.
 use text::Class;
 ghost use mathlib.Core.Path.{_≡_};
-ghost use Prim.Native.Nat.{_<_};
-ghost use lib.ListN.{getD};
+ghost use Prim.Native.Nat.{_+_, _<_, _≤_};
+ghost use lib.ListN.{length, getD, drop};
 ghost use Rattle.text.specs.Truth.{lead};
 ghost use Rattle.text.specs.Classes.{capital};
 ghost use Rattle.tags.specs.Tags.{look, exactly, currency, white, startsQuestion, declaration as declared, currencyPlace, inEuro};
@@ -49,11 +49,32 @@ pub fn spaces(s: &[u8]) -> usize
     i
 }
 
-// How many bytes stand before the first `<`: all, where there is none.
-pub fn upto(s: &[u8]) -> usize
-    ensures { λ r. ⌜ r ≡ lead inValue (now (s .entry)) ⌝ }
+// How many of four bytes from a place on stand before the first `<` among them.
+fn of_four(s: &[u8], i: usize) -> usize
+    requires { ⌜ i + 4 ≤ length (now s) ⌝ }
+    ensures { λ r. ⌜ (r ≤ 4) × (r + lead inValue (drop (i + r) (now (s .entry))) ≡ lead inValue (drop i (now (s .entry)))) × (r < 4 → lead inValue (drop (i + r) (now (s .entry))) ≡ 0) ⌝ }
 {
-    let mut i = 0;
+    if s[i] == b'<' {
+        return 0;
+    }
+    if s[i + 1] == b'<' {
+        return 1;
+    }
+    if s[i + 2] == b'<' {
+        return 2;
+    }
+    if s[i + 3] == b'<' {
+        return 3;
+    }
+    4
+}
+
+// Where the first `<` stands from a place on, byte by byte.
+fn upto_from(s: &[u8], from: usize) -> usize
+    requires { ⌜ from ≤ length (now s) ⌝ }
+    ensures { λ r. ⌜ r ≡ from + lead inValue (drop from (now (s .entry))) ⌝ }
+{
+    let mut i = from;
     while i < s.len() {
         if s[i] == b'<' {
             return i;
@@ -61,6 +82,21 @@ pub fn upto(s: &[u8]) -> usize
         i += 1;
     }
     i
+}
+
+// How many bytes stand before the first `<`: all, where there is none. Four a turn.
+pub fn upto(s: &[u8]) -> usize
+    ensures { λ r. ⌜ r ≡ lead inValue (now (s .entry)) ⌝ }
+{
+    let mut i = 0;
+    while 4 <= s.len() - i {
+        let k = of_four(s, i);
+        i += k;
+        if k < 4 {
+            return i;
+        }
+    }
+    upto_from(s, i)
 }
 
 // How the bytes of `text` lie at the beginning of s.

@@ -1,6 +1,7 @@
 pub mod Values
 pub mod Pairs
 pub mod Walks
+pub mod Entries
 pub mod Room
 pub mod Slots
 pub mod Cleared

@@ -1,5 +1,6 @@
 -- The quick way: an index of numbers, of which each is 0 or that of an item, counted from 1. The mix of a value's bytes says where its search begins;
--- from there it goes on from slot to slot, round about, past the numbers of items with another value.
+-- from there it goes on from slot to slot, round about, past the numbers of items with another value. Above the number stand the upper bits of that
+-- item's mix: where they differ, so do the values, and no byte of them is read.
 use Prim.Native.Nat.{ℕ, zero, suc, _+_, _-_, _*_, _/_, _%_, _^_, _<_}
 use mathlib.Core.Path.{_≡_}
 use mathlib.Core.Bool.{Bool, not}
@@ -77,6 +78,29 @@ walkFrom f step (suc left) = pick (f step) (walkFrom f (suc step) left) step
 
 unfoldable pub steps : List ℕ → List ℕ → List ℕ → List ℕ → ℕ → ℕ
 steps m places index v h = walkFrom (λ step. passed m places v (at index (slotAt h step))) 0 leastIndex
+
+-- ---- what the slots hold
+-- the number in an entry of the index, and the upper bits of a mix, which stand above it
+unfoldable pub numberIn : ℕ → ℕ
+numberIn e = e % leastIndex
+
+unfoldable pub upperOf : ℕ → ℕ
+upperOf h = h / leastIndex
+
+unfoldable pub entryOf : ℕ → ℕ → ℕ
+entryOf n h = h - h % leastIndex + n
+
+abbrev pub numbersIn : List ℕ → List ℕ
+numbersIn [] = []
+numbersIn (e ∷ index) = numberIn e ∷ numbersIn index
+
+-- an entry is 0, or that of an item
+pub record Told (m places : List ℕ) (e : ℕ) : Type 0 where
+  pub full : (e ≡ 0 → ⊥) → numberIn e ≡ 0 → ⊥
+  pub upper : (e ≡ 0 → ⊥) → upperOf e ≡ upperOf (mix (valueAt m (at places (numberIn e - 1))))
+
+abbrev pub AllTold : List ℕ → List ℕ → List ℕ → Type 0
+AllTold m places index = (slot : ℕ) → slot < leastIndex → Told m places (at index slot)
 
 -- ---- by any mix
 -- the slot where the search for a value stops

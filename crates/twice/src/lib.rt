@@ -8,7 +8,7 @@ ghost use Rattle.text.specs.Truth.{every, at};
 ghost use Rattle.text.specs.Quoted.{alike};
 ghost use Rattle.tags.specs.Values.{inValue, valueAt};
 ghost use Rattle.twice.specs.Twice.{second, leastIndex, cleared};
-ghost use Rattle.twice.specs.Engine.{mixOn, mixBytes, asOne, strewn, mix as mixed, clearedTo, most, endsAt, passed, steps as stepsOf, probe as probed, slotsFrom, AllFree};
+ghost use Rattle.twice.specs.Engine.{mixOn, mixBytes, asOne, strewn, mix as mixed, clearedTo, most, endsAt, passed, steps as stepsOf, probe as probed, slotsFrom, AllFree, numberIn, upperOf, entryOf, numbersIn, Told, AllTold};
 
 // The numbers that an index has at least, all of which are slots of the quick way.
 pub const LEAST_INDEX: usize = 16_384;
@@ -166,30 +166,55 @@ fn place_of(places: &[u32], n: u32) -> u32
     0
 }
 
-// Whether the search for v goes on past a number.
-fn passes(m: &[u8], places: &[u32], v: &[u8], n: u32) -> bool
-    requires { ⌜ every inValue (now v) ≡ true ⌝ }
-    ensures { λ r. ⌜ r ≡ passed (now (m .entry)) (now (places .entry)) (now (v .entry)) n ⌝ }
+// The number in an entry of the index.
+fn number_in(e: u32) -> u32
+    ensures { λ r. ⌜ r ≡ numberIn e ⌝ }
 {
-    if n == 0 {
+    e % 16_384
+}
+
+// The upper bits of a mix, which stand above the number.
+fn upper_of(h: u32) -> u32
+    ensures { λ r. ⌜ r ≡ upperOf h ⌝ }
+{
+    h / 16_384
+}
+
+// The entry of item n, whose value has the mix h.
+fn entry(n: u32, h: u32) -> u32
+    requires { ⌜ n < leastIndex ⌝ }
+    ensures { λ r. ⌜ r ≡ entryOf n h ⌝ }
+{
+    h - h % 16_384 + n
+}
+
+// Whether the search for v, whose mix is h, goes on past an entry. Most others are told by the mix alone.
+fn passes(m: &[u8], places: &[u32], v: &[u8], h: u32, e: u32) -> bool
+    requires { ⌜ (every inValue (now v) ≡ true) × (h ≡ mixed (now v)) × Told (now m) (now places) e ⌝ }
+    ensures { λ r. ⌜ r ≡ passed (now (m .entry)) (now (places .entry)) (now (v .entry)) (numberIn e) ⌝ }
+{
+    if e == 0 {
         return false;
     }
-    if holds(m, place_of(places, n), v) {
+    if upper_of(e) != upper_of(h) {
+        return true;
+    }
+    if holds(m, place_of(places, number_in(e)), v) {
         return false;
     }
     true
 }
 
-// How many steps the search for v takes from where h points.
+// How many steps the search for v takes from where h, its mix, points.
 fn steps(m: &[u8], places: &[u32], index: &[u32], v: &[u8], h: u32) -> usize
-    requires { ⌜ (every inValue (now v) ≡ true) × (leastIndex ≤ length (now index)) ⌝ }
-    ensures { λ r. ⌜ (r ≡ stepsOf (now (m .entry)) (now (places .entry)) (now (index .entry)) (now (v .entry)) h) × (r ≤ leastIndex) ⌝ }
+    requires { ⌜ (every inValue (now v) ≡ true) × (leastIndex ≤ length (now index)) × (h ≡ mixed (now v)) × AllTold (now m) (now places) (now index) ⌝ }
+    ensures { λ r. ⌜ (r ≡ stepsOf (now (m .entry)) (now (places .entry)) (numbersIn (now (index .entry))) (now (v .entry)) h) × (r ≤ leastIndex) ⌝ }
 {
     let from = wide(h);
     let mut step = 0;
     while step < LEAST_INDEX {
         let slot = (from + step) % LEAST_INDEX;
-        if passes(m, places, v, index[slot]) {
+        if passes(m, places, v, h, index[slot]) {
             step += 1;
         } else {
             return step;
@@ -198,20 +223,65 @@ fn steps(m: &[u8], places: &[u32], index: &[u32], v: &[u8], h: u32) -> usize
     step
 }
 
-// The slot where the search for the value at a place stops.
-fn probe(m: &[u8], places: &[u32], index: &[u32], p: u32) -> usize
-    requires { ⌜ leastIndex ≤ length (now index) ⌝ }
-    ensures { λ r. ⌜ (r ≡ probed mixed (now (m .entry)) (now (places .entry)) (now (index .entry)) (valueAt (now (m .entry)) p)) × (r < leastIndex) ⌝ }
+// Where the search for a value stops, and the value's mix.
+struct Stop {
+    slot: usize,
+    mix: u32,
+}
+
+// The search for the value at a place.
+fn probe(m: &[u8], places: &[u32], index: &[u32], p: u32) -> Stop
+    requires { ⌜ (leastIndex ≤ length (now index)) × AllTold (now m) (now places) (now index) ⌝ }
+    ensures { λ r. ⌜ (r .slot ≡ probed mixed (now (m .entry)) (now (places .entry)) (numbersIn (now (index .entry))) (valueAt (now (m .entry)) p))
+        × (r .slot < leastIndex) × (r .mix ≡ mixed (valueAt (now (m .entry)) p)) ⌝ }
 {
     let v = value_at(m, p);
     let h = mix(v);
-    (wide(h) + steps(m, places, index, v, h)) % LEAST_INDEX
+    Stop {
+        slot: (wide(h) + steps(m, places, index, v, h)) % LEAST_INDEX,
+        mix: h,
+    }
+}
+
+// The byte at a place; 0 where the message ends before.
+fn byte_at(m: &[u8], p: u32) -> u8 {
+    let i = wide(p);
+    if i < m.len() {
+        return m[i];
+    }
+    0
+}
+
+// The first bytes of sixteen values, or-ed.
+fn first_bytes(m: &[u8], places: &[u32], i: usize) -> u8
+    requires { ⌜ i + 16 ≤ length (now places) ⌝ }
+{
+    let mut r: u8 = 0;
+    for j in 0..16 {
+        r |= byte_at(m, places[i + j]);
+    }
+    r
+}
+
+// Whether the next sixteen values all begin with a byte 0, which none does that was read. Asked before each sixteen: so the memory brings them
+// together, and not one after the other.
+fn all_dark(m: &[u8], places: &[u32], i: usize) -> bool {
+    if i % 16 != 0 {
+        return false;
+    }
+    if places.len() < 16 {
+        return false;
+    }
+    if places.len() - 16 < i {
+        return false;
+    }
+    first_bytes(m, places, i) == 0
 }
 
 // The search by slots, over an index whose slots are all free.
 fn by_slots(m: &[u8], places: &[u32], index: &mut [u32]) -> usize
-    requires { ⌜ (leastIndex ≤ length (now index)) × (length (now places) ≤ most) ⌝ }
-    ensures { λ r. ⌜ r ≡ slotsFrom mixed (now (m .entry)) (now (places .entry)) 0 (now (index .entry)) (now (places .entry)) ⌝ }
+    requires { ⌜ (leastIndex ≤ length (now index)) × (length (now places) ≤ most) × AllFree (now index) ⌝ }
+    ensures { λ r. ⌜ r ≡ slotsFrom mixed (now (m .entry)) (now (places .entry)) 0 (numbersIn (now (index .entry))) (now (places .entry)) ⌝ }
 {
     let mut i = 0;
     while i < places.len() {
@@ -219,13 +289,17 @@ fn by_slots(m: &[u8], places: &[u32], index: &mut [u32]) -> usize
         if p == 0 {
             return 0;
         }
-        let slot = probe(m, places, index, p);
+        if all_dark(m, places, i) {
+            return plainly(m, places);
+        }
+        let found = probe(m, places, index, p);
+        let slot = found.slot;
         let n = index[slot];
         if n != 0 {
             return wide(p);
         }
         i += 1;
-        index[slot] = i as u32;
+        index[slot] = entry(i as u32, found.mix);
     }
     0
 }

@@ -1,13 +1,11 @@
--- `profile::upto` meets its contract. The loop's invariant: `i`, and how many lead from `i` on, are how many lead. The measure is what is left of the length.
-use borrow.Author.Needs.{needs}
+-- `tags::upto` meets its contract. The loop's invariant: `i`, and how many lead from `i` on, are how many lead. The measure is what is left of the length.
 use mathlib.Core.Path.{_≡_}
 use native.Mathlib.Omega.{arith}
 use Prim.Native.Nat.{_≤_, _+_, _-_}
 use lib.ListN.{length, drop}
 use Rattle.text.specs.Truth.{lead}
 use Rattle.tags.specs.Values.{inValue}
-use borrow.Author.Tests.{eq-eqb, ne-eqb}
-use Rattle.text.proofs.Scan.{lead-stop, lead-go, lead-end}
+use borrow.Author.Needs.{needs}
 use Rattle.tags.proofs.upto.Statement.{statement}
 use Rattle.tags.proofs.upto.Tie as tie
 
@@ -20,32 +18,35 @@ abbrev μ-loop : tie.MeasureT-loop
 loop-holds : tie.Need-loop-holds Inv-loop μ-loop
 loop-holds c = search needs
 
-shared-slice-read-if1 : tie.Need-shared-slice-read-if1 Inv-loop μ-loop
-shared-slice-read-if1 c = search needs
+sub-loop : tie.Need-sub-loop Inv-loop μ-loop
+sub-loop c = search needs
+
+of-four-requires : tie.Need-of-four-requires Inv-loop μ-loop
+of-four-requires c κs = search needs
+
+add-i : tie.Need-add-i Inv-loop μ-loop
+add-i c = omega (arith, c .of-four .ensures .0, c .before .before .loop .inv .0)
 
 returns : tie.Need-returns Inv-loop μ-loop
 returns c =
     let l = c .before .before .before .loop in
-    let a = c .before .before .before .before .args in
-    omega (arith, l .inv .1, lead-stop inValue (a .s .now) (l .i) (omega arith) (rw (eq-eqb _ _ (c .if1 .taken))))
-
-add-i : tie.Need-add-i Inv-loop μ-loop
-add-i c = search needs
+    let f = c .before .of-four in
+    omega (arith, l .inv .1, f .ensures .1, f .ensures .2 (omega arith))
 
 loop-less : tie.Need-loop-less Inv-loop μ-loop
-loop-less c = search needs
+loop-less c = omega (arith, c .before .of-four .ensures .0, c .before .before .before .loop .inv .0)
 
 loop-again : tie.Need-loop-again Inv-loop μ-loop
 loop-again c =
     let l = c .before .before .before .loop in
-    let a = c .before .before .before .before .args in
-    (omega arith, omega (arith, l .inv .1, lead-go inValue (a .s .now) (l .i) (omega arith) (rw (ne-eqb _ _ (c .if1 .left)))))
+    let f = c .before .of-four in
+    (omega (arith, f .ensures .0, l .inv .0), omega (arith, l .inv .1, f .ensures .1))
+
+upto-from-requires : tie.Need-upto-from-requires Inv-loop μ-loop
+upto-from-requires c κs = search needs
 
 returns-2 : tie.Need-returns-2 Inv-loop μ-loop
-returns-2 c =
-    let l = c .before .loop in
-    let a = c .before .before .args in
-    omega (arith, l .inv .1, lead-end inValue (a .s .now) (l .i) (omega arith))
+returns-2 c = omega (arith, c .upto-from .ensures, c .before .before .loop .inv .1)
 
 pub upto-spec : {M : Type 1} → statement M
 upto-spec =
@@ -54,9 +55,11 @@ upto-spec =
     Inv-loop
     μ-loop
     loop-holds
-    shared-slice-read-if1
-    returns
+    sub-loop
+    of-four-requires
     add-i
+    returns
     loop-less
     loop-again
+    upto-from-requires
     returns-2)

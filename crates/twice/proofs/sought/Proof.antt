@@ -2,8 +2,8 @@
 use borrow.Author.Needs.{needs}
 use native.Mathlib.Omega.{arith}
 use mathlib.Core.Path.{_∙_}
-use Rattle.twice.specs.Engine.{most}
-use Rattle.twice.specs.Engine.{mix}
+use Rattle.twice.specs.Engine.{most, mix, numbersIn}
+use Rattle.twice.proofs.Entries.{numbers-long, numbers-free}
 use Rattle.twice.proofs.Slots.{by-any-mix}
 use Rattle.twice.proofs.sought.Statement.{statement}
 use Rattle.twice.proofs.sought.Tie as tie
@@ -16,7 +16,7 @@ returns c = c .plainly .ensures
 
 by-slots-requires : tie.Need-by-slots-requires
 unfolding most
-by-slots-requires c κs = (c .before .before .before .before .before .pre .0, omega arith)
+by-slots-requires c κs = (c .before .before .before .before .before .pre .0, omega arith, c .before .before .before .before .before .pre .1)
 
 same-length : tie.Need-same-length
 same-length c = c .before .before .by-slots .kept .1 .1 .0
@@ -26,7 +26,8 @@ unfolding most
 returns-2 c =
     let a = c .before .before .before .before .before .before .before .before .args in
     let p = c .before .before .before .before .before .before .before .before .pre in
-    c .before .before .by-slots .ensures ∙ by-any-mix mix (a .m .now) (a .places .now) (omega arith) (a .index .now) (p .0) (p .1)
+    c .before .before .by-slots .ensures ∙ by-any-mix mix (a .m .now) (a .places .now) (omega arith) (numbersIn (a .index .now))
+    (omega (arith, numbers-long (a .index .now), p .0)) (numbers-free (a .index .now) (p .1))
 
 pub sought-spec : {M : Type 1} → statement M
 sought-spec = tie.close (tie.spec plainly-requires returns by-slots-requires same-length returns-2)

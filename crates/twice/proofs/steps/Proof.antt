@@ -2,15 +2,16 @@
 use borrow.Author.Needs.{needs}
 use native.Mathlib.Omega.{arith}
 use Prim.Native.Nat.{_≤_, _-_}
-use mathlib.Core.Path.{_≡_, _∙_}
+use mathlib.Core.Path.{_≡_, sym, ap, _∙_}
 use Rattle.twice.specs.Twice.{leastIndex}
-use Rattle.twice.specs.Engine.{steps}
+use Rattle.twice.specs.Engine.{steps, passed, numbersIn}
+use Rattle.twice.proofs.Entries.{numbers-at}
 use Rattle.twice.proofs.Walks.{walked, walk-begins, walk-on, walk-stop, walk-end}
 use Rattle.twice.proofs.steps.Statement.{statement}
 use Rattle.twice.proofs.steps.Tie as tie
 
 abbrev Inv-loop : tie.InvT-loop
-Inv-loop m places index v h from step₀ step = (step ≤ leastIndex) × (walked m places index v h step ≡ steps m places index v h)
+Inv-loop m places index v h from step₀ step = (step ≤ leastIndex) × (walked m places (numbersIn index) v h step ≡ steps m places (numbersIn index) v h)
 
 abbrev μ-loop : tie.MeasureT-loop
 μ-loop m places index v h from step₀ step = leastIndex - step
@@ -34,7 +35,10 @@ unfolding leastIndex
 shared-slice-read-passes c = omega arith
 
 passes-requires : tie.Need-passes-requires Inv-loop μ-loop
-passes-requires c κs = c .before .before .before .before .before .before .before .before .pre .0
+unfolding leastIndex
+passes-requires c κs =
+    let p = c .before .before .before .before .before .before .before .before .pre in
+    (p .0, p .2, p .3 _ (omega arith))
 
 add-step : tie.Need-add-step Inv-loop μ-loop
 unfolding leastIndex
@@ -52,8 +56,8 @@ loop-again c =
     let w = c .before .before .before .before .before .wide in
     let p = c .before .passes in (
       omega arith,
-      walk-on (a .m .now) (a .places .now) (a .index .now) (a .v .now) (a .h) (w .result) (l .step) (w .ensures)
-          (p .result) (p .ensures) (omega arith) (c .if1 .taken) ∙ l .inv .1,
+      walk-on (a .m .now) (a .places .now) (numbersIn (a .index .now)) (a .v .now) (a .h) (w .result) (l .step) (w .ensures)
+          (p .result) (p .ensures ∙ ap (passed (a .m .now) (a .places .now) (a .v .now)) (sym (numbers-at (a .index .now) _))) (omega arith) (c .if1 .taken) ∙ l .inv .1,
     )
 
 returns : tie.Need-returns Inv-loop μ-loop
@@ -63,8 +67,8 @@ returns c =
     let l = c .before .before .before .before .loop in
     let w = c .before .before .before .before .before .wide in
     let p = c .before .passes in (
-      walk-stop (a .m .now) (a .places .now) (a .index .now) (a .v .now) (a .h) (w .result) (l .step) (w .ensures)
-          (p .result) (p .ensures) (omega arith) (c .if1 .left) ∙ l .inv .1,
+      walk-stop (a .m .now) (a .places .now) (numbersIn (a .index .now)) (a .v .now) (a .h) (w .result) (l .step) (w .ensures)
+          (p .result) (p .ensures ∙ ap (passed (a .m .now) (a .places .now) (a .v .now)) (sym (numbers-at (a .index .now) _))) (omega arith) (c .if1 .left) ∙ l .inv .1,
       l .inv .0,
     )
 
@@ -74,7 +78,7 @@ returns-2 c =
     let a = c .before .before .before .before .before .before .before .args in
     let l = c .before .loop in
     let w = c .before .before .wide in
-    (walk-end (a .m .now) (a .places .now) (a .index .now) (a .v .now) (a .h) (w .result) (l .step) (w .ensures) (omega arith) ∙ l .inv .1, l .inv .0)
+    (walk-end (a .m .now) (a .places .now) (numbersIn (a .index .now)) (a .v .now) (a .h) (w .result) (l .step) (w .ensures) (omega arith) ∙ l .inv .1, l .inv .0)
 
 pub steps-spec : {M : Type 1} → statement M
 steps-spec =
