@@ -16,6 +16,7 @@ use Rattle.straight.specs.declared.quick.Back.{Back}
 use Rattle.straight.specs.declared.quick.Item.{Item}
 use Rattle.straight.specs.declared.quick.Side.the-variants.{Creditor, Debtor}
 use Rattle.straight.specs.Due.{Due, done, inside, value, close, run, made, Walked, lost, to, walk, unsaid, saidBy}
+use Rattle.straight.specs.Runs.{tagsAt}
 use Rattle.straight.specs.Ways.{Leg, tags, holds, mayFollow, Onward, Walks, LegsFit, legsNoted, legsFiled, noting, Gone}
 use Rattle.straight.specs.Legs.{idsLegs, typeLegs, termsLegs, mandateLegs, schemeLegs, partyLegs, agentLegs, lastLegs, itemLegs, stood, Followed, notedBy, itemNoted}
 use Rattle.straight.proofs.Ways.{way-made}
@@ -77,17 +78,20 @@ terms-walk : (v : Version) (s p c a b : ℕ) → Walks s (termsLegs p c a b) (at
 unfolding inItem isType
 terms-walk v s p c a b = (refl, refl, (refl, refl, (refl, refl, (refl, refl))))
 
-abbrev atIdentifier : Version → Due
-atIdentifier v = behind (mandateLegs 0 0) (atMandate v)
+abbrev atSigned : Version → Due
+atSigned v = behind (mandateLegs 0 0) (atMandate v)
 
-mandate-walk : (v : Version) (s p a : ℕ) → Walks s (mandateLegs p a) (atMandate v) s (atIdentifier v)
+mandate-walk : (v : Version) (s p a : ℕ) → Walks s (mandateLegs p a) (atMandate v) s (atSigned v)
 unfolding inItem isType
 mandate-walk v s p a = (refl, refl, (refl, refl, (refl, refl)))
 
-abbrev atCreditor : Version → Due
-atCreditor v = behind (schemeLegs 0 0) (atIdentifier v)
+abbrev toCreditor : ℕ → ℕ → List Leg
+toCreditor p a = tags (tagsAt 13) ∷ schemeLegs p a
 
-scheme-walk : (v : Version) (s p a : ℕ) → Walks s (schemeLegs p a) (atIdentifier v) s (atCreditor v)
+abbrev atCreditor : Version → Due
+atCreditor v = behind (toCreditor 0 0) (atSigned v)
+
+scheme-walk : (v : Version) (s p a : ℕ) → Walks s (toCreditor p a) (atSigned v) s (atCreditor v)
 unfolding inItem isType
 scheme-walk v s p a = (refl, refl, (refl, refl, (refl, refl)))
 
@@ -109,7 +113,7 @@ abbrev partiesBy : Version → ℕ → Back → List Leg
 partiesBy v x r = partyLegs Creditor v (r .creditor) (r .account) ++ (agentLegs v (r .agent) ++ (partyLegs Debtor v (r .debtor) (r .debited) ++ lastLegs v (r .bank) x))
 
 abbrev backBy : Version → ℕ → ℕ → Back → List Leg
-backBy v x p r = mandateLegs p (r .signed) ++ (schemeLegs (r .identifier) (r .scheme) ++ partiesBy v x r)
+backBy v x p r = mandateLegs p (r .signed) ++ (toCreditor (r .identifier) (r .scheme) ++ partiesBy v x r)
 
 abbrev legsBy : Version → ℕ → ℕ → ℕ → Item → List Leg
 legsBy v i a x r = frontBy i a (r .front) ++ backBy v x (r .front .at) (r .back)
@@ -125,8 +129,8 @@ front-walk v s i a r h =
 
 back-walk : (v : Version) (s x p : ℕ) (r : Back) → Walks s (backBy v x p r) (atMandate v) s done
 back-walk v s x p r =
-    walks-join (mandateLegs p (r .signed)) (schemeLegs (r .identifier) (r .scheme) ++ partiesBy v x r) s s s (atMandate v) (atIdentifier v) done (mandate-walk v s p (r .signed))
-    (walks-join (schemeLegs (r .identifier) (r .scheme)) (partiesBy v x r) s s s (atIdentifier v) (atCreditor v) done (scheme-walk v s (r .identifier) (r .scheme))
+    walks-join (mandateLegs p (r .signed)) (toCreditor (r .identifier) (r .scheme) ++ partiesBy v x r) s s s (atMandate v) (atSigned v) done (mandate-walk v s p (r .signed))
+    (walks-join (toCreditor (r .identifier) (r .scheme)) (partiesBy v x r) s s s (atSigned v) (atCreditor v) done (scheme-walk v s (r .identifier) (r .scheme))
     (parties-walk s v (r .creditor) (r .account) (r .agent) (r .debtor) (r .debited) (r .bank) x))
 
 -- a LclInstrm that stands in it is the first one's, or the first

@@ -16,3 +16,5 @@ pub mod Begins
 pub mod Again
 pub mod Frame
 pub mod Told
+pub mod Stretches
+pub mod Kept

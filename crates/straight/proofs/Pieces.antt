@@ -20,8 +20,8 @@ use Rattle.straight.specs.Due.{unsaid}
 use Rattle.straight.specs.Spelled.{tagged, Spelled}
 use Rattle.straight.specs.Runs.{tagsAt, textAt}
 use Rattle.straight.specs.Ways.{tags, holds, WorthNoted, mayFollow, Gone}
-use Rattle.straight.specs.Legs.{stood, Follows, begunLegs, codesLegs, typeLegs, toIban, toBic, toDebtor, toText, toEnd, lastLegs}
-use Rattle.straight.proofs.Ways.{gone-here, gone-value}
+use Rattle.straight.specs.Legs.{stood, Follows, begunLegs, typedLegs, typeLegs, toIban, toBic, toDebtor, toText, toEnd, lastLegs}
+use Rattle.straight.proofs.Ways.{gone-here, gone-value, gone-held}
 
 pub iban-tags : (s : Side) → tagged (tagsAt (toIban s)) ≡ true
 iban-tags Creditor = refl
@@ -64,22 +64,20 @@ pub type-none : (m : List ℕ) (at q a b c i r : ℕ) → a ≡ 0 → r ≤ leng
 unfolding textAt
 type-none m at q a b c i r e h f g = rw e (gone-value m (Plain Reference) field.TxId 0 0 at q (tagsAt 5) r [] r refl tt f g (gone-here m r h))
 
-codes-level : (m : List ℕ) (p a b c i r : ℕ) → Gone m p (codesLegs a b c i) r → 0 < a
-codes-level m p a b c i r g = omega (arith, g .some, g .way .0)
+typed-level : (m : List ℕ) (p a b c i r : ℕ) → Gone m p (typedLegs a b c i) r → 0 < a
+typed-level m p a b c i r g = omega (arith, g .some, g .way .first .spelled .from, g .way .rest .0)
 
-pub type-with : (m : List ℕ) (at q p a b c i r : ℕ) → Found (Stands Reference m at) q → Found (Spelled m q (textAt 4)) p → Found (Gone m p (codesLegs a b c i)) r
-    → Found (Gone m at (typeLegs at a b c i)) r
-unfolding textAt
-type-with m at q p a b c i zero f g h = tt
-type-with m at q p zero b c i (suc r) f g h = absurd (let z : ⊥ = omega (arith, codes-level m p 0 b c i (suc r) h) in z)
-type-with m at q p (suc a) b c i (suc r) f g h = gone-value m (Plain Reference) field.TxId 0 0 at q (tagsAt 4) p (codesLegs (suc a) b c i) (suc r) refl tt f g h
+pub type-with : (m : List ℕ) (at q a b c i r : ℕ) → Found (Stands Reference m at) q → Found (Gone m q (typedLegs a b c i)) r → Found (Gone m at (typeLegs at a b c i)) r
+type-with m at q a b c i zero f h = tt
+type-with m at q zero b c i (suc r) f h = absurd (let z : ⊥ = omega (arith, typed-level m q 0 b c i (suc r) h) in z)
+type-with m at q (suc a) b c i (suc r) f h = gone-held m (Plain Reference) field.TxId 0 0 at q (typedLegs (suc a) b c i) (suc r) tt f h
 
 -- of it the same is not said again, and it may follow
 pub follows-absent : (s w a i : ℕ) → a ≡ 0 → (s ≡ 2 → ⊥) → Follows s w a i
 follows-absent s w a i e h = record { new = rw (e, ne-eqb s 2 h) refl; fits = λ g. absurd (let z : ⊥ = omega arith in z) }
 
-pub follows-there : (m : List ℕ) (s w p a b c i r : ℕ) → (s ≡ 1 → ⊥) → Found (Gone m p (codesLegs a b c i)) r → (0 < r → mayFollow w i ≡ true) → 0 < r → Follows s w a i
-follows-there m s w p a b c i r h f k g = record { new = go a (codes-level m p a b c i r (found-at (Gone m p (codesLegs a b c i)) r g f)); fits = λ e. k g }
+pub follows-there : (m : List ℕ) (s w p a b c i r : ℕ) → (s ≡ 1 → ⊥) → Found (Gone m p (typedLegs a b c i)) r → (0 < r → mayFollow w i ≡ true) → 0 < r → Follows s w a i
+follows-there m s w p a b c i r h f k g = record { new = go a (typed-level m p a b c i r (found-at (Gone m p (typedLegs a b c i)) r g f)); fits = λ e. k g }
   where
     go : (a : ℕ) → 0 < a → unsaid s (stood a) ≡ true
     go zero e = absurd (let z : ⊥ = omega arith in z)

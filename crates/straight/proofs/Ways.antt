@@ -9,6 +9,7 @@ use lib.ListN.{length, drop, getD, length-drop}
 use lib.Seq.{getD-drop}
 use lib.Dec.{eqb}
 use Rattle.text.specs.Truth.{part, lead}
+use Rattle.text.proofs.Truths.{never}
 use Rattle.answers.specs.Given.{Given, worth}
 use Rattle.codes.specs.declared.Element.{Element}
 use Rattle.codes.specs.declared.Element.the-variants.{SttlmMtd, SvcLvl, LclInstrm, SeqTp, ChrgBr, Prtry}
@@ -24,9 +25,9 @@ use Rattle.notes.specs.Notes.{withType, withService, withStart, valueNoted, ser
 use Rattle.engine.specs.Engine.{filedBy}
 use Rattle.swift_values.specs.Stands.{Found, StandsFor}
 use Rattle.swift_values.proofs.Values.{found-at}
-use Rattle.straight.specs.Due.{Due, done, inside, value, close, run, Made, made, Token, flat, Walked, lost, to, walk}
+use Rattle.straight.specs.Due.{Due, done, inside, value, close, run, Made, made, Token, flat, Walked, lost, to, walk, Went, tight, spaced}
 use Rattle.straight.specs.Spelled.{tagged, loose, Spelled}
-use Rattle.straight.specs.Ways.{Leg, tags, holds, told, WorthNoted, Way, Gone, Onward, Walks, codeNoting, noting, legsNoted, legsFiled, mayFollow, CodeFits, Fits, LegsFit}
+use Rattle.straight.specs.Ways.{Leg, tags, holds, told, Opens, Passed, WorthNoted, Way, Gone, Onward, Walks, codeNoting, noting, legsNoted, legsFiled, mayFollow, CodeFits, Fits, LegsFit}
 use Rattle.straight.proofs.Walks.{value-made}
 use Rattle.straight.proofs.Spelled.{went-spelled, went-loose}
 
@@ -85,6 +86,22 @@ fits-typed Total c s x h = tt
 fits-typed Amount c s x h = tt
 fits-typed (Code e) c s x h = code-fits e c s x h
 
+-- ---- a run that is passed leads on
+went-passed : (m : List ℕ) (p : ℕ) (ts : List Token) (r : ℕ) → Passed m p ts r → Went m p ts r
+went-passed m p [] r h = went-loose m p [] r refl (h .spelled)
+went-passed m p (tight t ∷ ts) r h = went-spelled m p (tight t ∷ ts) r (h .tagged) (h .opens) (h .spelled)
+went-passed m p (spaced t ∷ ts) r h = went-loose m p (spaced t ∷ ts) r (h .tagged) (h .spelled)
+
+passed-loose : (m : List ℕ) (p : ℕ) (ts : List Token) (r : ℕ) → loose ts ≡ true → Spelled m p (flat ts) r → Passed m p ts r
+passed-loose m p [] r g h = record { spelled = h; tagged = refl; opens = tt }
+passed-loose m p (tight t ∷ ts) r g h = never (cc)
+passed-loose m p (spaced t ∷ ts) r g h = record { spelled = h; tagged = g; opens = tt }
+
+opens-at : (m : List ℕ) (p : ℕ) (ts : List Token) → eqb (getD m p 0) 60 ≡ true → Opens ts m p
+opens-at m p [] h = tt
+opens-at m p (tight t ∷ ts) h = h
+opens-at m p (spaced t ∷ ts) h = tt
+
 -- ---- the law
 module _ (m : List ℕ) where
   pub way-made : (ls : List Leg) (p r u s : ℕ) (d e : Due) (x : Notes) (l : List ℕ) → Way m p ls r → Walks u ls d s e → LegsFit ls x
@@ -99,7 +116,7 @@ module _ (m : List ℕ) where
       go : (y : Walked) → walk u ts d ≡ y → Onward y (λ v c. Walks v ls c s e)
           → ((v : ℕ) (c : Due) → Walks v ls c s e → made (run c m (w .place)) (withType v x) l ≡ there) → made (run d m p) (withType u x) l ≡ there
       go lost i k f = absurd k
-      go (to v c) i k f = w .first .leads d c v (withType u x) l i ∙ f v c k
+      go (to v c) i k f = went-passed m p ts (w .place) (w .first) .leads d c v (withType u x) l i ∙ f v c k
   way-made (holds k f a c ∷ ls) p r u s done e x l w g h = absurd g
   way-made (holds k f a c ∷ ls) p r u s (inside sh o) e x l w g h = absurd g
   way-made (holds k f a c ∷ ls) p r u s (close n o) e x l w g h = absurd g
@@ -141,10 +158,10 @@ module _ (m : List ℕ) where
   gone-tags p ts q ls zero g f h = tt
   gone-tags p ts q ls (suc r) g f h =
       let a = found-at (Spelled m p (flat ts)) q (h .some) f in
-      record { some = a .some; within = h .within; way = record { place = q; first = went-loose m p ts q g a; rest = h .way } }
+      record { some = a .some; within = h .within; way = record { place = q; first = passed-loose m p ts q g a; rest = h .way } }
 
   -- a value, and the run behind it
-  lt-behind : (k : Kind) (g : Given) (p q : ℕ) → StandsFor k g m p q → eqb (getD m q 0) 60 ≡ true
+  pub lt-behind : (k : Kind) (g : Given) (p q : ℕ) → StandsFor k g m p q → eqb (getD m q 0) 60 ≡ true
   lt-behind k g p q h =
       let z : p + (q - p) ≡ q = omega (arith, h .from) in
       let e : inValue (getD (drop p m) (q - p) 0) ≡ false = lead-stops inValue (drop p m) (q - p) (h .upto) (omega (arith, length-drop p m, h .behind, h .from)) in
@@ -164,10 +181,28 @@ module _ (m : List ℕ) where
           record {
             place = q;
             first = record { found = c; stands = x; noted = n };
-            rest = record { place = a; first = went-spelled m q ts a t (lt-behind k (told k c) p q x) y; rest = h .way };
+            rest = record { place = a; first = record { spelled = y; tagged = t; opens = opens-at m q ts (lt-behind k (told k c) p q x) }; rest = h .way };
           },
         );
       }
+
+  -- a value, and what stands behind it
+  pub gone-held : (k : Kind) (f : Field) (c d p q : ℕ) (ls : List Leg) (r : ℕ) → WorthNoted k c d → Found (StandsFor k (told k c) m p) q → Found (Gone m q ls) r → Found (Gone m p (holds k f p d ∷ ls)) r
+  gone-held k f c d p q ls zero n g h = tt
+  gone-held k f c d p q ls (suc r) n g h =
+      let x = found-at (StandsFor k (told k c) m p) q (h .some) g in
+      record { some = x .some; within = h .within; way = (refl, record { place = q; first = record { found = c; stands = x; noted = n }; rest = h .way }) }
+
+  -- a run right behind a value, where a tag begins
+  pub gone-open : (p : ℕ) (ts : List Token) (o q : ℕ) (ls : List Leg) (r : ℕ) → tagged ts ≡ true → Found (λ y. (y ≡ p) × (getD m y 0 ≡ 60)) o → Found (Spelled m o (flat ts)) q → Found (Gone m q ls) r
+      → Found (Gone m p (tags ts ∷ ls)) r
+  gone-open p ts o q ls zero t g i h = tt
+  gone-open p ts o q ls (suc r) t g i h =
+      let y = found-at (Spelled m o (flat ts)) q (h .some) i in
+      let x = found-at (λ y. (y ≡ p) × (getD m y 0 ≡ 60)) o (y .some) g in
+      let e : eqb (getD m o 0) 60 ≡ true = rw (x .1) refl in
+      let z : Gone m o (tags ts ∷ ls) (suc r) = record { some = y .some; within = h .within; way = record { place = q; first = record { spelled = y; tagged = t; opens = opens-at m o ts e }; rest = h .way } } in
+      rw (x .0) at z
 
   -- one way behind another
   way-join : (ls ks : List Leg) (p q r : ℕ) → Way m p ls q → Way m q ks r → Way m p (ls ++ ks) r

@@ -39,6 +39,7 @@ use Rattle.notes.specs.Notes.{started}
 use Rattle.straight.specs.declared.quick.Side.{Side}
 use Rattle.straight.specs.declared.quick.Side.the-variants.{Creditor, Debtor}
 use Rattle.straight.specs.declared.quick.Codes.{Codes}
+use Rattle.straight.specs.declared.quick.CreditorSide.{CreditorSide}
 use Rattle.straight.specs.declared.quick.Front.{Front}
 use Rattle.straight.specs.declared.quick.Back.{Back}
 use Rattle.straight.specs.declared.quick.Item.{Item}
@@ -60,19 +61,26 @@ abbrev pub codesLegs : ℕ → ℕ → ℕ → ℕ → List Leg
 codesLegs a b c i =
     holds (Code code.SvcLvl) SvcLvl a 0 ∷ tags (tagsAt 6) ∷ holds (Code code.LclInstrm) LclInstrm b i ∷ tags (tagsAt 7) ∷ holds (Code code.SeqTp) SeqTp c 0 ∷ tags (tagsAt 8) ∷ []
 
+-- from behind TxId: the payment type
+abbrev pub typedLegs : ℕ → ℕ → ℕ → ℕ → List Leg
+typedLegs a b c i = tags (tagsAt 4) ∷ codesLegs a b c i
+
 -- TxId, and the payment type where it stands in the item
 abbrev pub typeLegs : ℕ → ℕ → ℕ → ℕ → ℕ → List Leg
 typeLegs t zero b c i = holds (Plain Reference) TxId t 0 ∷ tags (tagsAt 5) ∷ []
-typeLegs t (suc a) b c i = holds (Plain Reference) TxId t 0 ∷ tags (tagsAt 4) ∷ codesLegs (suc a) b c i
+typeLegs t (suc a) b c i = holds (Plain Reference) TxId t 0 ∷ typedLegs (suc a) b c i
+
+-- from behind the amount, up to the value of MndtId
+abbrev pub chargedLegs : ℕ → ℕ → List Leg
+chargedLegs a b = tags (tagsAt 9) ∷ holds (Code code.ChrgBr) ChrgBr a 0 ∷ tags (tagsAt 10) ∷ holds (Plain Date) ReqdColltnDt b 0 ∷ tags (tagsAt 11) ∷ []
 
 -- the amount, up to the value of MndtId
 abbrev pub termsLegs : ℕ → ℕ → ℕ → ℕ → List Leg
-termsLegs p cents a b =
-    holds Amount IntrBkSttlmAmt p cents ∷ tags (tagsAt 9) ∷ holds (Code code.ChrgBr) ChrgBr a 0 ∷ tags (tagsAt 10) ∷ holds (Plain Date) ReqdColltnDt b 0 ∷ tags (tagsAt 11) ∷ []
+termsLegs p cents a b = holds Amount IntrBkSttlmAmt p cents ∷ chargedLegs a b
 
--- up to the value of the creditor's identifier
+-- up to behind DtOfSgntr
 abbrev pub mandateLegs : ℕ → ℕ → List Leg
-mandateLegs p a = holds (Plain Reference) MndtId p 0 ∷ tags (tagsAt 12) ∷ holds (Plain Date) DtOfSgntr a 0 ∷ tags (tagsAt 13) ∷ []
+mandateLegs p a = holds (Plain Reference) MndtId p 0 ∷ tags (tagsAt 12) ∷ holds (Plain Date) DtOfSgntr a 0 ∷ []
 
 -- up to the creditor's name
 abbrev pub schemeLegs : ℕ → ℕ → List Leg
@@ -109,6 +117,10 @@ toDebtor V08 = 20
 abbrev pub agentLegs : Version → ℕ → List Leg
 agentLegs v p = holds (bicKind v) CdtrBic p 0 ∷ tags (tagsAt (toDebtor v)) ∷ []
 
+-- from behind DtOfSgntr up to the debtor's name
+abbrev pub creditorLegs : Version → ℕ → ℕ → ℕ → ℕ → ℕ → List Leg
+creditorLegs v a b c d e = tags (tagsAt 13) ∷ (schemeLegs a b ++ (partyLegs Creditor v c d ++ agentLegs v e))
+
 -- the debtor's BIC, and the remittance text, up to behind the item
 abbrev pub toText : Version → ℕ
 toText V02 = 24
@@ -128,8 +140,8 @@ frontLegs r = idsLegs (r .first) (r .ends) ++ (typeLegs (r .tx) (r .level) (r .s
 
 abbrev pub backLegs : Version → ℕ → Back → List Leg
 backLegs v p r =
-    mandateLegs p (r .signed) ++ (schemeLegs (r .identifier) (r .scheme) ++ (partyLegs Creditor v (r .creditor) (r .account)
-    ++ (agentLegs v (r .agent) ++ (partyLegs Debtor v (r .debtor) (r .debited) ++ lastLegs v (r .bank) (r .text)))))
+    mandateLegs p (r .signed) ++ (creditorLegs v (r .identifier) (r .scheme) (r .creditor) (r .account) (r .agent)
+    ++ (partyLegs Debtor v (r .debtor) (r .debited) ++ lastLegs v (r .bank) (r .text)))
 
 abbrev pub itemLegs : Version → Item → List Leg
 itemLegs v r = frontLegs (r .front) ++ backLegs v (r .front .at) (r .back)
@@ -141,6 +153,14 @@ pub record CodesWithin (n : ℕ) (r : Codes) : Type 0 where
   pub service : r .service ≤ n
   pub sequence : r .sequence ≤ n
   pub listed : r .listed ≤ 4
+
+pub record SideWithin (n : ℕ) (r : CreditorSide) : Type 0 where
+  pub end : r .at ≤ n
+  pub identifier : r .identifier ≤ n
+  pub scheme : r .scheme ≤ n
+  pub name : r .name ≤ n
+  pub account : r .account ≤ n
+  pub agent : r .agent ≤ n
 
 pub record FrontWithin (n : ℕ) (r : Front) : Type 0 where
   pub end : r .at ≤ n

@@ -5,4 +5,5 @@ pub mod Pieces
 pub mod Spelled
 pub mod Ways
 pub mod Legs
+pub mod Kept
 pub mod Exact

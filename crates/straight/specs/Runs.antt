@@ -1,13 +1,10 @@
--- The runs of tags between the values of an item, in the order of the profile; and where each was spelled before.
-use Prim.Native.Nat.{ℕ, _+_, _<_}
+-- The runs of tags between the values of an item, in the order of the profile.
+use Prim.Native.Nat.{ℕ}
 use Prim.Native.String.{String}
 use mathlib.Core.List.{List, [], _∷_}
-use mathlib.Core.Path.{_≡_}
-use lib.ListN.{length, getD}
+use lib.ListN.{getD}
 use Rattle.text.specs.Quoted.{bytes}
-use Rattle.swift_values.specs.Stands.{Found}
 use Rattle.straight.specs.Due.{Token, tight, spaced, flat}
-use Rattle.straight.specs.Spelled.{Spelled}
 
 -- right here; and after white space
 abbrev now : String → Token
@@ -54,8 +51,3 @@ tagsAt j = getD itemTags j []
 
 unfoldable pub textAt : ℕ → List ℕ
 textAt j = flat (tagsAt j)
-
--- ---- of each run, a place where it is spelled and how many bytes it has there; 0 where none is known
-pub record Kept (m w : List ℕ) : Type 0 where
-  pub long : length w ≡ 64
-  pub each : (j : ℕ) → j < 32 → Found (λ n. Spelled m (getD w j 0) (textAt j) (getD w j 0 + n)) (getD w (j + 32) 0)

@@ -3,7 +3,7 @@ use Prim.Native.Nat.{ℕ, suc, _+_, _≤_, _<_}
 use mathlib.Core.Path.{_≡_}
 use mathlib.Core.Bool.{Bool, true}
 use mathlib.Core.List.{List, [], _∷_}
-use lib.ListN.{length}
+use lib.ListN.{length, getD}
 use lib.Dec.{eqb}
 use Rattle.text.specs.Truth.{either}
 use Rattle.answers.specs.Given.{Given, yes, worth}
@@ -16,7 +16,8 @@ use Rattle.notes.specs.declared.Notes.{Notes}
 use Rattle.notes.specs.Notes.{withStart, withNumber, withTotal, withCents, withSum, withService}
 use Rattle.engine.specs.Engine.{filedBy}
 use Rattle.swift_values.specs.Stands.{StandsFor}
-use Rattle.straight.specs.Due.{Due, done, inside, value, close, Token, Walked, lost, to, walk, Went}
+use Rattle.straight.specs.Spelled.{tagged, Spelled}
+use Rattle.straight.specs.Due.{Due, done, inside, value, close, Token, tight, spaced, flat, Walked, lost, to, walk}
 
 -- a run of tags; a value of a kind and a field, its place, and its worth where that is noted
 pub data Leg : Type 0 where
@@ -59,15 +60,32 @@ pub record Then (P Q : ℕ → Type 0) : Type 0 where
   pub first : P place
   pub rest : Q place
 
+-- a run of tags as it is spelled; one that stands right here begins with `<`
+abbrev pub Opens : List Token → List ℕ → ℕ → Type 0
+Opens [] m p = Unit {0}
+Opens (tight t ∷ ts) m p = eqb (getD m p 0) 60 ≡ true
+Opens (spaced t ∷ ts) m p = Unit {0}
+
+pub record Passed (m : List ℕ) (p : ℕ) (ts : List Token) (r : ℕ) : Type 0 where
+  pub spelled : Spelled m p (flat ts) r
+  pub tagged : tagged ts ≡ true
+  pub opens : Opens ts m p
+
 abbrev pub Way : List ℕ → ℕ → List Leg → ℕ → Type 0
 Way m p [] r = p ≡ r
-Way m p (tags ts ∷ ls) r = Then (Went m p ts) (λ q. Way m q ls r)
+Way m p (tags ts ∷ ls) r = Then (Passed m p ts) (λ q. Way m q ls r)
 Way m p (holds k f a d ∷ ls) r = (p ≡ a) × Then (Held k d m p) (λ q. Way m q ls r)
 
 pub record Gone (m : List ℕ) (p : ℕ) (ls : List Leg) (r : ℕ) : Type 0 where
   pub some : 0 < p
   pub within : r ≤ length m
   pub way : Way m p ls r
+
+-- ---- the same legs from another place on: places counted from a beginning
+abbrev pub lifted : ℕ → List Leg → List Leg
+lifted b [] = []
+lifted b (tags ts ∷ ls) = tags ts ∷ lifted b ls
+lifted b (holds k f a d ∷ ls) = holds k f (b + a) d ∷ lifted b ls
 
 -- ---- where it leads, which computes
 abbrev pub Onward : Walked → (ℕ → Due → Type 0) → Type 0

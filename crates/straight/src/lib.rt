@@ -24,7 +24,7 @@ ghost use Rattle.items.specs.Sums.{ofAmount};
 ghost use Rattle.items.specs.Alone.{itemBody};
 ghost use Rattle.notes.specs.Steps.{stated, stepped, reads, Good, Room, Fine};
 ghost use Rattle.engine.specs.Engine.{closedBy, valuedBy, messageAt, placesAt, itemAt};
-ghost use Rattle.straight.specs.Runs.{Kept};
+ghost use Rattle.straight.specs.Kept.{Kept};
 ghost use Rattle.straight.specs.Pieces.{pmtId};
 ghost use Rattle.straight.specs.Exact.{leafOf, endOf, openOf, enterOf, oneOf, twoOf, insideOf, mayOf, inTypeOf, typeOf, amountOf, mandateOf, otherOf, privateOf, ownOf, schemeOf, debitOf, agentOf, headOf, partiesOf, lastOf, moreOf, firstOf, dueItem, inBulk, Makes, MakesThen, Behind as After};
 
@@ -933,8 +933,8 @@ fn header_exact(m: &[u8], v: Version, before: Step, places: &mut [u32]) -> Step
     then_close(m, b"</GrpHdr>", d)
 }
 
-// What an item holds, up to behind its end tag: by the quick reader, or by the exact one where that does not tell. How runs of tags are spelled is kept in w.
-fn held(m: &[u8], v: Version, st: State, places: &mut [u32], w: &mut [usize; 64]) -> Step
+// What an item holds, up to behind its end tag: by the quick reader, or by the exact one where that does not tell. How an item was spelled is kept in w.
+fn held(m: &[u8], v: Version, st: State, places: &mut [u32], w: &mut [usize; 96]) -> Step
     requires { ⌜ Good (now m) (stated st) × Room 1 (st .notes) × Kept (now m) (now w) ⌝ }
     ensures { λ s. ⌜ Makes (now (m .entry)) 0 (trace (inItem v) (now (m .entry)) (st .at)) (st .notes) (now (places .entry)) (stepped s) (now (places .exit)) × Kept (now (m .entry)) (now (w .exit)) ⌝ }
 {
@@ -949,7 +949,7 @@ fn held(m: &[u8], v: Version, st: State, places: &mut [u32], w: &mut [usize; 64]
 }
 
 // The same after a step.
-fn then_held(m: &[u8], v: Version, before: Step, places: &mut [u32], w: &mut [usize; 64]) -> Step
+fn then_held(m: &[u8], v: Version, before: Step, places: &mut [u32], w: &mut [usize; 96]) -> Step
     requires { ⌜ Fine (now m) 0 (stepped before) × After (stepped before) (Room 1) × Kept (now m) (now w) ⌝ }
     ensures { λ s. ⌜ MakesThen (now (m .entry)) (trace (inItem v) (now (m .entry))) (stepped before) (now (places .entry)) (stepped s) (now (places .exit)) × Kept (now (m .entry)) (now (w .exit)) ⌝ }
 {
@@ -962,7 +962,7 @@ fn then_held(m: &[u8], v: Version, before: Step, places: &mut [u32], w: &mut [us
 }
 
 // An item from the `<` of its start tag, which lies whole at the state's place, to behind its end tag.
-fn one_item(m: &[u8], v: Version, st: State, places: &mut [u32], w: &mut [usize; 64]) -> Step
+fn one_item(m: &[u8], v: Version, st: State, places: &mut [u32], w: &mut [usize; 96]) -> Step
     requires { ⌜ Good (now m) (stated st) × (st .at + 14 ≤ length (now m)) × Room 0 (st .notes) × Kept (now m) (now w) ⌝ }
     ensures { λ s. ⌜ Makes (now (m .entry)) 0 (itemBody v (now (m .entry)) (st .at)) (st .notes) (now (places .entry)) (stepped s) (now (places .exit)) × Kept (now (m .entry)) (now (w .exit)) ⌝ }
 {
@@ -975,7 +975,7 @@ fn more_items(m: &[u8], v: Version, before: Step, places: &mut [u32]) -> Step
     requires { ⌜ Fine (now m) 0 (stepped before) × After (stepped before) (Room 0) ⌝ }
     ensures { λ s. ⌜ MakesThen (now (m .entry)) (moreOf v (now (m .entry)) (length (now (m .entry)))) (stepped before) (now (places .entry)) (stepped s) (now (places .exit)) ⌝ }
 {
-    let mut w = [0; 64];
+    let mut w = [0; 96];
     let mut left = m.len();
     let mut s = before;
     while 0 < left {
@@ -1005,7 +1005,7 @@ fn first_item(m: &[u8], v: Version, st: State, places: &mut [u32]) -> Step
     requires { ⌜ Good (now m) (stated st) × Room 0 (st .notes) ⌝ }
     ensures { λ s. ⌜ Makes (now (m .entry)) 0 (dueItem v (now (m .entry)) (st .at)) (st .notes) (now (places .entry)) (stepped s) (now (places .exit)) ⌝ }
 {
-    let mut w = [0; 64];
+    let mut w = [0; 96];
     let s = seek(m, b"<DrctDbtTxInf>", st);
     let look = s.look;
     let at = s.at;

@@ -6,9 +6,10 @@ use profile::Simple;
 use profile::Version;
 ghost use mathlib.Core.Path.{_≡_};
 ghost use mathlib.Core.Bool.{true};
-ghost use Prim.Native.Nat.{_+_, _<_, _≤_};
-ghost use lib.ListN.{length, set};
-ghost use Rattle.text.specs.Truth.{part};
+ghost use Prim.Native.Nat.{_+_, _*_, _<_, _≤_};
+ghost use lib.ListN.{length, getD, set};
+ghost use Rattle.text.specs.Truth.{part, every};
+ghost use Rattle.tags.specs.Tags.{white};
 ghost use Rattle.money.specs.Amount.{most};
 ghost use Rattle.profile.specs.Limits.{mostBytes};
 ghost use Rattle.profile.specs.Profile.{bicKind};
@@ -18,9 +19,10 @@ ghost use Rattle.swift_values.specs.Stands.{Found, StandsFor};
 ghost use Rattle.straight.specs.Words.{halfAt, wordAt, Four, Eight, Match};
 ghost use Rattle.straight.specs.Due.{Past, saidBy};
 ghost use Rattle.straight.specs.Spelled.{Spelled, Onto};
-ghost use Rattle.straight.specs.Runs.{textAt, Kept};
-ghost use Rattle.straight.specs.Ways.{told, mayFollow, Gone};
-ghost use Rattle.straight.specs.Legs.{stood, begunLegs, idsLegs, codesLegs, typeLegs, termsLegs, mandateLegs, schemeLegs, toIban, toBic, partyLegs, toDebtor, agentLegs, toText, toEnd, lastLegs, frontLegs, backLegs, itemLegs, CodesWithin, FrontWithin, BackWithin, Follows, Followed, typeFrom, serviceFrom, frontFrom, backFrom, itemNoted};
+ghost use Rattle.straight.specs.Runs.{textAt};
+ghost use Rattle.straight.specs.Ways.{told, mayFollow, Gone, lifted};
+ghost use Rattle.straight.specs.Kept.{stretchLegs, sideOf, slotOf, offsets, Kept};
+ghost use Rattle.straight.specs.Legs.{stood, begunLegs, idsLegs, typedLegs, typeLegs, chargedLegs, termsLegs, mandateLegs, schemeLegs, creditorLegs, toIban, toBic, partyLegs, toDebtor, agentLegs, toText, toEnd, lastLegs, frontLegs, backLegs, itemLegs, CodesWithin, SideWithin, FrontWithin, BackWithin, Follows, Followed, typeFrom, serviceFrom, frontFrom, backFrom, itemNoted};
 
 // A byte as a number of 64 bits.
 fn wide(x: u8) -> u64
@@ -158,7 +160,7 @@ fn next_byte(m: &[u8], p: usize, c: u8) -> usize
 }
 
 // A text as it is spelled at a place, byte by byte: the place behind it, or 0.
-fn spell(m: &[u8], at: usize, text: &[u8]) -> usize
+fn by_bytes(m: &[u8], at: usize, text: &[u8]) -> usize
     requires { ⌜ (at ≤ length (now m)) × (0 < length (now text)) ⌝ }
     ensures { λ r. ⌜ (r ≤ length (now (m .entry))) × Found (Spelled (now (m .entry)) at (now (text .entry))) r ⌝ }
 {
@@ -174,6 +176,140 @@ fn spell(m: &[u8], at: usize, text: &[u8]) -> usize
         }
         p = q;
         i += 1;
+    }
+    p
+}
+
+// How many bytes of eight at two places are alike, from the first on: the lowest digit in which the words differ tells.
+fn alike(m: &[u8], p: usize, t: &[u8], i: usize) -> usize
+    requires { ⌜ (p + 8 ≤ length (now m)) × (i + 8 ≤ length (now t)) ⌝ }
+    ensures { λ r. ⌜ (r ≤ 8) × Match (now (m .entry)) p (now (t .entry)) i r ⌝ }
+{
+    let d = std::num::wrapping_sub_u64(word(m, p), word(t, i));
+    (u64::trailing_zeros(d) / 8) as usize
+}
+
+// The same of n bytes, eight to sixteen: two words that may overlap.
+fn alike_to(m: &[u8], p: usize, t: &[u8], i: usize, n: usize) -> usize
+    requires { ⌜ (p + n ≤ length (now m)) × (i + n ≤ length (now t)) × (8 ≤ n) × (n ≤ 16) ⌝ }
+    ensures { λ r. ⌜ (r ≤ n) × Match (now (m .entry)) p (now (t .entry)) i r ⌝ }
+{
+    let a = alike(m, p, t, i);
+    if a < 8 {
+        return a;
+    }
+    let z = n - 8;
+    z + alike(m, p + z, t, i + z)
+}
+
+// The same of one byte.
+fn alike_one(m: &[u8], p: usize, t: &[u8], i: usize) -> usize
+    requires { ⌜ (p < length (now m)) × (i < length (now t)) ⌝ }
+    ensures { λ r. ⌜ (r ≤ 1) × Match (now (m .entry)) p (now (t .entry)) i r ⌝ }
+{
+    if m[p] == t[i] {
+        return 1;
+    }
+    0
+}
+
+// Of n bytes, fewer than eight: all, or else the first alone.
+fn alike_few(m: &[u8], p: usize, t: &[u8], i: usize, n: usize) -> usize
+    requires { ⌜ (p + n ≤ length (now m)) × (i + n ≤ length (now t)) × (0 < n) × (n < 8) ⌝ }
+    ensures { λ r. ⌜ (r ≤ n) × Match (now (m .entry)) p (now (t .entry)) i r ⌝ }
+{
+    if n < 4 {
+        return alike_one(m, p, t, i);
+    }
+    if same_short(m, p, t, i, n) {
+        return n;
+    }
+    alike_one(m, p, t, i)
+}
+
+// How many bytes of a text from i on stand at a place, as far as one look goes.
+fn alike_from(m: &[u8], p: usize, t: &[u8], i: usize) -> usize
+    requires { ⌜ (p + 16 ≤ length (now m)) × (i < length (now t)) ⌝ }
+    ensures { λ r. ⌜ (r ≤ 16) × (i + r ≤ length (now (t .entry))) × Match (now (m .entry)) p (now (t .entry)) i r ⌝ }
+{
+    let n = t.len() - i;
+    if n < 8 {
+        return alike_few(m, p, t, i, n);
+    }
+    if n < 16 {
+        return alike_to(m, p, t, i, n);
+    }
+    alike_to(m, p, t, i, 16)
+}
+
+// Whether c is white space.
+fn is_white(c: u8) -> bool
+    ensures { λ r. ⌜ r ≡ white c ⌝ }
+{
+    if c == 32 {
+        return true;
+    }
+    if c == 9 {
+        return true;
+    }
+    if c == 13 {
+        return true;
+    }
+    if c == 10 {
+        return true;
+    }
+    false
+}
+
+// How many bytes of white space stand at a place, as far as one look goes: two, and then such as are alike. A new line and what a line begins with are that.
+fn blanks(m: &[u8], p: usize) -> usize
+    requires { ⌜ p + 19 ≤ length (now m) ⌝ }
+    ensures { λ r. ⌜ (r ≤ 19) × (every white (part p r (now (m .entry))) ≡ true) ⌝ }
+{
+    if !is_white(m[p]) {
+        return 0;
+    }
+    if !is_white(m[p + 1]) {
+        return 1;
+    }
+    if !is_white(m[p + 2]) {
+        return 2;
+    }
+    3 + alike_to(m, p + 2, m, p + 3, 16)
+}
+
+// White space where the next byte of a text is `<`, else none.
+fn blanks_before(m: &[u8], p: usize, c: u8) -> usize
+    requires { ⌜ p + 19 ≤ length (now m) ⌝ }
+    ensures { λ r. ⌜ (r ≤ 19) × (0 < r → c ≡ 60) × (every white (part p r (now (m .entry))) ≡ true) ⌝ }
+{
+    if c != 60 {
+        return 0;
+    }
+    blanks(m, p)
+}
+
+// A text as it is spelled at a place, by words, and near the end of the message byte by byte: the place behind it, or 0.
+fn spell(m: &[u8], at: usize, text: &[u8]) -> usize
+    requires { ⌜ (at ≤ length (now m)) × (0 < length (now text)) ⌝ }
+    ensures { λ r. ⌜ (r ≤ length (now (m .entry))) × Found (Spelled (now (m .entry)) at (now (text .entry))) r ⌝ }
+{
+    if at == 0 {
+        return 0;
+    }
+    let mut p = at;
+    let mut i = 0;
+    while i < text.len() {
+        if m.len() - p < 35 {
+            return by_bytes(m, p, &text[i..]);
+        }
+        let w = blanks_before(m, p, text[i]);
+        let k = alike_from(m, p + w, text, i);
+        if w + k == 0 {
+            return 0;
+        }
+        p += w + k;
+        i += k;
     }
     p
 }
@@ -196,7 +332,7 @@ fn again(m: &[u8], at: usize, q: usize, n: usize) -> usize
 }
 
 // A run of tags: as it is written, or as an item before this one spelled it, or byte by byte; how it is spelled then is kept.
-fn run(m: &[u8], at: usize, text: &[u8], w: &mut [usize; 64], j: usize) -> usize
+fn run(m: &[u8], at: usize, text: &[u8], w: &mut [usize; 96], j: usize) -> usize
     requires { ⌜ (at ≤ length (now m)) × (now text ≡ textAt j) × (4 ≤ length (now text)) × (j < 32) × Kept (now m) (now w) ⌝ }
     ensures { λ r. ⌜ (r ≤ length (now (m .entry))) × Found (Spelled (now (m .entry)) at (textAt j)) r × Kept (now (m .entry)) (now (w .exit)) ⌝ }
 {
@@ -216,6 +352,89 @@ fn run(m: &[u8], at: usize, text: &[u8], w: &mut [usize; 64], j: usize) -> usize
     c
 }
 
+// ---- stretches: from behind a value to another value, as an item before had them
+
+// The sixteen bytes at two places are the same, by two words.
+fn same_pair(m: &[u8], at: usize, q: usize) -> bool
+    requires { ⌜ (at + 16 ≤ length (now m)) × (q + 16 ≤ length (now m)) ⌝ }
+    ensures { λ r. ⌜ (r ≡ true → Match (now (m .entry)) at (now (m .entry)) q 16) ⌝ }
+{
+    (word(m, at) == word(m, q)) & (word(m, at + 8) == word(m, q + 8))
+}
+
+// The same for 32 bytes, with no branch between.
+fn same_block(m: &[u8], at: usize, q: usize) -> bool
+    requires { ⌜ (at + 32 ≤ length (now m)) × (q + 32 ≤ length (now m)) ⌝ }
+    ensures { λ r. ⌜ (r ≡ true → Match (now (m .entry)) at (now (m .entry)) q 32) ⌝ }
+{
+    same_pair(m, at, q) & same_pair(m, at + 16, q + 16)
+}
+
+// The same for 32 bytes and more: 32 a turn, the last 32 overlap.
+fn same_wide(m: &[u8], at: usize, q: usize, n: usize) -> bool
+    requires { ⌜ (at + n ≤ length (now m)) × (q + n ≤ length (now m)) × (32 ≤ n) ⌝ }
+    ensures { λ r. ⌜ (r ≡ true → Match (now (m .entry)) at (now (m .entry)) q n) ⌝ }
+{
+    let z = n - 32;
+    let mut i = 0;
+    while i < z {
+        if !same_block(m, at + i, q + i) {
+            return false;
+        }
+        i += 32;
+    }
+    same_block(m, at + z, q + z)
+}
+
+// The n bytes at q stand at another place too, where n is large: the place behind them, or 0.
+fn again_wide(m: &[u8], at: usize, q: usize, n: usize) -> usize
+    requires { ⌜ at ≤ length (now m) ⌝ }
+    ensures { λ r. ⌜ (r ≤ length (now (m .entry))) × (n ≡ 0 → r ≡ 0) × Found (Past (now (m .entry)) at (part q n (now (m .entry)))) r ⌝ }
+{
+    if n < 32 {
+        return 0;
+    }
+    if at == 0 {
+        return 0;
+    }
+    if m.len() < q {
+        return 0;
+    }
+    if m.len() - q < n {
+        return 0;
+    }
+    if m.len() - at < n {
+        return 0;
+    }
+    if same_wide(m, at, q, n) {
+        return at + n;
+    }
+    0
+}
+
+// The stretch s stands at a place again: the place behind it, or 0.
+fn retrace(m: &[u8], at: usize, s: usize, w: &mut [usize; 96]) -> usize
+    requires { ⌜ (at ≤ length (now m)) × (s < 4) × Kept (now m) (now w) ⌝ }
+    ensures { λ r. ⌜ (r ≤ length (now (m .entry))) × Found (Gone (now (m .entry)) at (lifted at (stretchLegs s (offsets (now (w .exit)) s)))) r × Kept (now (m .entry)) (now (w .exit)) ⌝ }
+{
+    let k = 64 + 8 * s;
+    again_wide(m, at, w[k], w[k + 1])
+}
+
+// A tag begins at a place: the place, or 0.
+fn tag_at(m: &[u8], at: usize) -> usize
+    requires { ⌜ at ≤ length (now m) ⌝ }
+    ensures { λ r. ⌜ (r ≤ length (now (m .entry))) × Found (λ p. (p ≡ at) × (getD (now (m .entry)) p 0 ≡ 60)) r ⌝ }
+{
+    if at == m.len() {
+        return 0;
+    }
+    if m[at] != 60 {
+        return 0;
+    }
+    at
+}
+
 // ---- the pieces of an item. A place of 0 says that nothing is told.
 
 // Where InstrId begins (0 where there is none), and the value of EndToEndId.
@@ -225,7 +444,7 @@ struct Begun {
 }
 
 // From behind an item's start tag to the value of EndToEndId, past InstrId where there is one.
-fn begin(m: &[u8], at: usize, w: &mut [usize; 64]) -> Begun
+fn begin(m: &[u8], at: usize, w: &mut [usize; 96]) -> Begun
     requires { ⌜ (at ≤ length (now m)) × Kept (now m) (now w) ⌝ }
     ensures { λ r. ⌜ (r .at ≤ length (now (m .entry))) × (r .first ≤ length (now (m .entry))) × Found (Gone (now (m .entry)) at (begunLegs (r .first))) (r .at) × Kept (now (m .entry)) (now (w .exit)) ⌝ }
 {
@@ -247,7 +466,7 @@ struct Ids {
 }
 
 // Up to the value of TxId.
-fn read_ids(m: &[u8], at: usize, w: &mut [usize; 64]) -> Ids
+fn read_ids(m: &[u8], at: usize, w: &mut [usize; 96]) -> Ids
     requires { ⌜ (at ≤ length (now m)) × Kept (now m) (now w) ⌝ }
     ensures { λ r. ⌜ (r .at ≤ length (now (m .entry))) × (r .first ≤ length (now (m .entry))) × (r .ends ≤ length (now (m .entry))) × Found (Gone (now (m .entry)) at (idsLegs (r .first) (r .ends))) (r .at) × Kept (now (m .entry)) (now (w .exit)) ⌝ }
 {
@@ -294,12 +513,36 @@ fn may_follow(first: u64, listed: u64) -> bool
     first == listed + 1
 }
 
-// The payment type from its first code on, up to the value of the amount; first is the service of the items before.
-fn read_codes(m: &[u8], at: usize, first: u64, w: &mut [usize; 64]) -> Codes
+// The payment type as an item before had it; first is the service of the items before.
+fn typed_again(m: &[u8], at: usize, first: u64, w: &mut [usize; 96]) -> Codes
     requires { ⌜ (at ≤ length (now m)) × Kept (now m) (now w) ⌝ }
-    ensures { λ r. ⌜ CodesWithin (length (now (m .entry))) r × Found (Gone (now (m .entry)) at (codesLegs (r .level) (r .service) (r .sequence) (r .listed))) (r .at) × ((0 < r .at) → mayFollow first (r .listed) ≡ true) × Kept (now (m .entry)) (now (w .exit)) ⌝ }
+    ensures { λ r. ⌜ CodesWithin (length (now (m .entry))) r × Found (Gone (now (m .entry)) at (typedLegs (r .level) (r .service) (r .sequence) (r .listed))) (r .at) × ((0 < r .at) → mayFollow first (r .listed) ≡ true) × Kept (now (m .entry)) (now (w .exit)) ⌝ }
 {
-    let a = swift_values::code(Element::SvcLvl, m, at);
+    let z = retrace(m, at, 0, w);
+    if z == 0 {
+        return no_codes();
+    }
+    let listed = w[69] as u64;
+    if !may_follow(first, listed) {
+        return no_codes();
+    }
+    Codes {
+        at: z,
+        level: at + w[66],
+        service: at + w[67],
+        sequence: at + w[68],
+        listed,
+    }
+}
+
+// The payment type from behind TxId, up to the value of the amount.
+fn typed_anew(m: &[u8], at: usize, first: u64, w: &mut [usize; 96]) -> Codes
+    requires { ⌜ (at ≤ length (now m)) × Kept (now m) (now w) ⌝ }
+    ensures { λ r. ⌜ CodesWithin (length (now (m .entry))) r × Found (Gone (now (m .entry)) at (typedLegs (r .level) (r .service) (r .sequence) (r .listed))) (r .at) × ((0 < r .at) → mayFollow first (r .listed) ≡ true) × Kept (now (m .entry)) (now (w .exit)) ⌝ }
+{
+    let o = tag_at(m, at);
+    let p = run(m, o, b"</TxId></PmtId><PmtTpInf><SvcLvl><Cd>", w, 4);
+    let a = swift_values::code(Element::SvcLvl, m, p);
     let b = run(m, a.at, b"</Cd></SvcLvl><LclInstrm><Cd>", w, 6);
     let c = swift_values::code(Element::LclInstrm, m, b);
     if !may_follow(first, c.worth) {
@@ -316,15 +559,44 @@ fn read_codes(m: &[u8], at: usize, first: u64, w: &mut [usize; 64]) -> Codes
     );
     Codes {
         at: z,
-        level: at,
+        level: p,
         service: b,
         sequence: d,
         listed: c.worth,
     }
 }
 
+// The payment type of an item is kept.
+fn keep_typed(m: &[u8], at: usize, r: Codes, w: &mut [usize; 96])
+    requires { ⌜ Kept (now m) (now w) × (r .listed ≤ 4) × Gone (now m) at (typedLegs (r .level) (r .service) (r .sequence) (r .listed)) (r .at) ⌝ }
+    ensures { λ r. ⌜ Kept (now (m .entry)) (now (w .exit)) ⌝ }
+{
+    w[64] = at;
+    w[65] = r.at - at;
+    w[66] = r.level - at;
+    w[67] = r.service - at;
+    w[68] = r.sequence - at;
+    w[69] = r.listed as usize;
+}
+
+// The payment type: as an item before had it, or anew, and then it is kept.
+fn read_typed(m: &[u8], at: usize, first: u64, w: &mut [usize; 96]) -> Codes
+    requires { ⌜ (at ≤ length (now m)) × Kept (now m) (now w) ⌝ }
+    ensures { λ r. ⌜ CodesWithin (length (now (m .entry))) r × Found (Gone (now (m .entry)) at (typedLegs (r .level) (r .service) (r .sequence) (r .listed))) (r .at) × ((0 < r .at) → mayFollow first (r .listed) ≡ true) × Kept (now (m .entry)) (now (w .exit)) ⌝ }
+{
+    let a = typed_again(m, at, first, w);
+    if a.at != 0 {
+        return a;
+    }
+    let b = typed_anew(m, at, first, w);
+    if b.at != 0 {
+        keep_typed(m, at, b, w);
+    }
+    b
+}
+
 // TxId's end tag and the amount's start tag: no payment type stands between them.
-fn no_type(m: &[u8], at: usize, w: &mut [usize; 64]) -> Codes
+fn no_type(m: &[u8], at: usize, w: &mut [usize; 96]) -> Codes
     requires { ⌜ (at ≤ length (now m)) × Kept (now m) (now w) ⌝ }
     ensures { λ r. ⌜ (r .at ≤ length (now (m .entry))) × Found (Spelled (now (m .entry)) at (textAt 5)) (r .at) × (r .level ≡ 0) × (r .service ≡ 0) × (r .sequence ≡ 0) × (r .listed ≡ 0) × Kept (now (m .entry)) (now (w .exit)) ⌝ }
 {
@@ -339,7 +611,7 @@ fn no_type(m: &[u8], at: usize, w: &mut [usize; 64]) -> Codes
 }
 
 // TxId and the payment type, up to the value of the amount; said is what was said of the type before (1 that it is there, 2 that it is absent, 0 nothing): the same is not said again.
-fn kind(m: &[u8], at: usize, said: u8, first: u64, w: &mut [usize; 64]) -> Codes
+fn kind(m: &[u8], at: usize, said: u8, first: u64, w: &mut [usize; 96]) -> Codes
     requires { ⌜ (at ≤ length (now m)) × Kept (now m) (now w) ⌝ }
     ensures { λ r. ⌜ CodesWithin (length (now (m .entry))) r × Found (Gone (now (m .entry)) at (typeLegs at (r .level) (r .service) (r .sequence) (r .listed))) (r .at) × ((0 < r .at) → Follows said first (r .level) (r .listed)) × Kept (now (m .entry)) (now (w .exit)) ⌝ }
 {
@@ -347,14 +619,92 @@ fn kind(m: &[u8], at: usize, said: u8, first: u64, w: &mut [usize; 64]) -> Codes
     if said == 1 {
         return no_type(m, a, w);
     }
-    let b = run(m, a, b"</TxId></PmtId><PmtTpInf><SvcLvl><Cd>", w, 4);
-    if b != 0 {
-        return read_codes(m, b, first, w);
+    let b = read_typed(m, a, first, w);
+    if b.at != 0 {
+        return b;
     }
     if said == 2 {
         return no_codes();
     }
     no_type(m, a, w)
+}
+
+// Where ChrgBr and ReqdColltnDt begin, and the value of MndtId.
+struct Charged {
+    at: usize,
+    charge: usize,
+    collected: usize,
+}
+
+// ChrgBr and ReqdColltnDt as an item before had them, from behind the amount.
+fn charged_again(m: &[u8], at: usize, w: &mut [usize; 96]) -> Charged
+    requires { ⌜ (at ≤ length (now m)) × Kept (now m) (now w) ⌝ }
+    ensures { λ r. ⌜ (r .at ≤ length (now (m .entry))) × (r .charge ≤ length (now (m .entry))) × (r .collected ≤ length (now (m .entry))) × Found (Gone (now (m .entry)) at (chargedLegs (r .charge) (r .collected))) (r .at) × Kept (now (m .entry)) (now (w .exit)) ⌝ }
+{
+    let z = retrace(m, at, 1, w);
+    if z == 0 {
+        return Charged {
+            at: 0,
+            charge: 0,
+            collected: 0,
+        };
+    }
+    Charged {
+        at: z,
+        charge: at + w[74],
+        collected: at + w[75],
+    }
+}
+
+// ChrgBr and ReqdColltnDt from behind the amount, up to the value of MndtId.
+fn charged_anew(m: &[u8], at: usize, w: &mut [usize; 96]) -> Charged
+    requires { ⌜ (at ≤ length (now m)) × Kept (now m) (now w) ⌝ }
+    ensures { λ r. ⌜ (r .at ≤ length (now (m .entry))) × (r .charge ≤ length (now (m .entry))) × (r .collected ≤ length (now (m .entry))) × Found (Gone (now (m .entry)) at (chargedLegs (r .charge) (r .collected))) (r .at) × Kept (now (m .entry)) (now (w .exit)) ⌝ }
+{
+    let o = tag_at(m, at);
+    let b = run(m, o, b"</IntrBkSttlmAmt><ChrgBr>", w, 9);
+    let c = swift_values::code(Element::ChrgBr, m, b);
+    let d = run(m, c.at, b"</ChrgBr><ReqdColltnDt>", w, 10);
+    let e = swift_values::date(m, d);
+    let z = run(
+        m,
+        e,
+        b"</ReqdColltnDt><DrctDbtTx><MndtRltdInf><MndtId>",
+        w,
+        11,
+    );
+    Charged {
+        at: z,
+        charge: b,
+        collected: d,
+    }
+}
+
+// ChrgBr and ReqdColltnDt of an item are kept.
+fn keep_charged(m: &[u8], at: usize, r: Charged, w: &mut [usize; 96])
+    requires { ⌜ Kept (now m) (now w) × Gone (now m) at (chargedLegs (r .charge) (r .collected)) (r .at) ⌝ }
+    ensures { λ r. ⌜ Kept (now (m .entry)) (now (w .exit)) ⌝ }
+{
+    w[72] = at;
+    w[73] = r.at - at;
+    w[74] = r.charge - at;
+    w[75] = r.collected - at;
+}
+
+// ChrgBr and ReqdColltnDt: as an item before had them, or anew, and then they are kept.
+fn read_charged(m: &[u8], at: usize, w: &mut [usize; 96]) -> Charged
+    requires { ⌜ (at ≤ length (now m)) × Kept (now m) (now w) ⌝ }
+    ensures { λ r. ⌜ (r .at ≤ length (now (m .entry))) × (r .charge ≤ length (now (m .entry))) × (r .collected ≤ length (now (m .entry))) × Found (Gone (now (m .entry)) at (chargedLegs (r .charge) (r .collected))) (r .at) × Kept (now (m .entry)) (now (w .exit)) ⌝ }
+{
+    let a = charged_again(m, at, w);
+    if a.at != 0 {
+        return a;
+    }
+    let b = charged_anew(m, at, w);
+    if b.at != 0 {
+        keep_charged(m, at, b, w);
+    }
+    b
 }
 
 // The cents, where ChrgBr and ReqdColltnDt begin, and the value of MndtId.
@@ -366,27 +716,17 @@ struct Terms {
 }
 
 // From the amount to the value of MndtId.
-fn read_terms(m: &[u8], at: usize, w: &mut [usize; 64]) -> Terms
+fn read_terms(m: &[u8], at: usize, w: &mut [usize; 96]) -> Terms
     requires { ⌜ (at ≤ length (now m)) × Kept (now m) (now w) ⌝ }
     ensures { λ r. ⌜ (r .at ≤ length (now (m .entry))) × (r .charge ≤ length (now (m .entry))) × (r .collected ≤ length (now (m .entry))) × (r .cents ≤ most Range.Item) × Found (Gone (now (m .entry)) at (termsLegs at (r .cents) (r .charge) (r .collected))) (r .at) × Kept (now (m .entry)) (now (w .exit)) ⌝ }
 {
     let a = swift_values::amount(m, at);
-    let b = run(m, a.at, b"</IntrBkSttlmAmt><ChrgBr>", w, 9);
-    let c = swift_values::code(Element::ChrgBr, m, b);
-    let d = run(m, c.at, b"</ChrgBr><ReqdColltnDt>", w, 10);
-    let e = swift_values::date(m, d);
-    let z = run(
-        m,
-        e,
-        b"</ReqdColltnDt><DrctDbtTx><MndtRltdInf><MndtId>",
-        w,
-        11,
-    );
+    let b = read_charged(m, a.at, w);
     Terms {
-        at: z,
+        at: b.at,
         cents: a.worth,
-        charge: b,
-        collected: d,
+        charge: b.charge,
+        collected: b.collected,
     }
 }
 
@@ -396,26 +736,19 @@ struct Two {
     noted: usize,
 }
 
-// The mandate, up to the value of the creditor's identifier.
-fn mandate(m: &[u8], at: usize, w: &mut [usize; 64]) -> Two
+// The mandate, up to behind DtOfSgntr.
+fn mandate(m: &[u8], at: usize, w: &mut [usize; 96]) -> Two
     requires { ⌜ (at ≤ length (now m)) × Kept (now m) (now w) ⌝ }
     ensures { λ r. ⌜ (r .at ≤ length (now (m .entry))) × (r .noted ≤ length (now (m .entry))) × Found (Gone (now (m .entry)) at (mandateLegs at (r .noted))) (r .at) × Kept (now (m .entry)) (now (w .exit)) ⌝ }
 {
     let a = swift_values::reference(m, at);
     let b = run(m, a, b"</MndtId><DtOfSgntr>", w, 12);
-    let c = swift_values::date(m, b);
-    let z = run(
-        m,
-        c,
-        b"</DtOfSgntr></MndtRltdInf><CdtrSchmeId><Id><PrvtId><Othr><Id>",
-        w,
-        13,
-    );
+    let z = swift_values::date(m, b);
     Two { at: z, noted: b }
 }
 
 // The creditor's identifier and its scheme, up to the creditor's name.
-fn scheme(m: &[u8], at: usize, w: &mut [usize; 64]) -> Two
+fn scheme(m: &[u8], at: usize, w: &mut [usize; 96]) -> Two
     requires { ⌜ (at ≤ length (now m)) × Kept (now m) (now w) ⌝ }
     ensures { λ r. ⌜ (r .at ≤ length (now (m .entry))) × (r .noted ≤ length (now (m .entry))) × Found (Gone (now (m .entry)) at (schemeLegs at (r .noted))) (r .at) × Kept (now (m .entry)) (now (w .exit)) ⌝ }
 {
@@ -439,7 +772,7 @@ pub enum Side {
 }
 
 // From a party's name to its account's number.
-fn to_iban(m: &[u8], at: usize, s: Side, w: &mut [usize; 64]) -> usize
+fn to_iban(m: &[u8], at: usize, s: Side, w: &mut [usize; 96]) -> usize
     requires { ⌜ (at ≤ length (now m)) × Kept (now m) (now w) ⌝ }
     ensures { λ r. ⌜ (r ≤ length (now (m .entry))) × Found (Spelled (now (m .entry)) at (textAt (toIban s))) r × Kept (now (m .entry)) (now (w .exit)) ⌝ }
 {
@@ -450,7 +783,7 @@ fn to_iban(m: &[u8], at: usize, s: Side, w: &mut [usize; 64]) -> usize
 }
 
 // From the creditor's account's number to its agent's BIC.
-fn to_agent(m: &[u8], at: usize, v: Version, w: &mut [usize; 64]) -> usize
+fn to_agent(m: &[u8], at: usize, v: Version, w: &mut [usize; 96]) -> usize
     requires { ⌜ (at ≤ length (now m)) × Kept (now m) (now w) ⌝ }
     ensures { λ r. ⌜ (r ≤ length (now (m .entry))) × Found (Spelled (now (m .entry)) at (textAt (toBic Side.Creditor v))) r × Kept (now (m .entry)) (now (w .exit)) ⌝ }
 {
@@ -473,7 +806,7 @@ fn to_agent(m: &[u8], at: usize, v: Version, w: &mut [usize; 64]) -> usize
 }
 
 // From the debtor's account's number to its agent's BIC.
-fn to_bank(m: &[u8], at: usize, v: Version, w: &mut [usize; 64]) -> usize
+fn to_bank(m: &[u8], at: usize, v: Version, w: &mut [usize; 96]) -> usize
     requires { ⌜ (at ≤ length (now m)) × Kept (now m) (now w) ⌝ }
     ensures { λ r. ⌜ (r ≤ length (now (m .entry))) × Found (Spelled (now (m .entry)) at (textAt (toBic Side.Debtor v))) r × Kept (now (m .entry)) (now (w .exit)) ⌝ }
 {
@@ -496,7 +829,7 @@ fn to_bank(m: &[u8], at: usize, v: Version, w: &mut [usize; 64]) -> usize
 }
 
 // From a party's account's number to its agent's BIC.
-fn to_bic(m: &[u8], at: usize, s: Side, v: Version, w: &mut [usize; 64]) -> usize
+fn to_bic(m: &[u8], at: usize, s: Side, v: Version, w: &mut [usize; 96]) -> usize
     requires { ⌜ (at ≤ length (now m)) × Kept (now m) (now w) ⌝ }
     ensures { λ r. ⌜ (r ≤ length (now (m .entry))) × Found (Spelled (now (m .entry)) at (textAt (toBic s v))) r × Kept (now (m .entry)) (now (w .exit)) ⌝ }
 {
@@ -507,7 +840,7 @@ fn to_bic(m: &[u8], at: usize, s: Side, v: Version, w: &mut [usize; 64]) -> usiz
 }
 
 // A party's name and account, up to the value of its agent's BIC.
-fn party(m: &[u8], at: usize, s: Side, v: Version, w: &mut [usize; 64]) -> Two
+fn party(m: &[u8], at: usize, s: Side, v: Version, w: &mut [usize; 96]) -> Two
     requires { ⌜ (at ≤ length (now m)) × Kept (now m) (now w) ⌝ }
     ensures { λ r. ⌜ (r .at ≤ length (now (m .entry))) × (r .noted ≤ length (now (m .entry))) × Found (Gone (now (m .entry)) at (partyLegs s v at (r .noted))) (r .at) × Kept (now (m .entry)) (now (w .exit)) ⌝ }
 {
@@ -529,7 +862,7 @@ fn bic(m: &[u8], at: usize, v: Version) -> usize
 }
 
 // From the creditor's BIC to the debtor's name.
-fn to_debtor(m: &[u8], at: usize, v: Version, w: &mut [usize; 64]) -> usize
+fn to_debtor(m: &[u8], at: usize, v: Version, w: &mut [usize; 96]) -> usize
     requires { ⌜ (at ≤ length (now m)) × Kept (now m) (now w) ⌝ }
     ensures { λ r. ⌜ (r ≤ length (now (m .entry))) × Found (Spelled (now (m .entry)) at (textAt (toDebtor v))) r × Kept (now (m .entry)) (now (w .exit)) ⌝ }
 {
@@ -540,7 +873,7 @@ fn to_debtor(m: &[u8], at: usize, v: Version, w: &mut [usize; 64]) -> usize
 }
 
 // The creditor's BIC, up to the debtor's name.
-fn agent(m: &[u8], at: usize, v: Version, w: &mut [usize; 64]) -> usize
+fn agent(m: &[u8], at: usize, v: Version, w: &mut [usize; 96]) -> usize
     requires { ⌜ (at ≤ length (now m)) × Kept (now m) (now w) ⌝ }
     ensures { λ r. ⌜ (r ≤ length (now (m .entry))) × Found (Gone (now (m .entry)) at (agentLegs v at)) r × Kept (now (m .entry)) (now (w .exit)) ⌝ }
 {
@@ -548,8 +881,113 @@ fn agent(m: &[u8], at: usize, v: Version, w: &mut [usize; 64]) -> usize
     to_debtor(m, a, v, w)
 }
 
+// Where the values of the creditor's side begin, and the debtor's name.
+struct CreditorSide {
+    at: usize,
+    identifier: usize,
+    scheme: usize,
+    name: usize,
+    account: usize,
+    agent: usize,
+}
+
+// Which stretch the creditor's side is, by the version.
+fn side_of(v: Version) -> usize
+    ensures { λ r. ⌜ (r ≡ sideOf v) × (r < 4) ⌝ }
+{
+    match v {
+        Version::V02 => 2,
+        Version::V08 => 3,
+    }
+}
+
+// The creditor's side as an item before had it, from behind DtOfSgntr.
+fn creditor_again(m: &[u8], at: usize, v: Version, w: &mut [usize; 96]) -> CreditorSide
+    requires { ⌜ (at ≤ length (now m)) × Kept (now m) (now w) ⌝ }
+    ensures { λ r. ⌜ SideWithin (length (now (m .entry))) r × Found (Gone (now (m .entry)) at (creditorLegs v (r .identifier) (r .scheme) (r .name) (r .account) (r .agent))) (r .at) × Kept (now (m .entry)) (now (w .exit)) ⌝ }
+{
+    let s = side_of(v);
+    let z = retrace(m, at, s, w);
+    if z == 0 {
+        return CreditorSide {
+            at: 0,
+            identifier: 0,
+            scheme: 0,
+            name: 0,
+            account: 0,
+            agent: 0,
+        };
+    }
+    let k = 66 + 8 * s;
+    CreditorSide {
+        at: z,
+        identifier: at + w[k],
+        scheme: at + w[k + 1],
+        name: at + w[k + 2],
+        account: at + w[k + 3],
+        agent: at + w[k + 4],
+    }
+}
+
+// The creditor's side from behind DtOfSgntr, up to the debtor's name.
+fn creditor_anew(m: &[u8], at: usize, v: Version, w: &mut [usize; 96]) -> CreditorSide
+    requires { ⌜ (at ≤ length (now m)) × Kept (now m) (now w) ⌝ }
+    ensures { λ r. ⌜ SideWithin (length (now (m .entry))) r × Found (Gone (now (m .entry)) at (creditorLegs v (r .identifier) (r .scheme) (r .name) (r .account) (r .agent))) (r .at) × Kept (now (m .entry)) (now (w .exit)) ⌝ }
+{
+    let o = tag_at(m, at);
+    let a = run(
+        m,
+        o,
+        b"</DtOfSgntr></MndtRltdInf><CdtrSchmeId><Id><PrvtId><Othr><Id>",
+        w,
+        13,
+    );
+    let b = scheme(m, a, w);
+    let c = party(m, b.at, Side::Creditor, v, w);
+    let z = agent(m, c.at, v, w);
+    CreditorSide {
+        at: z,
+        identifier: a,
+        scheme: b.noted,
+        name: b.at,
+        account: c.noted,
+        agent: c.at,
+    }
+}
+
+// The creditor's side of an item is kept.
+fn keep_creditor(m: &[u8], at: usize, v: Version, r: CreditorSide, w: &mut [usize; 96])
+    requires { ⌜ Kept (now m) (now w) × Gone (now m) at (creditorLegs v (r .identifier) (r .scheme) (r .name) (r .account) (r .agent)) (r .at) ⌝ }
+    ensures { λ r. ⌜ Kept (now (m .entry)) (now (w .exit)) ⌝ }
+{
+    let k = 64 + 8 * side_of(v);
+    w[k] = at;
+    w[k + 1] = r.at - at;
+    w[k + 2] = r.identifier - at;
+    w[k + 3] = r.scheme - at;
+    w[k + 4] = r.name - at;
+    w[k + 5] = r.account - at;
+    w[k + 6] = r.agent - at;
+}
+
+// The creditor's side: as an item before had it, or anew, and then it is kept.
+fn read_creditor(m: &[u8], at: usize, v: Version, w: &mut [usize; 96]) -> CreditorSide
+    requires { ⌜ (at ≤ length (now m)) × Kept (now m) (now w) ⌝ }
+    ensures { λ r. ⌜ SideWithin (length (now (m .entry))) r × Found (Gone (now (m .entry)) at (creditorLegs v (r .identifier) (r .scheme) (r .name) (r .account) (r .agent))) (r .at) × Kept (now (m .entry)) (now (w .exit)) ⌝ }
+{
+    let a = creditor_again(m, at, v, w);
+    if a.at != 0 {
+        return a;
+    }
+    let b = creditor_anew(m, at, v, w);
+    if b.at != 0 {
+        keep_creditor(m, at, v, b, w);
+    }
+    b
+}
+
 // From the debtor's BIC to the remittance text.
-fn to_text(m: &[u8], at: usize, v: Version, w: &mut [usize; 64]) -> usize
+fn to_text(m: &[u8], at: usize, v: Version, w: &mut [usize; 96]) -> usize
     requires { ⌜ (at ≤ length (now m)) × Kept (now m) (now w) ⌝ }
     ensures { λ r. ⌜ (r ≤ length (now (m .entry))) × Found (Spelled (now (m .entry)) at (textAt (toText v))) r × Kept (now (m .entry)) (now (w .exit)) ⌝ }
 {
@@ -572,7 +1010,7 @@ fn to_text(m: &[u8], at: usize, v: Version, w: &mut [usize; 64]) -> usize
 }
 
 // From the debtor's BIC to behind the item, where there is no remittance text.
-fn to_end(m: &[u8], at: usize, v: Version, w: &mut [usize; 64]) -> usize
+fn to_end(m: &[u8], at: usize, v: Version, w: &mut [usize; 96]) -> usize
     requires { ⌜ (at ≤ length (now m)) × Kept (now m) (now w) ⌝ }
     ensures { λ r. ⌜ (r ≤ length (now (m .entry))) × Found (Spelled (now (m .entry)) at (textAt (toEnd v))) r × Kept (now (m .entry)) (now (w .exit)) ⌝ }
 {
@@ -595,7 +1033,7 @@ fn to_end(m: &[u8], at: usize, v: Version, w: &mut [usize; 64]) -> usize
 }
 
 // The debtor's BIC and the remittance text, where there is one, up to behind the item.
-fn last(m: &[u8], at: usize, v: Version, w: &mut [usize; 64]) -> Two
+fn last(m: &[u8], at: usize, v: Version, w: &mut [usize; 96]) -> Two
     requires { ⌜ (at ≤ length (now m)) × Kept (now m) (now w) ⌝ }
     ensures { λ r. ⌜ (r .at ≤ length (now (m .entry))) × (r .noted ≤ length (now (m .entry))) × Found (Gone (now (m .entry)) at (lastLegs v at (r .noted))) (r .at) × Kept (now (m .entry)) (now (w .exit)) ⌝ }
 {
@@ -629,7 +1067,7 @@ pub struct Front {
 }
 
 // From behind an item's start tag to the value of MndtId.
-fn read_front(m: &[u8], at: usize, said: u8, first: u64, w: &mut [usize; 64]) -> Front
+fn read_front(m: &[u8], at: usize, said: u8, first: u64, w: &mut [usize; 96]) -> Front
     requires { ⌜ (at ≤ length (now m)) × Kept (now m) (now w) ⌝ }
     ensures { λ r. ⌜ FrontWithin (length (now (m .entry))) r × Found (Gone (now (m .entry)) at (frontLegs r)) (r .at) × ((0 < r .at) → Followed said first r) × Kept (now (m .entry)) (now (w .exit)) ⌝ }
 {
@@ -668,25 +1106,23 @@ pub struct Back {
 }
 
 // From the value of MndtId to behind the item.
-fn read_back(m: &[u8], at: usize, v: Version, w: &mut [usize; 64]) -> Back
+fn read_back(m: &[u8], at: usize, v: Version, w: &mut [usize; 96]) -> Back
     requires { ⌜ (at ≤ length (now m)) × Kept (now m) (now w) ⌝ }
     ensures { λ r. ⌜ BackWithin (length (now (m .entry))) r × Found (Gone (now (m .entry)) at (backLegs v at r)) (r .at) × Kept (now (m .entry)) (now (w .exit)) ⌝ }
 {
     let a = mandate(m, at, w);
-    let b = scheme(m, a.at, w);
-    let c = party(m, b.at, Side::Creditor, v, w);
-    let d = agent(m, c.at, v, w);
-    let e = party(m, d, Side::Debtor, v, w);
+    let c = read_creditor(m, a.at, v, w);
+    let e = party(m, c.at, Side::Debtor, v, w);
     let f = last(m, e.at, v, w);
     Back {
         at: f.at,
         signed: a.noted,
-        identifier: a.at,
-        scheme: b.noted,
-        creditor: b.at,
-        account: c.noted,
-        agent: c.at,
-        debtor: d,
+        identifier: c.identifier,
+        scheme: c.scheme,
+        creditor: c.name,
+        account: c.account,
+        agent: c.agent,
+        debtor: c.at,
         debited: e.noted,
         bank: e.at,
         text: f.noted,
@@ -700,7 +1136,7 @@ pub struct Item {
 }
 
 // What an item holds, from behind its start tag to behind its end tag; said is what was said of the payment type before it, first the service of the items before.
-pub fn read_item(m: &[u8], at: usize, v: Version, said: u8, first: u64, w: &mut [usize; 64]) -> Item
+pub fn read_item(m: &[u8], at: usize, v: Version, said: u8, first: u64, w: &mut [usize; 96]) -> Item
     requires { ⌜ (at ≤ length (now m)) × Kept (now m) (now w) ⌝ }
     ensures { λ r. ⌜ FrontWithin (length (now (m .entry))) (r .front) × BackWithin (length (now (m .entry))) (r .back) × Found (Gone (now (m .entry)) at (itemLegs v r)) (r .back .at) × ((0 < r .back .at) → Followed said first (r .front)) × Kept (now (m .entry)) (now (w .exit)) ⌝ }
 {

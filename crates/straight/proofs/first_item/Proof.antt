@@ -10,7 +10,7 @@ use Rattle.notes.specs.declared.Notes.{Notes}
 use Rattle.notes.specs.Steps.{stated, stepped}
 use Rattle.notes.proofs.Stays.{later}
 use Rattle.straight.proofs.Groups.{tag-within, good-there, by-whole, by-cut, by-other, makes-at}
-use Rattle.straight.proofs.Runs.{kept-none}
+use Rattle.straight.proofs.Kept.{kept-none}
 use borrow.Author.Needs.{needs}
 use Rattle.straight.proofs.first_item.Statement.{statement}
 use Rattle.straight.proofs.first_item.Tie as tie

@@ -12,8 +12,8 @@ use Rattle.engine.proofs.Steps.{fine-on, halted, went-on}
 use Rattle.straight.proofs.Groups.{tag-within}
 use Rattle.straight.proofs.Amounts.{behind-on}
 use Rattle.straight.proofs.Again.{Loop, begin, loop-stopped, loop-cut, loop-other, loop-next, loop-end}
-use Rattle.straight.specs.Runs.{Kept}
-use Rattle.straight.proofs.Runs.{kept-none}
+use Rattle.straight.specs.Kept.{Kept}
+use Rattle.straight.proofs.Kept.{kept-none}
 use borrow.Author.Needs.{needs}
 use Rattle.straight.proofs.more_items.Statement.{statement}
 use Rattle.straight.proofs.more_items.Tie as tie

@@ -1,6 +1,5 @@
 -- `straight::quick::kind` meets its contract.
 use native.Mathlib.Omega.{arith}
-use Rattle.straight.specs.Runs.{textAt}
 use Rattle.straight.proofs.Pieces.{type-none, type-with, follows-absent, follows-there}
 use borrow.Author.Needs.{needs}
 use Rattle.straight.proofs.quick.kind.Statement.{statement}
@@ -25,27 +24,19 @@ returns c =
       z .ensures .6,
     )
 
-slice-aggregate-run : tie.Need-slice-aggregate-run
-slice-aggregate-run c = search needs
-
-run-requires : tie.Need-run-requires
-unfolding textAt
-run-requires c κs = search needs
-
-read-codes-requires : tie.Need-read-codes-requires
-read-codes-requires c κs = search needs
+read-typed-requires : tie.Need-read-typed-requires
+read-typed-requires c κs = search needs
 
 returns-2 : tie.Need-returns-2
 returns-2 c =
-    let a = c .before .before .before .before .before .before .before .before .before .args in
+    let a = c .before .before .before .before .before .before .before .args in
     let m = a .m .now in
-    let v = c .before .before .before .before .before .before .before .reference in
-    let b = c .before .before .before .run in
-    let z = c .read-codes in
+    let v = c .before .before .before .before .before .reference in
+    let z = c .before .before .read-typed in
     let r = z .result in (
       z .ensures .0,
-      type-with m (a .at) (v .result) (b .result) (r .level) (r .service) (r .sequence) (r .listed) (r .at) (v .ensures .1) (b .ensures .1) (z .ensures .1),
-      follows-there m (a .said) (a .first) (b .result) (r .level) (r .service) (r .sequence) (r .listed) (r .at) (λ e. let y : ⊥ = omega arith in y) (z .ensures .1) (z .ensures .2),
+      type-with m (a .at) (v .result) (r .level) (r .service) (r .sequence) (r .listed) (r .at) (v .ensures .1) (z .ensures .1),
+      follows-there m (a .said) (a .first) (v .result) (r .level) (r .service) (r .sequence) (r .listed) (r .at) (λ e. let y : ⊥ = omega arith in y) (z .ensures .1) (z .ensures .2),
       z .ensures .3,
     )
 
@@ -55,7 +46,7 @@ no-codes-requires c κs = search needs
 returns-3 : tie.Need-returns-3
 returns-3 c =
     rw (c .no-codes .ensures)
-    (omega arith, tt, (λ h. absurd (let z : ⊥ = omega arith in z)), c .before .before .before .run .ensures .2)
+    (omega arith, tt, (λ h. absurd (let z : ⊥ = omega arith in z)), c .before .before .before .before .read-typed .ensures .3)
 
 no-type-requires-2 : tie.Need-no-type-requires-2
 no-type-requires-2 c κs = search needs
@@ -80,9 +71,7 @@ kind-spec =
     reference-requires
     no-type-requires
     returns
-    slice-aggregate-run
-    run-requires
-    read-codes-requires
+    read-typed-requires
     returns-2
     no-codes-requires
     returns-3

@@ -1,5 +1,6 @@
 -- `straight::quick::run` meets its contract.
-use Rattle.straight.proofs.Runs.{run-whole, run-again, kept-more}
+use Rattle.straight.proofs.Runs.{run-whole, run-again}
+use Rattle.straight.proofs.Kept.{kept-more}
 use Rattle.straight.specs.Runs.{textAt}
 use Rattle.straight.specs.Spelled.{Spelled}
 use Rattle.swift_values.proofs.Values.{found-at}
