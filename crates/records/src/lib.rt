@@ -24,17 +24,15 @@ ghost use Rattle.records.specs.Engine.{startOf, ownOr, recordOf, laid, R
 pub const LENGTH: usize = 320;
 
 // A value's bytes, laid into the record from an offset on.
-fn lay(rec: [u8; LENGTH], at: usize, v: &[u8]) -> [u8; LENGTH]
-    requires { ⌜ at + length (now v) ≤ recordLength ⌝ }
-    ensures { λ r. ⌜ r ≡ laid at (now (v .entry)) rec ⌝ }
+fn lay(rec: &mut [u8; LENGTH], at: usize, v: &[u8])
+    requires { ⌜ (length (now rec) ≡ recordLength) × (at + length (now v) ≤ recordLength) ⌝ }
+    ensures { λ _. ⌜ (now (rec .exit) ≡ laid at (now (v .entry)) (now (rec .entry))) × (length (now (rec .exit)) ≡ recordLength) ⌝ }
 {
-    let mut out = rec;
     let mut i = 0;
     while i < v.len() {
-        out[at + i] = v[i];
+        rec[at + i] = v[i];
         i += 1;
     }
-    out
 }
 
 // Where the last value of a field begins.
@@ -67,43 +65,46 @@ pub fn none_at(m: &[u8], start: usize) -> bool
 }
 
 // The value at a place, up to the next `<`: at most so many bytes of it, laid at an offset; nothing at place 0.
-fn put_at(rec: [u8; LENGTH], at: usize, width: usize, m: &[u8], start: usize) -> [u8; LENGTH]
-    requires { ⌜ at + width ≤ recordLength ⌝ }
-    ensures { λ r. ⌜ r ≡ laid at (take width (heldAt (now (m .entry)) start)) rec ⌝ }
+fn put_at(rec: &mut [u8; LENGTH], at: usize, width: usize, m: &[u8], start: usize)
+    requires { ⌜ (length (now rec) ≡ recordLength) × (at + width ≤ recordLength) ⌝ }
+    ensures { λ _. ⌜ (now (rec .exit) ≡ laid at (take width (heldAt (now (m .entry)) start)) (now (rec .entry))) × (length (now (rec .exit)) ≡ recordLength) ⌝ }
 {
     if none_at(m, start) {
-        return rec;
+        return;
     }
     let s = &m[start..];
     let n = tags::upto(s);
     if n < width {
-        return lay(rec, at, &s[..n]);
+        lay(rec, at, &s[..n]);
+        return;
     }
     lay(rec, at, &s[..width])
 }
 
 // The value of a field, where its start was noted, laid at an offset.
 fn put(
-    rec: [u8; LENGTH],
+    rec: &mut [u8; LENGTH],
     at: usize,
     width: usize,
     m: &[u8],
     starts: [u32; profile::FIELDS],
     f: Field,
-) -> [u8; LENGTH]
-    requires { ⌜ at + width ≤ recordLength ⌝ }
-    ensures { λ r. ⌜ r ≡ laid at (take width (heldAt (now (m .entry)) (startOf starts f))) rec ⌝ }
+)
+    requires { ⌜ (length (now rec) ≡ recordLength) × (at + width ≤ recordLength) ⌝ }
+    ensures { λ _. ⌜ (now (rec .exit) ≡ laid at (take width (heldAt (now (m .entry)) (startOf starts f))) (now (rec .entry))) × (length (now (rec .exit)) ≡ recordLength) ⌝ }
 {
     put_at(rec, at, width, m, start_of(starts, f))
 }
 
 // EndToEndId, from where its start was noted up to the next `<`, collapsed, laid at its offset.
-fn put_end_to_end(rec: [u8; LENGTH], m: &[u8], start: usize) -> [u8; LENGTH]
-    ensures { λ r. ⌜ r ≡ laid 35 (padded 35 (collapsed (heldAt (now (m .entry)) start))) rec ⌝ }
+fn put_end_to_end(rec: &mut [u8; LENGTH], m: &[u8], start: usize)
+    requires { ⌜ length (now rec) ≡ recordLength ⌝ }
+    ensures { λ _. ⌜ (now (rec .exit) ≡ laid 35 (padded 35 (collapsed (heldAt (now (m .entry)) start))) (now (rec .entry))) × (length (now (rec .exit)) ≡ recordLength) ⌝ }
 {
     let mut field = [32; 35];
     if none_at(m, start) {
-        return lay(rec, 35, &field);
+        lay(rec, 35, &field);
+        return;
     }
     let s = &m[start..];
     let n = tags::upto(s);
@@ -112,18 +113,17 @@ fn put_end_to_end(rec: [u8; LENGTH], m: &[u8], start: usize) -> [u8; LENGTH]
 }
 
 // The cents as 11 digits, laid at their offset.
-fn put_cents(rec: [u8; LENGTH], cents: u64) -> [u8; LENGTH]
-    ensures { λ r. ⌜ r ≡ laid 184 (digits 11 cents) rec ⌝ }
+fn put_cents(rec: &mut [u8; LENGTH], cents: u64)
+    requires { ⌜ length (now rec) ≡ recordLength ⌝ }
+    ensures { λ _. ⌜ (now (rec .exit) ≡ laid 184 (digits 11 cents) (now (rec .entry))) × (length (now (rec .exit)) ≡ recordLength) ⌝ }
 {
-    let mut out = rec;
     let mut left = cents;
     let mut i = 11;
     while 0 < i {
         i -= 1;
-        out[184 + i] = 48 + (left % 10) as u8;
+        rec[184 + i] = 48 + (left % 10) as u8;
         left /= 10;
     }
-    out
 }
 
 // The record of an item, from what reading it noted and what was noted above it: all spaces, then each field at its offset.
@@ -132,20 +132,20 @@ fn make_record(m: &[u8], n: Notes, above: [u32; profile::FIELDS]) -> [u8; LENGTH
 {
     let s = n.starts;
     let mut rec = [32; LENGTH];
-    rec = put(rec, 0, 35, m, s, Field::TxId);
-    rec = put_end_to_end(rec, m, start_of(s, Field::EndToEndId));
-    rec = put(rec, 70, 35, m, s, Field::MndtId);
-    rec = put(rec, 105, 34, m, s, Field::DbtrIban);
-    rec = put(rec, 139, 34, m, s, Field::CdtrIban);
-    rec = put(rec, 173, 11, m, s, Field::DbtrBic);
-    rec = put_cents(rec, n.cents);
-    rec = put(rec, 195, 10, m, s, Field::ReqdColltnDt);
-    rec = put_at(rec, 205, 4, m, wherever(s, above, Field::SeqTp));
-    rec = put(rec, 209, 35, m, s, Field::CdtrId);
-    rec = put(rec, 244, 11, m, s, Field::CdtrBic);
-    rec = put(rec, 255, 35, m, s, Field::InstrId);
-    rec = put_at(rec, 290, 4, m, wherever(s, above, Field::LclInstrm));
-    rec = put(rec, 294, 10, m, s, Field::DtOfSgntr);
+    put(&mut rec, 0, 35, m, s, Field::TxId);
+    put_end_to_end(&mut rec, m, start_of(s, Field::EndToEndId));
+    put(&mut rec, 70, 35, m, s, Field::MndtId);
+    put(&mut rec, 105, 34, m, s, Field::DbtrIban);
+    put(&mut rec, 139, 34, m, s, Field::CdtrIban);
+    put(&mut rec, 173, 11, m, s, Field::DbtrBic);
+    put_cents(&mut rec, n.cents);
+    put(&mut rec, 195, 10, m, s, Field::ReqdColltnDt);
+    put_at(&mut rec, 205, 4, m, wherever(s, above, Field::SeqTp));
+    put(&mut rec, 209, 35, m, s, Field::CdtrId);
+    put(&mut rec, 244, 11, m, s, Field::CdtrBic);
+    put(&mut rec, 255, 35, m, s, Field::InstrId);
+    put_at(&mut rec, 290, 4, m, wherever(s, above, Field::LclInstrm));
+    put(&mut rec, 294, 10, m, s, Field::DtOfSgntr);
     rec[319] = 10;
     rec
 }

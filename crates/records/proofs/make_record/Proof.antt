@@ -67,20 +67,14 @@ array-write-rec c = search needs
 
 returns : tie.Need-returns
 returns c =
-    let cents = c .before .before .before .before .before .before .before .before .before in
-    let mandate = cents .before .before .before .before in
-    let first = mandate .before .before .before in
-    let a = first .before .before .before .args in
-    let sequence = c .before .before .before .before .before .before in
-    let due = sequence .before .before .put6 in
-    let instruction = c .before .before .before .put9 in
-    whole (a .m .now) (a .n) (a .above) (first .put .ensures)
-    (mandate .before .put-end-to-end .ensures ∙ ap (λ (p : ℕ). laid 35 (padded 35 (collapsed (heldAt (a .m .now) p))) (first .put .result)) (mandate .before .before .start-of .ensures))
-    (mandate .put2 .ensures) (cents .before .before .before .put3 .ensures) (cents .before .before .put4 .ensures) (cents .before .put5 .ensures) (cents .put-cents .ensures) (due .ensures)
-    (sequence .put-at .ensures ∙ ap (λ (p : ℕ). laid 205 (take 4 (heldAt (a .m .now) p)) (due .result)) (sequence .before .wherever .ensures))
-    (c .before .before .before .before .before .put7 .ensures) (c .before .before .before .before .put8 .ensures) (instruction .ensures)
-    (c .before .put-at2 .ensures ∙ ap (λ (p : ℕ). laid 290 (take 4 (heldAt (a .m .now) p)) (instruction .result)) (c .before .before .wherever2 .ensures))
-    (c .put10 .ensures)
+    let a = c .before .before .before .before .before .before .before .before .before .before .before .before .before .before .before .before .before .before .before .before .before .before .before .before .before .before .before .before .before .before .before .before .before .args in
+    whole (a .m .now) (a .n) (a .above) (c .before .before .before .before .before .before .before .before .before .before .before .before .before .before .before .before .before .before .before .before .before .before .before .before .before .before .before .before .before .put .ensures .0)
+    (c .before .before .before .before .before .before .before .before .before .before .before .before .before .before .before .before .before .before .before .before .before .before .before .before .before .before .put-end-to-end .ensures .0 ∙ ap (λ (p : ℕ). laid 35 (padded 35 (collapsed (heldAt (a .m .now) p))) (c .before .before .before .before .before .before .before .before .before .before .before .before .before .before .before .before .before .before .before .before .before .before .before .before .before .before .before .before .before .put .last .0)) (c .before .before .before .before .before .before .before .before .before .before .before .before .before .before .before .before .before .before .before .before .before .before .before .before .before .before .before .start-of .ensures))
+    (c .before .before .before .before .before .before .before .before .before .before .before .before .before .before .before .before .before .before .before .before .before .before .before .before .put2 .ensures .0) (c .before .before .before .before .before .before .before .before .before .before .before .before .before .before .before .before .before .before .before .before .before .before .put3 .ensures .0) (c .before .before .before .before .before .before .before .before .before .before .before .before .before .before .before .before .before .before .before .before .put4 .ensures .0) (c .before .before .before .before .before .before .before .before .before .before .before .before .before .before .before .before .before .before .put5 .ensures .0) (c .before .before .before .before .before .before .before .before .before .before .before .before .before .before .before .before .put-cents .ensures .0) (c .before .before .before .before .before .before .before .before .before .before .before .before .before .before .put6 .ensures .0)
+    (c .before .before .before .before .before .before .before .before .before .before .before .put-at .ensures .0 ∙ ap (λ (p : ℕ). laid 205 (take 4 (heldAt (a .m .now) p)) (c .before .before .before .before .before .before .before .before .before .before .before .before .before .before .put6 .last .0)) (c .before .before .before .before .before .before .before .before .before .before .before .before .wherever .ensures))
+    (c .before .before .before .before .before .before .before .before .before .put7 .ensures .0) (c .before .before .before .before .before .before .before .put8 .ensures .0) (c .before .before .before .before .before .put9 .ensures .0)
+    (c .before .before .put-at2 .ensures .0 ∙ ap (λ (p : ℕ). laid 290 (take 4 (heldAt (a .m .now) p)) (c .before .before .before .before .before .put9 .last .0)) (c .before .before .before .wherever2 .ensures))
+    (c .put10 .ensures .0)
 
 pub make-record-spec : {M : Type 1} → statement M
 make-record-spec =

@@ -16,8 +16,8 @@ put-at-requires c κs = search needs
 
 returns : tie.Need-returns
 returns c =
-    let a = c .before .before .before .args in
-    c .put-at .ensures ∙ ap (λ (p : ℕ). laid (a .at) (take (a .width) (heldAt (a .m .now) p)) (a .rec)) (c .before .start-of .ensures)
+    let a = c .before .before .before .before .args in
+    (c .put-at .ensures .0 ∙ ap (λ (p : ℕ). laid (a .at) (take (a .width) (heldAt (a .m .now) p)) (a .rec .now)) (c .before .start-of .ensures), c .put-at .ensures .1)
 
 pub put-spec : {M : Type 1} → statement M
 put-spec = tie.close (tie.spec start-of-requires put-at-requires returns)

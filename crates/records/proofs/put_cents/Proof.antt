@@ -11,28 +11,28 @@ use Rattle.records.proofs.put_cents.Statement.{statement}
 use Rattle.records.proofs.put_cents.Tie as tie
 
 abbrev Inv-loop : tie.InvT-loop
-Inv-loop cents out₀ left₀ i₀ out left i = (due 184 i left out ≡ laid 184 (digits 11 cents) out₀) × (i ≤ 11) × (length out ≡ recordLength)
+Inv-loop rec₀ cents left₀ i₀ rec left i = (due 184 i left rec ≡ laid 184 (digits 11 cents) rec₀) × (i ≤ 11) × (length rec ≡ recordLength)
 
 abbrev μ-loop : tie.MeasureT-loop
-μ-loop cents out₀ left₀ i₀ out left i = i
+μ-loop rec₀ cents left₀ i₀ rec left i = i
 
 loop-holds : tie.Need-loop-holds Inv-loop μ-loop
-loop-holds c = (due-all 184 11 (c .args .cents) (c .args .rec), search needs, c .good .0 .1 .0 .1)
+loop-holds c = (due-all 184 11 (c .args .cents) (c .args .rec .now), search needs, c .pre)
 
 sub-i : tie.Need-sub-i Inv-loop μ-loop
 sub-i c = search needs
 
-cast-out : tie.Need-cast-out Inv-loop μ-loop
-cast-out c = search needs
+cast-rec : tie.Need-cast-rec Inv-loop μ-loop
+cast-rec c = search needs
 
-add-out : tie.Need-add-out Inv-loop μ-loop
-add-out c = search needs
+add-rec : tie.Need-add-rec Inv-loop μ-loop
+add-rec c = search needs
 
-add-out-2 : tie.Need-add-out-2 Inv-loop μ-loop
-add-out-2 c = search needs
+add-rec-2 : tie.Need-add-rec-2 Inv-loop μ-loop
+add-rec-2 c = search needs
 
-array-write-out : tie.Need-array-write-out Inv-loop μ-loop
-array-write-out c = search needs
+element-write-rec : tie.Need-element-write-rec Inv-loop μ-loop
+element-write-rec c = search needs
 
 loop-less : tie.Need-loop-less Inv-loop μ-loop
 loop-less c = search needs
@@ -40,12 +40,12 @@ loop-less c = search needs
 loop-again : tie.Need-loop-again Inv-loop μ-loop
 loop-again c =
     let l = c .before .loop in
-    (due-less 184 (l .i) (l .left) (l .out) (c .loop-test .taken) (omega arith) ∙ l .inv .0, search needs, search needs)
+    (due-less 184 (l .i) (l .left) (l .rec) (c .loop-test .taken) (omega arith) ∙ l .inv .0, search needs, search needs)
 
 returns : tie.Need-returns Inv-loop μ-loop
 returns c =
     let l = c .before .loop in
-    sym (due-none 184 (l .i) (l .left) (l .out) (c .loop-test .left)) ∙ l .inv .0
+    (sym (due-none 184 (l .i) (l .left) (l .rec) (c .loop-test .left)) ∙ l .inv .0, l .inv .2)
 
 pub put-cents-spec : {M : Type 1} → statement M
 put-cents-spec =
@@ -55,10 +55,10 @@ put-cents-spec =
     μ-loop
     loop-holds
     sub-i
-    cast-out
-    add-out
-    add-out-2
-    array-write-out
+    cast-rec
+    add-rec
+    add-rec-2
+    element-write-rec
     loop-less
     loop-again
     returns)

@@ -20,9 +20,9 @@ lay-requires c κs = search needs
 
 returns : tie.Need-returns
 returns c =
-    let a = c .before .before .before .before .before .args in
-    let none = c .before .before .before .none-at in
-    c .lay .ensures ∙ ap (λ (l : List ℕ). laid 35 l (a .rec)) (end-none (a .m .now) (a .start) (none .result) (none .ensures) (c .before .before .if1 .taken))
+    let a = c .before .before .before .before .before .before .args in
+    let none = c .before .before .before .before .none-at in
+    (c .lay .ensures .0 ∙ ap (λ (l : List ℕ). laid 35 l (a .rec .now)) (end-none (a .m .now) (a .start) (none .result) (none .ensures) (c .before .before .before .if1 .taken)), c .lay .ensures .1)
 
 sub-s : tie.Need-sub-s
 sub-s c =
@@ -62,12 +62,14 @@ lay-requires-2 c κs = search needs
 
 returns-2 : tie.Need-returns-2
 returns-2 c =
-    let a = c .before .before .before .before .before .before .before .before .before .before .before .args in
-    let none = c .before .before .before .before .before .before .before .before .before .none-at in
-    let some = c .before .before .before .before .before .before .before .before .if1 in
-    let the-upto = c .before .before .before .before .before .before .upto in
-    c .lay2 .ensures ∙ ap (λ (l : List ℕ). laid 35 l (a .rec))
-    (end-written (a .m .now) (a .start) (none .result) (none .ensures) (some .left) (the-upto .result) (the-upto .ensures) _ (c .before .before .before .collapse .ensures))
+    let a = c .before .before .before .before .before .before .before .before .before .before .before .before .args in
+    let none = c .before .before .before .before .before .before .before .before .before .before .none-at in
+    let some = c .before .before .before .before .before .before .before .before .before .if1 in
+    let the-upto = c .before .before .before .before .before .before .before .upto in (
+      c .lay2 .ensures .0 ∙ ap (λ (l : List ℕ). laid 35 l (a .rec .now))
+          (end-written (a .m .now) (a .start) (none .result) (none .ensures) (some .left) (the-upto .result) (the-upto .ensures) _ (c .before .before .before .before .collapse .ensures)),
+      c .lay2 .ensures .1,
+    )
 
 pub put-end-to-end-spec : {M : Type 1} → statement M
 put-end-to-end-spec =
