@@ -1,7 +1,8 @@
 //! Request 14: messages for the straight engine's quick reader, which guesses how an item is laid out from
 //! the items before it, and reads values by many bytes at once. The items of a message have one of a few
 //! layouts each, often with a twist, optional elements by chance and values at the edges of what is read
-//! at once; then one damage in an item behind the first, so that it lies behind a guess.
+//! at once; often also the payment type, the terms and the creditor's side of the item before, which is
+//! then not judged again; then one damage in an item behind the first, so that it lies behind a guess.
 
 use crate::damage::{damaged, due, fine, is_tag, is_value, kind_of, malform, whole};
 use crate::damage::{Case, Known, MALFORMED};

@@ -5,7 +5,7 @@ use crate::face::RECORD;
 use crate::kind::Kind;
 use crate::random::Random;
 use crate::value::{self, Valid, WHITE};
-use std::collections::HashSet;
+use std::collections::{HashMap, HashSet};
 
 #[derive(Clone, Copy, Debug, PartialEq, Eq)]
 pub enum What {
@@ -157,6 +157,30 @@ struct Writer<'r> {
     parts: Vec<Part>,
     /// The TxIds so far: all differ.
     transactions: HashSet<Vec<u8>>,
+    /// Items mostly repeat the payment type, the terms and the creditor's side of the item before: these
+    /// values of it.
+    repeats: bool,
+    before: HashMap<&'static str, Valid>,
+}
+
+impl<'r> Writer<'r> {
+    /// One that has written nothing yet.
+    fn new(plan: &Plan, at_edges: bool, random: &'r mut Random) -> Writer<'r> {
+        let &Plan { spacing, small, version, .. } = plan;
+        let repeats = at_edges && random.once_in(2);
+        Writer {
+            random,
+            spacing,
+            small,
+            at_edges,
+            version,
+            depth: 0,
+            parts: Vec::new(),
+            transactions: HashSet::new(),
+            repeats,
+            before: HashMap::new(),
+        }
+    }
 }
 
 impl Writer<'_> {
@@ -240,6 +264,20 @@ impl Writer<'_> {
         meant
     }
 
+    /// An element of the payment type, the terms or the creditor's side: where items are to repeat these,
+    /// mostly with the value of the item before; answers what it means.
+    fn repeated(&mut self, of: &'static str, name: &'static str, kind: Kind) -> Vec<u8> {
+        let before = self.before.get(of).filter(|_| self.repeats).cloned();
+        let value = match before {
+            Some(value) if !self.random.once_in(12) => value,
+            _ => self.value(kind),
+        };
+        self.before.insert(of, value.clone());
+        let meant = value.meant.clone();
+        self.valued(name, kind, value);
+        meant
+    }
+
     /// A TxId that no item before this one has; answers it.
     fn transaction(&mut self) -> Vec<u8> {
         let mut value = self.value(Kind::Reference);
@@ -256,7 +294,10 @@ impl Writer<'_> {
         self.open(name);
         self.open("FinInstnId");
         let (element, kind) = self.version.bic();
-        let bic = self.element(element, kind);
+        let bic = match name {
+            "CdtrAgt" => self.repeated(name, element, kind),
+            _ => self.element(element, kind),
+        };
         self.close("FinInstnId");
         self.close(name);
         bic
@@ -266,7 +307,10 @@ impl Writer<'_> {
     fn account(&mut self, name: &'static str) -> Vec<u8> {
         self.open(name);
         self.open("Id");
-        let iban = self.element("IBAN", Kind::Iban);
+        let iban = match name {
+            "CdtrAcct" => self.repeated(name, "IBAN", Kind::Iban),
+            _ => self.element("IBAN", Kind::Iban),
+        };
         self.close("Id");
         self.close(name);
         iban
@@ -291,7 +335,7 @@ impl Writer<'_> {
         let amount = value::amount(cents, self.random);
         self.given("IntrBkSttlmAmt", Kind::ItemAmount, &amount);
         self.element("ChrgBr", BEARERS);
-        let date = self.element("ReqdColltnDt", Kind::Date);
+        let date = self.repeated("ReqdColltnDt", "ReqdColltnDt", Kind::Date);
         let (mandate, signature_date, identifier) = self.direct_debit();
         let (creditor_iban, creditor_bic) = self.party(["Cdtr", "CdtrAcct", "CdtrAgt"]);
         let (debtor_iban, debtor_bic) = self.party(["Dbtr", "DbtrAcct", "DbtrAgt"]);
@@ -321,7 +365,12 @@ impl Writer<'_> {
 
     /// A creditor or a debtor: name, account, agent; answers IBAN and BIC.
     fn party(&mut self, [name, account, agent]: [&'static str; 3]) -> (Vec<u8>, Vec<u8>) {
-        self.group(name, |w| drop(w.element("Nm", Kind::Text70)));
+        self.group(name, |w| {
+            drop(match name {
+                "Cdtr" => w.repeated(name, "Nm", Kind::Text70),
+                _ => w.element("Nm", Kind::Text70),
+            });
+        });
         (self.account(account), self.agent(agent))
     }
 
@@ -343,7 +392,7 @@ impl Writer<'_> {
         self.open("PmtTpInf");
         self.code("SvcLvl", SEPA, b"SEPA");
         self.code("LclInstrm", INSTRUMENTS, instrument);
-        let sequence = self.element("SeqTp", SEQUENCES);
+        let sequence = self.repeated("SeqTp", "SeqTp", SEQUENCES);
         self.close("PmtTpInf");
         sequence
     }
@@ -358,7 +407,7 @@ impl Writer<'_> {
         for name in ["CdtrSchmeId", "Id", "PrvtId", "Othr"] {
             self.open(name);
         }
-        let identifier = self.element("Id", Kind::CreditorId);
+        let identifier = self.repeated("CdtrSchmeId", "Id", Kind::CreditorId);
         self.group("SchmeNm", |w| drop(w.element("Prtry", SEPA)));
         for name in ["Othr", "PrvtId", "Id", "CdtrSchmeId"] {
             self.close(name);
@@ -418,17 +467,15 @@ pub fn accepted(plan: &Plan, random: &mut Random) -> Message {
 }
 
 /// The same, with each item in one of these layouts, and every other value at the edges of what is read
-/// at once.
+/// at once; in every other message the items mostly have one creditor.
 pub fn laid_out(plan: &Plan, layouts: &[Spacing], random: &mut Random) -> Message {
     written(plan, layouts, random)
 }
 
 /// An accepted message: its items in these layouts, or all as the plan has it.
 fn written(plan: &Plan, layouts: &[Spacing], random: &mut Random) -> Message {
-    let &Plan { spacing, small, version, .. } = plan;
-    let (parts, transactions, at_edges) = (Vec::new(), HashSet::new(), !layouts.is_empty());
-    let mut writer =
-        Writer { random, spacing, small, at_edges, version, depth: 0, parts, transactions };
+    let version = plan.version;
+    let mut writer = Writer::new(plan, !layouts.is_empty(), random);
     let w = &mut writer;
     let amounts: Vec<u64> = (0..plan.items)
         .map(|_| if plan.small { w.random.worth(1, 9999) } else { value::item_cents(w.random) })

@@ -20,6 +20,7 @@ pub const ITEM_MOST: u64 = 99_999_999_999;
 pub const HEADER_MOST: u64 = 99_999_999_999_999_999;
 
 /// A value, what it means, and what its checker answers: the number, the cents, or 0.
+#[derive(Clone)]
 pub struct Valid {
     pub bytes: Vec<u8>,
     /// The collapsed value, of a kind that collapses; else the same bytes.
