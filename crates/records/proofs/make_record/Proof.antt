@@ -67,13 +67,26 @@ array-write-rec c = search needs
 
 returns : tie.Need-returns
 returns c =
-    let a = c .before .before .before .before .before .before .before .before .before .before .before .before .before .before .before .before .before .before .before .before .before .before .before .before .before .before .before .before .before .before .before .before .before .args in
-    whole (a .m .now) (a .n) (a .above) (c .before .before .before .before .before .before .before .before .before .before .before .before .before .before .before .before .before .before .before .before .before .before .before .before .before .before .before .before .before .put .ensures .0)
-    (c .before .before .before .before .before .before .before .before .before .before .before .before .before .before .before .before .before .before .before .before .before .before .before .before .before .before .put-end-to-end .ensures .0 ∙ ap (λ (p : ℕ). laid 35 (padded 35 (collapsed (heldAt (a .m .now) p))) (c .before .before .before .before .before .before .before .before .before .before .before .before .before .before .before .before .before .before .before .before .before .before .before .before .before .before .before .before .before .put .last .0)) (c .before .before .before .before .before .before .before .before .before .before .before .before .before .before .before .before .before .before .before .before .before .before .before .before .before .before .before .start-of .ensures))
-    (c .before .before .before .before .before .before .before .before .before .before .before .before .before .before .before .before .before .before .before .before .before .before .before .before .put2 .ensures .0) (c .before .before .before .before .before .before .before .before .before .before .before .before .before .before .before .before .before .before .before .before .before .before .put3 .ensures .0) (c .before .before .before .before .before .before .before .before .before .before .before .before .before .before .before .before .before .before .before .before .put4 .ensures .0) (c .before .before .before .before .before .before .before .before .before .before .before .before .before .before .before .before .before .before .put5 .ensures .0) (c .before .before .before .before .before .before .before .before .before .before .before .before .before .before .before .before .put-cents .ensures .0) (c .before .before .before .before .before .before .before .before .before .before .before .before .before .before .put6 .ensures .0)
-    (c .before .before .before .before .before .before .before .before .before .before .before .put-at .ensures .0 ∙ ap (λ (p : ℕ). laid 205 (take 4 (heldAt (a .m .now) p)) (c .before .before .before .before .before .before .before .before .before .before .before .before .before .before .put6 .last .0)) (c .before .before .before .before .before .before .before .before .before .before .before .before .wherever .ensures))
-    (c .before .before .before .before .before .before .before .before .before .put7 .ensures .0) (c .before .before .before .before .before .before .before .put8 .ensures .0) (c .before .before .before .before .before .put9 .ensures .0)
-    (c .before .before .put-at2 .ensures .0 ∙ ap (λ (p : ℕ). laid 290 (take 4 (heldAt (a .m .now) p)) (c .before .before .before .before .before .put9 .last .0)) (c .before .before .before .wherever2 .ensures))
+    let service = c .before .before in
+    let instruction = service .before .before .before in
+    let agent = instruction .before .before in
+    let identifier = agent .before .before in
+    let sequence = identifier .before .before in
+    let date = sequence .before .before .before in
+    let cents = date .before .before in
+    let bank = cents .before .before in
+    let creditor = bank .before .before in
+    let debtor = creditor .before .before in
+    let mandate = debtor .before .before in
+    let end = mandate .before .before in
+    let first = end .before .before .before in
+    let a = first .before .before .before .before .args in
+    whole (a .m .now) (a .n) (a .above) (first .put .ensures .0)
+    (end .put-end-to-end .ensures .0 ∙ ap (λ (p : ℕ). laid 35 (padded 35 (collapsed (heldAt (a .m .now) p))) (first .put .last .0)) (end .before .start-of .ensures))
+    (mandate .put2 .ensures .0) (debtor .put3 .ensures .0) (creditor .put4 .ensures .0) (bank .put5 .ensures .0) (cents .put-cents .ensures .0) (date .put6 .ensures .0)
+    (sequence .put-at .ensures .0 ∙ ap (λ (p : ℕ). laid 205 (take 4 (heldAt (a .m .now) p)) (date .put6 .last .0)) (sequence .before .wherever .ensures))
+    (identifier .put7 .ensures .0) (agent .put8 .ensures .0) (instruction .put9 .ensures .0)
+    (service .put-at2 .ensures .0 ∙ ap (λ (p : ℕ). laid 290 (take 4 (heldAt (a .m .now) p)) (instruction .put9 .last .0)) (service .before .wherever2 .ensures))
     (c .put10 .ensures .0)
 
 pub make-record-spec : {M : Type 1} → statement M
