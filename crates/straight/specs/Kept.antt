@@ -11,7 +11,7 @@ use Rattle.straight.specs.Runs.{textAt}
 use Rattle.straight.specs.Ways.{Leg, Gone, lifted}
 use Rattle.straight.specs.Legs.{typedLegs, chargedLegs, creditorLegs}
 
--- ---- the stretches: the payment type; ChrgBr and ReqdColltnDt; the creditor's side, by the version. Its values begin at o 0, o 1 and so on
+-- ---- the stretches: the payment type; ChrgBr and ReqdColltnDt; the creditor's side, by the version; their values begin at o 0, o 1 and so on
 abbrev pub stretchLegs : ℕ → (ℕ → ℕ) → List Leg
 stretchLegs zero o = typedLegs (o 0) (o 1) (o 2) (o 3)
 stretchLegs (suc zero) o = chargedLegs (o 0) (o 1)

@@ -386,7 +386,7 @@ fn same_wide(m: &[u8], at: usize, q: usize, n: usize) -> bool
     same_block(m, at + z, q + z)
 }
 
-// The n bytes at q stand at another place too, where n is large: the place behind them, or 0.
+// The n bytes at q stand at another place too, where n is large: the place behind them, or 0. (Apart from `again`, which is laid into every run and must stay small.)
 fn again_wide(m: &[u8], at: usize, q: usize, n: usize) -> usize
     requires { ⌜ at ≤ length (now m) ⌝ }
     ensures { λ r. ⌜ (r ≤ length (now (m .entry))) × (n ≡ 0 → r ≡ 0) × Found (Past (now (m .entry)) at (part q n (now (m .entry)))) r ⌝ }
@@ -569,7 +569,7 @@ fn typed_anew(m: &[u8], at: usize, first: u64, w: &mut [usize; 96]) -> Codes
 // The payment type of an item is kept.
 fn keep_typed(m: &[u8], at: usize, r: Codes, w: &mut [usize; 96])
     requires { ⌜ Kept (now m) (now w) × (r .listed ≤ 4) × Gone (now m) at (typedLegs (r .level) (r .service) (r .sequence) (r .listed)) (r .at) ⌝ }
-    ensures { λ r. ⌜ Kept (now (m .entry)) (now (w .exit)) ⌝ }
+    ensures { λ _. ⌜ Kept (now (m .entry)) (now (w .exit)) ⌝ }
 {
     w[64] = at;
     w[65] = r.at - at;
@@ -683,7 +683,7 @@ fn charged_anew(m: &[u8], at: usize, w: &mut [usize; 96]) -> Charged
 // ChrgBr and ReqdColltnDt of an item are kept.
 fn keep_charged(m: &[u8], at: usize, r: Charged, w: &mut [usize; 96])
     requires { ⌜ Kept (now m) (now w) × Gone (now m) at (chargedLegs (r .charge) (r .collected)) (r .at) ⌝ }
-    ensures { λ r. ⌜ Kept (now (m .entry)) (now (w .exit)) ⌝ }
+    ensures { λ _. ⌜ Kept (now (m .entry)) (now (w .exit)) ⌝ }
 {
     w[72] = at;
     w[73] = r.at - at;
@@ -958,7 +958,7 @@ fn creditor_anew(m: &[u8], at: usize, v: Version, w: &mut [usize; 96]) -> Credit
 // The creditor's side of an item is kept.
 fn keep_creditor(m: &[u8], at: usize, v: Version, r: CreditorSide, w: &mut [usize; 96])
     requires { ⌜ Kept (now m) (now w) × Gone (now m) at (creditorLegs v (r .identifier) (r .scheme) (r .name) (r .account) (r .agent)) (r .at) ⌝ }
-    ensures { λ r. ⌜ Kept (now (m .entry)) (now (w .exit)) ⌝ }
+    ensures { λ _. ⌜ Kept (now (m .entry)) (now (w .exit)) ⌝ }
 {
     let k = 64 + 8 * side_of(v);
     w[k] = at;

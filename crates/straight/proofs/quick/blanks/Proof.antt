@@ -40,8 +40,13 @@ is-white-requires-3 c κs = search needs
 
 returns-3 : tie.Need-returns-3
 returns-3 c =
-    let a = c .before .before .before .before .before .before .before .before .before .before .args in
-    (omega arith, white-two (a .m .now) (a .p) (omega (arith, c .before .before .before .before .before .before .before .before .before .before .pre)) (yes-not (c .before .before .before .before .before .before .before .is-white .ensures) (c .before .before .before .before .before .before .if1 .left)) (yes-not (c .before .before .before .before .is-white2 .ensures) (c .before .before .before .if2 .left)))
+    let second = c .before .before .before .before in
+    let first = second .before .before .before in
+    let s = first .before .before .before in
+    let a = s .args in (
+      omega arith,
+      white-two (a .m .now) (a .p) (omega (arith, s .pre)) (yes-not (first .is-white .ensures) (c .before .before .before .before .before .before .if1 .left)) (yes-not (second .is-white2 .ensures) (c .before .before .before .if2 .left)),
+    )
 
 add-alike-to : tie.Need-add-alike-to
 add-alike-to c = search needs
@@ -57,9 +62,15 @@ add-result c = search needs
 
 returns-4 : tie.Need-returns-4
 returns-4 c =
-    let a = c .before .before .before .before .before .before .before .before .before .before .before .args in
-    let k = c .alike-to .ensures in
-    (omega (arith, k .0), white-more (a .m .now) (a .p) (c .alike-to .result) (omega (arith, k .0, c .before .before .before .before .before .before .before .before .before .before .before .pre)) (yes-not (c .before .before .before .before .before .before .before .before .is-white .ensures) (c .before .before .before .before .before .before .before .if1 .left)) (yes-not (c .before .before .before .before .before .is-white2 .ensures) (c .before .before .before .before .if2 .left)) (yes-not (c .before .before .is-white3 .ensures) (c .before .if3 .left)) (k .1))
+    let second = c .before .before .before .before .before in
+    let first = second .before .before .before in
+    let s = first .before .before .before in
+    let a = s .args in
+    let k = c .alike-to .ensures in (
+      omega (arith, k .0),
+      white-more (a .m .now) (a .p) (c .alike-to .result) (omega (arith, k .0, s .pre)) (yes-not (first .is-white .ensures) (c .before .before .before .before .before .before .before .if1 .left))
+          (yes-not (second .is-white2 .ensures) (c .before .before .before .before .if2 .left)) (yes-not (c .before .before .is-white3 .ensures) (c .before .if3 .left)) (k .1),
+    )
 
 pub blanks-spec : {M : Type 1} → statement M
 blanks-spec =
