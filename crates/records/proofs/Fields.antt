@@ -21,8 +21,7 @@ use Rattle.words.specs.Walk.{overwritten}
 use Rattle.postings.specs.Record.{recordLength, padded, digits}
 use Rattle.postings.proofs.Long.{length-padded, length-digits}
 use Rattle.items.specs.Places.{heldAt}
-use Rattle.notes.specs.declared.Notes.{Notes}
-use Rattle.records.specs.Engine.{startOf, ownOr, recordOf, laid}
+use Rattle.records.specs.Engine.{startOf, ownOr, centsOf, recordOf, laid}
 
 -- ---- a value laid byte by byte
 module _ (rec : List ℕ) (at : ℕ) (v : List ℕ) where
@@ -197,13 +196,13 @@ ended {d} s =
 pub blank : So 0 [] (replicate recordLength 32)
 blank = record { is = refl; long = refl }
 
-module _ (m : List ℕ) (n : Notes) (above : List ℕ) where
-  -- a field of the item, and one that is had from wherever it stands
+module _ (m row above : List ℕ) where
+  -- a field of the item, by its row, and one that is had from wherever it stands
   abbrev pub own : Field → List ℕ
-  own f = heldAt m (startOf (n .starts) f)
+  own f = heldAt m (startOf row f)
 
   abbrev pub anywhere : Field → List ℕ
-  anywhere f = heldAt m (ownOr (startOf above f) (startOf (n .starts) f))
+  anywhere f = heldAt m (ownOr (startOf above f) (startOf row f))
 
   pub whole : {r0 r1 r2 r3 r4 r5 r6 r7 r8 r9 r10 r11 r12 r13 : List ℕ}
       → r0 ≡ laid 0 (take 35 (own TxId)) (replicate recordLength 32)
@@ -212,7 +211,7 @@ module _ (m : List ℕ) (n : Notes) (above : List ℕ) where
       → r3 ≡ laid 105 (take 34 (own DbtrIban)) r2
       → r4 ≡ laid 139 (take 34 (own CdtrIban)) r3
       → r5 ≡ laid 173 (take 11 (own DbtrBic)) r4
-      → r6 ≡ laid 184 (digits 11 (n .cents)) r5
+      → r6 ≡ laid 184 (digits 11 (centsOf row)) r5
       → r7 ≡ laid 195 (take 10 (own ReqdColltnDt)) r6
       → r8 ≡ laid 205 (take 4 (anywhere SeqTp)) r7
       → r9 ≡ laid 209 (take 35 (own CdtrId)) r8
@@ -220,7 +219,7 @@ module _ (m : List ℕ) (n : Notes) (above : List ℕ) where
       → r11 ≡ laid 255 (take 35 (own InstrId)) r10
       → r12 ≡ laid 290 (take 4 (anywhere LclInstrm)) r11
       → r13 ≡ laid 294 (take 10 (own DtOfSgntr)) r12
-      → set r13 319 10 ≡ recordOf m n above
+      → set r13 319 10 ≡ recordOf m row above
   unfolding recordOf
   whole e0 e1 e2 e3 e4 e5 e6 e7 e8 e9 e10 e11 e12 e13 =
       let s0 = next-padded blank 35 (own TxId) (omega arith) e0 in
@@ -229,7 +228,7 @@ module _ (m : List ℕ) (n : Notes) (above : List ℕ) where
       let s3 = next-padded s2 34 (own DbtrIban) (omega arith) e3 in
       let s4 = next-padded s3 34 (own CdtrIban) (omega arith) e4 in
       let s5 = next-padded s4 11 (own DbtrBic) (omega arith) e5 in
-      let s6 = next-whole s5 11 (digits 11 (n .cents)) (length-digits 11 (n .cents)) e6 in
+      let s6 = next-whole s5 11 (digits 11 (centsOf row)) (length-digits 11 (centsOf row)) e6 in
       let s7 = next-padded s6 10 (own ReqdColltnDt) (omega arith) e7 in
       let s8 = next-padded s7 4 (anywhere SeqTp) (omega arith) e8 in
       let s9 = next-padded s8 35 (own CdtrId) (omega arith) e9 in

@@ -2,9 +2,12 @@
 use mathlib.Core.Path.{_≡_, refl, sym, ap, _∙_}
 use mathlib.Core.Bool.{Bool, true}
 use mathlib.Core.List.{List, [], _∷_, _++_}
-use Prim.Native.Nat.{ℕ}
+use Prim.Native.Nat.{ℕ, _<_}
+use native.Mathlib.Omega.{arith}
 use borrow.Author.Tests.{eqb-true}
 use lib.Dec.{eqb}
+use lib.ListN.{length, List·getD-append}
+use lib.Seq.{getD-at}
 use Rattle.text.specs.Truth.{both}
 use Rattle.text.proofs.Truths.{both-true}
 use Rattle.money.specs.Amount.{cents}
@@ -13,7 +16,10 @@ use Rattle.profile.specs.declared.Field.{Field}
 use Rattle.profile.specs.declared.Field.the-variants.{TxId, EndToEndId, MndtId, DbtrIban, CdtrIban, DbtrBic, ReqdColltnDt, SeqTp, CdtrId, CdtrBic, InstrId, LclInstrm, DtOfSgntr}
 use Rattle.profile.specs.declared.Version.{Version}
 use Rattle.profile.specs.declared.Version.the-variants.{V02, V08}
+use Rattle.profile.specs.Fields.{fieldNumber}
+use Rattle.profile.specs.Listed.{manyFields}
 use Rattle.profile.specs.Profile.{inHeader}
+use Rattle.profile.proofs.Fields.{number-below}
 use Rattle.reading.specs.Trace.{Entry, message}
 use Rattle.reading.specs.Noted.{noted}
 use Rattle.reading.specs.Rules.{valuesAt, valuesOf}
@@ -32,7 +38,8 @@ use Rattle.bulks.proofs.Trees.{accepted-bulk}
 use Rattle.bulks.proofs.Typed.{InEach, instrument, sequence, only-above, none-above, no-kind-above}
 use Rattle.notes.specs.declared.Notes.{Notes}
 use Rattle.notes.proofs.Sums.{Summed}
-use Rattle.records.specs.Engine.{startOf, ownOr, placeFor, recordOf}
+use Rattle.engine.specs.Several.{rowOf}
+use Rattle.records.specs.Engine.{startOf, ownOr, centsOf, placeFor, recordOf}
 
 -- ---- the fields of a record that stand in no header, and the amount
 abbrev Below : Version → Field → Type 0
@@ -94,6 +101,16 @@ last-same : (a b l : List (List ℕ)) → (l ≡ [] → a ≡ b) → lastOf (las
 last-same a b [] e = ap (λ (x : List (List ℕ)). lastOf [] x) (e refl)
 last-same a b (v ∷ l) e = refl
 
+-- ---- a row holds what was noted
+module _ (n : Notes) (l : length (n .starts) ≡ manyFields) where
+  row-start : (f : Field) → startOf (rowOf n) f ≡ startOf (n .starts) f
+  row-start f =
+      let h : fieldNumber f < length (n .starts) = omega (arith, number-below f, l) in
+      List·getD-append (n .starts) (n .cents ∷ []) 0 (fieldNumber f) h
+
+  row-cents : centsOf (rowOf n) ≡ n .cents
+  row-cents = getD-at (n .starts) (n .cents) [] 0 manyFields l
+
 -- ---- an item of an accepted message
 module _ (m : List ℕ) (count cents′ : ℕ) (e : judged m ≡ accepted count cents′) (v : Version) (p : ℕ) (x : Item) (s : Stands v m p x) (before after : List Item) (is : theItems m ≡ before ++ (x ∷ after)) where
   abbrev k : Bulked m
@@ -128,8 +145,8 @@ module _ (m : List ℕ) (count cents′ : ℕ) (e : judged m ≡ accepted count 
 
   -- the record of what was noted of it and of the message is the record of what it holds and what the header says
   module _ (n : Notes) (above : List ℕ) (u : Summed (around x (s .inner)) n) where
-    its : (f : Field) → Below (k .version) f → heldAt m (startOf (n .starts) f) ≡ inRecord f
-    its f b = ap (heldAt m) (u .starts f) ∙ own-is f b
+    its : (f : Field) → Below (k .version) f → heldAt m (startOf (rowOf n) f) ≡ inRecord f
+    its f b = ap (heldAt m) (row-start n (u .long) f ∙ u .starts f) ∙ own-is f b
 
     pub from-wherever : (f : Field) → InEach f → startOf above f ≡ fieldPlace f all → heldAt m (ownOr (startOf above f) (startOf (n .starts) f)) ≡ inRecord f
     from-wherever f i q =
@@ -138,11 +155,14 @@ module _ (m : List ℕ) (count cents′ : ℕ) (e : judged m ≡ accepted count 
     pub its-cents : n .cents ≡ centsFor (theHeader m ++ x .holds)
     its-cents = u .cents ∙ cents-is
 
-    pub record-is : startOf above SeqTp ≡ fieldPlace SeqTp all → startOf above LclInstrm ≡ fieldPlace LclInstrm all → recordOf m n above ≡ recordFor (theHeader m ++ x .holds)
+    told-wherever : (f : Field) → InEach f → startOf above f ≡ fieldPlace f all → heldAt m (ownOr (startOf above f) (startOf (rowOf n) f)) ≡ inRecord f
+    told-wherever f i q = ap (λ (k : ℕ). heldAt m (ownOr (startOf above f) k)) (row-start n (u .long) f) ∙ from-wherever f i q
+
+    pub record-is : startOf above SeqTp ≡ fieldPlace SeqTp all → startOf above LclInstrm ≡ fieldPlace LclInstrm all → recordOf m (rowOf n) above ≡ recordFor (theHeader m ++ x .holds)
     unfolding recordOf recordFor
     record-is q r =
         let h = all-below (k .version) in
-        same-record (λ f. heldAt m (placeFor above n f)) inRecord (n .cents) (centsFor (theHeader m ++ x .holds)) its-cents (
+        same-record (λ f. heldAt m (placeFor above (rowOf n) f)) inRecord (centsOf (rowOf n)) (centsFor (theHeader m ++ x .holds)) (row-cents n (u .long) ∙ its-cents) (
           its TxId (h .0),
           (
             its EndToEndId (h .1 .0),
@@ -170,4 +190,4 @@ module _ (m : List ℕ) (count cents′ : ℕ) (e : judged m ≡ accepted count 
             ),
           ),
         )
-        (from-wherever SeqTp sequence q) (from-wherever LclInstrm instrument r)
+        (told-wherever SeqTp sequence q) (told-wherever LclInstrm instrument r)

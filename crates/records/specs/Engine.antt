@@ -1,18 +1,19 @@
--- What each function of the records writes, by the engine's notes.
-use Prim.Native.Nat.{ℕ, _+_, _*_, _≤_}
+-- What each function of the records writes, by what an engine tells of an item.
+use Prim.Native.Nat.{ℕ, zero, suc, _+_, _*_, _≤_}
 use mathlib.Core.Path.{_≡_}
-use mathlib.Core.List.{List, _++_}
-use lib.Dec.{eqb}
+use mathlib.Core.List.{List, [], _++_}
+use lib.Dec.{eqb, ltb}
 use lib.ListN.{length, take, drop, getD}
 use Rattle.text.specs.Truth.{either, pick}
 use Rattle.profile.specs.declared.Field.{Field}
 use Rattle.profile.specs.declared.Field.the-variants.{LclInstrm, SeqTp}
 use Rattle.profile.specs.Fields.{fieldNumber, sameField}
+use Rattle.profile.specs.Listed.{manyFields}
 use Rattle.reading.specs.Verdict.{accepted}
 use Rattle.reading.specs.Judged.{judged}
 use Rattle.postings.specs.Record.{recordLength, recordWith}
 use Rattle.items.specs.Places.{heldAt}
-use Rattle.notes.specs.declared.Notes.{Notes}
+use Rattle.engine.specs.Several.{rowLength}
 use Rattle.judge.specs.Survey.{survey}
 
 -- where a field was noted
@@ -23,12 +24,25 @@ startOf starts f = getD starts (fieldNumber f) 0
 abbrev pub ownOr : ℕ → ℕ → ℕ
 ownOr above own = pick (eqb own 0) above own
 
--- "Records take SeqTp from wherever it stands", "LclInstrm 4 (from wherever it stands)"; every other field stands in the item or nowhere
-abbrev pub placeFor : List ℕ → Notes → Field → ℕ
-placeFor above n f = pick (either (sameField f SeqTp) (sameField f LclInstrm)) (ownOr (startOf above f) (startOf (n .starts) f)) (startOf (n .starts) f)
+-- an item's row: where its fields begin, and behind them its cents
+abbrev pub centsOf : List ℕ → ℕ
+centsOf row = getD row manyFields 0
 
-unfoldable pub recordOf : List ℕ → Notes → List ℕ → List ℕ
-recordOf m n above = recordWith (λ f. heldAt m (placeFor above n f)) (n .cents)
+-- "Records take SeqTp from wherever it stands", "LclInstrm 4 (from wherever it stands)"; every other field stands in the item or nowhere
+abbrev pub placeFor : List ℕ → List ℕ → Field → ℕ
+placeFor above row f = pick (either (sameField f SeqTp) (sameField f LclInstrm)) (ownOr (startOf above f) (startOf row f)) (startOf row f)
+
+unfoldable pub recordOf : List ℕ → List ℕ → List ℕ → List ℕ
+recordOf m row above = recordWith (λ f. heldAt m (placeFor above row f)) (centsOf row)
+
+-- the records of so many rows, one behind the other
+abbrev pub recordsOf : List ℕ → List ℕ → ℕ → List ℕ → List ℕ
+recordsOf m above zero rows = []
+recordsOf m above (suc n) rows = recordOf m (take rowLength rows) above ++ recordsOf m above n (drop rowLength rows)
+
+-- so many of the items that are left are read in one call
+abbrev pub inOneCall : ℕ → ℕ
+inOneCall left = pick (ltb left 32) left 32
 
 -- "into which each field is written at its offset": bytes from `at` on replaced by v
 unfoldable pub laid : ℕ → List ℕ → List ℕ → List ℕ

@@ -1,8 +1,6 @@
 // The posting records of an accepted message, written into a lent area.
 use engines::Engine;
 use judge::Verdict;
-use notes::Met;
-use notes::Notes;
 use profile::Field;
 ghost use mathlib.Core.Path.{_≡_};
 ghost use mathlib.Core.List.{_++_};
@@ -18,10 +16,14 @@ ghost use Rattle.twice.specs.Twice.{cleared};
 ghost use Rattle.items.specs.Places.{heldAt};
 ghost use Rattle.judge.specs.Verdict.{meant};
 ghost use Rattle.records.specs.Indexed.{recordedWith};
-ghost use Rattle.records.specs.Engine.{startOf, ownOr, recordOf, laid, Room};
+ghost use Rattle.engine.specs.Several.{rowLength};
+ghost use Rattle.records.specs.Engine.{startOf, ownOr, centsOf, recordOf, recordsOf, inOneCall, laid, Room};
 
 // How many bytes a record has.
 pub const LENGTH: usize = 320;
+
+// How many items are read in one call, at most.
+const MOST: usize = 32;
 
 // A value's bytes, laid into the record from an offset on.
 fn lay(rec: &mut [u8; LENGTH], at: usize, v: &[u8])
@@ -43,15 +45,30 @@ fn start_of(starts: [u32; profile::FIELDS], f: Field) -> usize
     starts[i] as usize
 }
 
-// Where a field that may stand above an item is to be had: the item's own place, or else the place above.
-pub fn wherever(starts: [u32; profile::FIELDS], above: [u32; profile::FIELDS], f: Field) -> usize
-    ensures { λ r. ⌜ r ≡ ownOr (startOf above f) (startOf starts f) ⌝ }
+// The same of an item's row.
+fn row_start(row: &[u64], f: Field) -> usize
+    requires { ⌜ length (now row) ≡ rowLength ⌝ }
+    ensures { λ r. ⌜ r ≡ startOf (now (row .entry)) f ⌝ }
 {
-    let own = start_of(starts, f);
+    let i = profile::number_of(f);
+    row[i] as usize
+}
+
+// An item's own place of a field, or else the place above it.
+fn or_above(own: usize, above: [u32; profile::FIELDS], f: Field) -> usize
+    ensures { λ r. ⌜ r ≡ ownOr (startOf above f) own ⌝ }
+{
     if own == 0 {
         return start_of(above, f);
     }
     own
+}
+
+// Where a field that may stand above an item is to be had: the item's own place, or else the place above.
+pub fn wherever(starts: [u32; profile::FIELDS], above: [u32; profile::FIELDS], f: Field) -> usize
+    ensures { λ r. ⌜ r ≡ ownOr (startOf above f) (startOf starts f) ⌝ }
+{
+    or_above(start_of(starts, f), above, f)
 }
 
 // Whether no value is to be had at a place: it is 0, or behind the message.
@@ -82,18 +99,11 @@ fn put_at(rec: &mut [u8; LENGTH], at: usize, width: usize, m: &[u8], start: usiz
 }
 
 // The value of a field, where its start was noted, laid at an offset.
-fn put(
-    rec: &mut [u8; LENGTH],
-    at: usize,
-    width: usize,
-    m: &[u8],
-    starts: [u32; profile::FIELDS],
-    f: Field,
-)
-    requires { ⌜ (length (now rec) ≡ recordLength) × (at + width ≤ recordLength) ⌝ }
-    ensures { λ _. ⌜ (now (rec .exit) ≡ laid at (take width (heldAt (now (m .entry)) (startOf starts f))) (now (rec .entry))) × (length (now (rec .exit)) ≡ recordLength) ⌝ }
+fn put(rec: &mut [u8; LENGTH], at: usize, width: usize, m: &[u8], row: &[u64], f: Field)
+    requires { ⌜ (length (now rec) ≡ recordLength) × (at + width ≤ recordLength) × (length (now row) ≡ rowLength) ⌝ }
+    ensures { λ _. ⌜ (now (rec .exit) ≡ laid at (take width (heldAt (now (m .entry)) (startOf (now (row .entry)) f))) (now (rec .entry))) × (length (now (rec .exit)) ≡ recordLength) ⌝ }
 {
-    put_at(rec, at, width, m, start_of(starts, f))
+    put_at(rec, at, width, m, row_start(row, f))
 }
 
 // EndToEndId, from where its start was noted up to the next `<`, collapsed, laid at its offset.
@@ -126,26 +136,28 @@ fn put_cents(rec: &mut [u8; LENGTH], cents: u64)
     }
 }
 
-// The record of an item, from what reading it noted and what was noted above it: all spaces, then each field at its offset.
-fn make_record(m: &[u8], n: Notes, above: [u32; profile::FIELDS]) -> [u8; LENGTH]
-    ensures { λ r. ⌜ r ≡ recordOf (now (m .entry)) n above ⌝ }
+// The record of an item, from its row and what was noted above it: all spaces, then each field at its offset.
+fn make_record(m: &[u8], row: &[u64], above: [u32; profile::FIELDS]) -> [u8; LENGTH]
+    requires { ⌜ length (now row) ≡ rowLength ⌝ }
+    ensures { λ r. ⌜ r ≡ recordOf (now (m .entry)) (now (row .entry)) above ⌝ }
 {
-    let s = n.starts;
+    let sequence = or_above(row_start(row, Field::SeqTp), above, Field::SeqTp);
+    let instrument = or_above(row_start(row, Field::LclInstrm), above, Field::LclInstrm);
     let mut rec = [32; LENGTH];
-    put(&mut rec, 0, 35, m, s, Field::TxId);
-    put_end_to_end(&mut rec, m, start_of(s, Field::EndToEndId));
-    put(&mut rec, 70, 35, m, s, Field::MndtId);
-    put(&mut rec, 105, 34, m, s, Field::DbtrIban);
-    put(&mut rec, 139, 34, m, s, Field::CdtrIban);
-    put(&mut rec, 173, 11, m, s, Field::DbtrBic);
-    put_cents(&mut rec, n.cents);
-    put(&mut rec, 195, 10, m, s, Field::ReqdColltnDt);
-    put_at(&mut rec, 205, 4, m, wherever(s, above, Field::SeqTp));
-    put(&mut rec, 209, 35, m, s, Field::CdtrId);
-    put(&mut rec, 244, 11, m, s, Field::CdtrBic);
-    put(&mut rec, 255, 35, m, s, Field::InstrId);
-    put_at(&mut rec, 290, 4, m, wherever(s, above, Field::LclInstrm));
-    put(&mut rec, 294, 10, m, s, Field::DtOfSgntr);
+    put(&mut rec, 0, 35, m, row, Field::TxId);
+    put_end_to_end(&mut rec, m, row_start(row, Field::EndToEndId));
+    put(&mut rec, 70, 35, m, row, Field::MndtId);
+    put(&mut rec, 105, 34, m, row, Field::DbtrIban);
+    put(&mut rec, 139, 34, m, row, Field::CdtrIban);
+    put(&mut rec, 173, 11, m, row, Field::DbtrBic);
+    put_cents(&mut rec, row[profile::FIELDS]);
+    put(&mut rec, 195, 10, m, row, Field::ReqdColltnDt);
+    put_at(&mut rec, 205, 4, m, sequence);
+    put(&mut rec, 209, 35, m, row, Field::CdtrId);
+    put(&mut rec, 244, 11, m, row, Field::CdtrBic);
+    put(&mut rec, 255, 35, m, row, Field::InstrId);
+    put_at(&mut rec, 290, 4, m, instrument);
+    put(&mut rec, 294, 10, m, row, Field::DtOfSgntr);
     rec[319] = 10;
     rec
 }
@@ -162,7 +174,36 @@ fn write(part: &mut [u8], rec: [u8; LENGTH])
     }
 }
 
-// The second walk over the items: each is read again, and its record goes to its part of the area.
+// The records of so many rows, one behind the other.
+fn lay_rows(m: &[u8], rows: &[u64], n: usize, above: [u32; profile::FIELDS], area: &mut [u8])
+    requires { ⌜ (rowLength * n ≤ length (now rows)) × (length (now area) ≡ recordLength * n) ⌝ }
+    ensures { λ _. ⌜ now (area .exit) ≡ recordsOf (now (m .entry)) above n (now (rows .entry)) ⌝ }
+{
+    let mut i = 0;
+    while i < n {
+        let from = LENGTH * i;
+        let to = from + LENGTH;
+        let first = engine::ROW * i;
+        let behind = first + engine::ROW;
+        write(
+            &mut area[from..to],
+            make_record(m, &rows[first..behind], above),
+        );
+        i += 1;
+    }
+}
+
+// How many of the items that are left are read in the next call.
+fn in_one_call(left: usize) -> usize
+    ensures { λ r. ⌜ r ≡ inOneCall left ⌝ }
+{
+    if left < MOST {
+        return left;
+    }
+    MOST
+}
+
+// The second walk over the items: they are read again, so many in a call, and the records of their rows go to their part of the area.
 fn fill(
     e: Engine,
     m: &[u8],
@@ -175,23 +216,18 @@ fn fill(
     ensures { λ _. ⌜ now (area .exit) ≡ recordsFor (theHeader (now (m .entry))) (theItems (now (m .entry))) ++ drop (recordLength * count) (now (area .entry)) ⌝ }
 {
     let version = judge::version_of(m);
+    let mut rows = [0; engine::ROW * MOST];
     let mut i = 0;
     let mut at = first;
     while i < count {
-        let r = engines::item(e, m, at, version);
-        let met = r.met;
-        let st = r.state;
-        match met {
-            Met::Stopped(_, _) => return,
-            Met::On => {
-                let from = LENGTH * i;
-                let to = from + LENGTH;
-                let notes = st.notes;
-                write(&mut area[from..to], make_record(m, notes, above));
-                at = st.at as usize;
-                i += 1;
-            }
-        }
+        let n = in_one_call(count - i);
+        let wide = engine::ROW * n;
+        let r = engines::items(e, m, at, version, &mut rows[..wide]);
+        let from = LENGTH * i;
+        let to = from + LENGTH * n;
+        lay_rows(m, &rows, n, above, &mut area[from..to]);
+        at = r.at;
+        i += n;
     }
 }
 

@@ -5,7 +5,7 @@ pub mod Spelled
 pub mod Ways
 pub mod Runs
 pub mod Pieces
-pub mod Items
+pub mod WholeItem
 pub mod Noted
 pub mod Exact
 pub mod Groups

@@ -26,7 +26,7 @@ use Rattle.straight.specs.Exact.{Makes, MakesThen}
 use Rattle.straight.specs.Ways.{Gone}
 use Rattle.straight.specs.Legs.{itemLegs, FrontWithin, BackWithin, Followed, itemNoted}
 use Rattle.straight.proofs.Exact.{made-makes}
-use Rattle.straight.proofs.Items.{item-made}
+use Rattle.straight.proofs.WholeItem.{item-made}
 
 abbrev Going : Type 0
 Going = Reading (Ended Notes)

@@ -1,5 +1,6 @@
 // The straight engine: reads the profile without the element table.
 use codes::Element;
+use engine::Several;
 use notes::Met;
 use notes::State;
 use notes::Step;
@@ -24,6 +25,7 @@ ghost use Rattle.items.specs.Sums.{ofAmount};
 ghost use Rattle.items.specs.Alone.{itemBody};
 ghost use Rattle.notes.specs.Steps.{stated, stepped, reads, Good, Room, Fine};
 ghost use Rattle.engine.specs.Engine.{closedBy, valuedBy, messageAt, placesAt, itemAt};
+ghost use Rattle.engine.specs.Several.{Tells};
 ghost use Rattle.straight.specs.Kept.{Kept};
 ghost use Rattle.straight.specs.Pieces.{pmtId};
 ghost use Rattle.straight.specs.Exact.{leafOf, endOf, openOf, enterOf, oneOf, twoOf, insideOf, mayOf, inTypeOf, typeOf, amountOf, mandateOf, otherOf, privateOf, ownOf, schemeOf, debitOf, agentOf, headOf, partiesOf, lastOf, moreOf, firstOf, dueItem, inBulk, Makes, MakesThen, Behind as After};
@@ -1001,16 +1003,15 @@ fn more_items(m: &[u8], v: Version, before: Step, places: &mut [u32]) -> Step
 // ---- The whole message
 
 // The first item, which is due after white space.
-fn first_item(m: &[u8], v: Version, st: State, places: &mut [u32]) -> Step
-    requires { ⌜ Good (now m) (stated st) × Room 0 (st .notes) ⌝ }
-    ensures { λ s. ⌜ Makes (now (m .entry)) 0 (dueItem v (now (m .entry)) (st .at)) (st .notes) (now (places .entry)) (stepped s) (now (places .exit)) ⌝ }
+fn first_item(m: &[u8], v: Version, st: State, places: &mut [u32], w: &mut [usize; 96]) -> Step
+    requires { ⌜ Good (now m) (stated st) × Room 0 (st .notes) × Kept (now m) (now w) ⌝ }
+    ensures { λ s. ⌜ Makes (now (m .entry)) 0 (dueItem v (now (m .entry)) (st .at)) (st .notes) (now (places .entry)) (stepped s) (now (places .exit)) × Kept (now (m .entry)) (now (w .exit)) ⌝ }
 {
-    let mut w = [0; 96];
     let s = seek(m, b"<DrctDbtTxInf>", st);
     let look = s.look;
     let at = s.at;
     match look {
-        Look::Whole => one_item(m, v, st.at_place(at as u32), places, &mut w),
+        Look::Whole => one_item(m, v, st.at_place(at as u32), places, w),
         Look::Cut => st.refuse(3, m.len()),
         Look::Other => st.refuse(4, at),
     }
@@ -1023,9 +1024,10 @@ fn then_first(m: &[u8], v: Version, before: Step, places: &mut [u32]) -> Step
 {
     let met = before.met;
     let st = before.state;
+    let mut w = [0; 96];
     match met {
         Met::Stopped(number, place) => st.refuse(number, place),
-        Met::On => first_item(m, v, st, places),
+        Met::On => first_item(m, v, st, places, &mut w),
     }
 }
 
@@ -1076,5 +1078,40 @@ pub fn item(m: &[u8], at: usize, v: Version) -> Step
     }
     let st = State::new(at as u32);
     let mut none = [0; 1];
-    first_item(m, v, st, &mut none)
+    let mut w = [0; 96];
+    first_item(m, v, st, &mut none, &mut w)
+}
+
+// As many items as rows have room for, from a place on, one behind the other; what was kept of those before helps to read the next. None where rule 1 or the place forbids it.
+pub fn items(m: &[u8], at: usize, v: Version, rows: &mut [u64]) -> Several
+    ensures { λ r. ⌜ Tells v (now (m .entry)) at (now (rows .entry)) r (now (rows .exit)) ⌝ }
+{
+    if profile::MOST_BYTES < m.len() {
+        return Several { read: 0, at };
+    }
+    if m.len() < at {
+        return Several { read: 0, at };
+    }
+    let most = rows.len() / engine::ROW;
+    let mut none = [0; 1];
+    let mut w = [0; 96];
+    let mut i = 0;
+    let mut p = at;
+    while i < most {
+        let s = first_item(m, v, State::new(p as u32), &mut none, &mut w);
+        let met = s.met;
+        let st = s.state;
+        match met {
+            Met::Stopped(_, _) => return Several { read: i, at: p },
+            Met::On => {
+                let from = engine::ROW * i;
+                let to = from + engine::ROW;
+                let notes = st.notes;
+                engine::tell(&mut rows[from..to], notes);
+                p = st.at as usize;
+                i += 1;
+            }
+        }
+    }
+    Several { read: i, at: p }
 }

@@ -1,154 +1,176 @@
 -- `records::fill` meets its contract. The loop's invariant: the records of the items that are done stand in the area, and the others stand in the message from here on.
-use mathlib.Core.Path.{_∙_, ap, sym}
-use Prim.Native.Nat.{_-_}
+use mathlib.Core.Path.{_≡_, refl, sym, _∙_}
+use Prim.Native.Nat.{_-_, _*_, _≤_}
 use borrow.Author.Needs.{needs}
 use native.Mathlib.Omega.{arith}
-use Rattle.notes.specs.Steps.{stated, metIn, stepped}
-use Rattle.engine.specs.Engine.{itemAt}
-use Rattle.records.proofs.Areas.{Filling, fill-begins, fill-ends, part-fits, part-long, fill-stops, fill-on}
+use lib.ListN.{length, take, drop}
+use lib.Seq.{length-take-le, length-front}
+use Rattle.engine.specs.Several.{rowLength}
+use Rattle.records.proofs.Areas.{one-call, Filling, fill-begins, fill-ends, part-fits, part-long, fill-on}
 use Rattle.records.proofs.fill.Statement.{statement}
 use Rattle.records.proofs.fill.Tie as tie
 
 abbrev Inv-loop : tie.InvT-loop
-Inv-loop e m count first above area₀ version₀ i₀ at₀ area i at = Filling m count area₀ i at area
+Inv-loop e m count first above area₀ version rows₀ i₀ at₀ area rows i at = Filling m count area₀ i at area × (length rows ≡ rowLength * 32)
 
 abbrev μ-loop : tie.MeasureT-loop
-μ-loop e m count first above area₀ version₀ i₀ at₀ area i at = count - i
+μ-loop e m count first above area₀ version rows₀ i₀ at₀ area rows i at = count - i
 
 version-of-requires : tie.Need-version-of-requires Inv-loop μ-loop
 version-of-requires c κs = search needs
 
 loop-holds : tie.Need-loop-holds Inv-loop μ-loop
-loop-holds c =
-    let a = c .before .before .before .args in
-    fill-begins (a .m .now) (a .count) (a .first) (a .above) (a .area .now) (c .before .before .before .pre)
+loop-holds c = (fill-begins (c .before .before .before .pre), refl)
 
-item-requires : tie.Need-item-requires Inv-loop μ-loop
-item-requires c κs = search needs
+sub-in-one-call : tie.Need-sub-in-one-call Inv-loop μ-loop
+sub-in-one-call c = search needs
 
-enum-told : tie.Need-enum-told Inv-loop μ-loop
-enum-told c = search needs
+in-one-call-requires : tie.Need-in-one-call-requires Inv-loop μ-loop
+in-one-call-requires c κs = search needs
 
-same-length : tie.Need-same-length Inv-loop μ-loop
-same-length c = c .before .before .before .before .before .loop .inv .long
+mul-wide : tie.Need-mul-wide Inv-loop μ-loop
+mul-wide c =
+    let t = c .before in
+    let l = t .before .loop in
+    let s = t .before .before .before .before .before in
+    let n = c .in-one-call in
+    let k = one-call (s .args .count - l .i) (n .result) (n .ensures) (omega arith) in
+    omega (arith, k .few)
 
-returns : tie.Need-returns Inv-loop μ-loop
-returns c =
-    let a = c .before .before .before .before .before .before .before .before .before .args in
-    let the-pre = c .before .before .before .before .before .before .before .before .before .pre in
-    let the-loop = c .before .before .before .before .before .loop in
-    let the-loop-test = c .before .before .before .before .loop-test in
-    let the-item = c .before .before .before .item in
-    fill-stops (a .m .now) (a .count) (a .first) (a .above) (a .area .now) (the-pre) (the-loop .i) (the-loop .at) (the-loop .area) (the-loop .inv) (the-loop-test .taken)
-    (stepped (the-item .result)) (the-item .ensures .0 ∙ ap (λ v. itemAt v (a .m .now) (the-loop .at)) (c .before .before .before .before .before .before .version-of .ensures)) _ _ (ap (λ x. metIn x (the-item .result .state)) (c .enum-told .given .1))
+array-borrow-prefix-rows : tie.Need-array-borrow-prefix-rows Inv-loop μ-loop
+array-borrow-prefix-rows c =
+    let t = c .before in
+    let l = t .before .loop in
+    let s = t .before .before .before .before .before in
+    let n = c .in-one-call in
+    let k = one-call (s .args .count - l .i) (n .result) (n .ensures) (omega arith) in
+    omega (arith, k .few, l .inv .1)
 
-enum-told-2 : tie.Need-enum-told-2 Inv-loop μ-loop
-enum-told-2 c = search needs
+slice-aggregate-items : tie.Need-slice-aggregate-items Inv-loop μ-loop
+slice-aggregate-items c =
+    let t = c .before .before in
+    let l = t .before .loop in
+    let s = t .before .before .before .before .before in
+    let n = c .before .in-one-call in
+    let k = one-call (s .args .count - l .i) (n .result) (n .ensures) (omega arith) in
+    let h : rowLength * n .result ≤ length (l .rows) = omega (arith, k .few, l .inv .1) in
+    sym (length-take-le (rowLength * n .result) (l .rows) h)
+
+items-requires : tie.Need-items-requires Inv-loop μ-loop
+items-requires c κs = search needs
 
 mul-from : tie.Need-mul-from Inv-loop μ-loop
 mul-from c =
-    let a = c .before .before .before .before .before .before .before .before .before .args in
-    let the-pre = c .before .before .before .before .before .before .before .before .before .pre in
-    let the-loop = c .before .before .before .before .before .loop in
-    let the-loop-test = c .before .before .before .before .loop-test in
-    omega (
-      arith,
-      part-fits (a .m .now) (a .count) (a .first) (a .above) (a .area .now) (the-pre) (the-loop .i) (the-loop .at) (the-loop .area) (the-loop .inv)
-          (the-loop-test .taken),
-    )
+    let t = c .before .before .before .before in
+    let l = t .before .loop in
+    let s = t .before .before .before .before .before in
+    let n = c .before .before .before .in-one-call in
+    let k = one-call (s .args .count - l .i) (n .result) (n .ensures) (omega arith) in
+    omega (arith, part-fits (s .pre) (l .inv .0) (t .loop-test .taken) k, l .inv .0 .long, s .good .1 .1 .1 .1 .1 .0 .0)
+
+mul-to : tie.Need-mul-to Inv-loop μ-loop
+mul-to c =
+    let t = c .before .before .before .before in
+    let l = t .before .loop in
+    let s = t .before .before .before .before .before in
+    let n = c .before .before .before .in-one-call in
+    let k = one-call (s .args .count - l .i) (n .result) (n .ensures) (omega arith) in
+    omega (arith, part-fits (s .pre) (l .inv .0) (t .loop-test .taken) k, l .inv .0 .long, s .good .1 .1 .1 .1 .1 .0 .0)
 
 add-to : tie.Need-add-to Inv-loop μ-loop
 add-to c =
-    let a = c .before .before .before .before .before .before .before .before .before .args in
-    let the-pre = c .before .before .before .before .before .before .before .before .before .pre in
-    let the-loop = c .before .before .before .before .before .loop in
-    let the-loop-test = c .before .before .before .before .loop-test in
-    omega (
-      arith,
-      part-fits (a .m .now) (a .count) (a .first) (a .above) (a .area .now) (the-pre) (the-loop .i) (the-loop .at) (the-loop .area) (the-loop .inv)
-          (the-loop-test .taken),
-    )
+    let t = c .before .before .before .before in
+    let l = t .before .loop in
+    let s = t .before .before .before .before .before in
+    let n = c .before .before .before .in-one-call in
+    let k = one-call (s .args .count - l .i) (n .result) (n .ensures) (omega arith) in
+    omega (arith, part-fits (s .pre) (l .inv .0) (t .loop-test .taken) k, l .inv .0 .long, s .good .1 .1 .1 .1 .1 .0 .0)
 
-sub-write : tie.Need-sub-write Inv-loop μ-loop
-sub-write c =
-    let a = c .before .before .before .before .before .before .before .before .before .before .args in
-    let the-pre = c .before .before .before .before .before .before .before .before .before .before .pre in
-    let the-loop = c .before .before .before .before .before .before .loop in
-    let the-loop-test = c .before .before .before .before .before .loop-test in
-    omega (
-      arith,
-      part-fits (a .m .now) (a .count) (a .first) (a .above) (a .area .now) (the-pre) (the-loop .i) (the-loop .at) (the-loop .area) (the-loop .inv)
-          (the-loop-test .taken),
-    )
+slice-aggregate-lay-rows : tie.Need-slice-aggregate-lay-rows Inv-loop μ-loop
+slice-aggregate-lay-rows c =
+    let l = c .before .before .before .before .before .before .loop in
+    let n = c .before .before .before .before .in-one-call in
+    let r = c .before .before .items in
+    sym (length-front (l .rows) (r .last .1 .1 .1 .1 .0) (rowLength * n .result) (r .kept .1 .1 .1 .1 .0) ∙ l .inv .1)
 
-part-write-start : tie.Need-part-write-start Inv-loop μ-loop
-part-write-start c =
-    let a = c .before .before .before .before .before .before .before .before .before .before .args in
-    let the-pre = c .before .before .before .before .before .before .before .before .before .before .pre in
-    let the-loop = c .before .before .before .before .before .before .loop in
-    let the-loop-test = c .before .before .before .before .before .loop-test in
-    omega (
-      arith,
-      part-fits (a .m .now) (a .count) (a .first) (a .above) (a .area .now) (the-pre) (the-loop .i) (the-loop .at) (the-loop .area) (the-loop .inv)
-          (the-loop-test .taken),
-    )
+sub-lay-rows : tie.Need-sub-lay-rows Inv-loop μ-loop
+sub-lay-rows c =
+    let t = c .before .before .before .before .before in
+    let l = t .before .loop in
+    let s = t .before .before .before .before .before in
+    let n = c .before .before .before .before .in-one-call in
+    let k = one-call (s .args .count - l .i) (n .result) (n .ensures) (omega arith) in
+    omega (arith, part-fits (s .pre) (l .inv .0) (t .loop-test .taken) k, l .inv .0 .long, s .good .1 .1 .1 .1 .1 .0 .0)
 
-part-write-end : tie.Need-part-write-end Inv-loop μ-loop
-part-write-end c =
-    let a = c .before .before .before .before .before .before .before .before .before .before .args in
-    let the-pre = c .before .before .before .before .before .before .before .before .before .before .pre in
-    let the-loop = c .before .before .before .before .before .before .loop in
-    let the-loop-test = c .before .before .before .before .before .loop-test in
-    omega (
-      arith,
-      part-fits (a .m .now) (a .count) (a .first) (a .above) (a .area .now) (the-pre) (the-loop .i) (the-loop .at) (the-loop .area) (the-loop .inv)
-          (the-loop-test .taken),
-    )
+part-lay-rows-start : tie.Need-part-lay-rows-start Inv-loop μ-loop
+part-lay-rows-start c =
+    let t = c .before .before .before .before .before in
+    let l = t .before .loop in
+    let s = t .before .before .before .before .before in
+    let n = c .before .before .before .before .in-one-call in
+    let k = one-call (s .args .count - l .i) (n .result) (n .ensures) (omega arith) in
+    omega (arith, part-fits (s .pre) (l .inv .0) (t .loop-test .taken) k, l .inv .0 .long, s .good .1 .1 .1 .1 .1 .0 .0)
 
-make-record-requires : tie.Need-make-record-requires Inv-loop μ-loop
-make-record-requires c κs = search needs
+part-lay-rows-end : tie.Need-part-lay-rows-end Inv-loop μ-loop
+part-lay-rows-end c =
+    let t = c .before .before .before .before .before in
+    let l = t .before .loop in
+    let s = t .before .before .before .before .before in
+    let n = c .before .before .before .before .in-one-call in
+    let k = one-call (s .args .count - l .i) (n .result) (n .ensures) (omega arith) in
+    omega (arith, part-fits (s .pre) (l .inv .0) (t .loop-test .taken) k, l .inv .0 .long, s .good .1 .1 .1 .1 .1 .0 .0)
 
-write-requires : tie.Need-write-requires Inv-loop μ-loop
-write-requires c κs =
-    let a = c .before .before .before .before .before .before .before .before .before .before .before .before .args in
-    let the-pre = c .before .before .before .before .before .before .before .before .before .before .before .before .pre in
-    let the-loop = c .before .before .before .before .before .before .before .before .loop in
-    let the-loop-test = c .before .before .before .before .before .before .before .loop-test in
-    part-long (a .m .now) (a .count) (a .first) (a .above) (a .area .now) (the-pre) (the-loop .i) (the-loop .at) (the-loop .area) (the-loop .inv) (the-loop-test .taken)
-
-cast-at : tie.Need-cast-at Inv-loop μ-loop
-cast-at c = search needs
+lay-rows-requires : tie.Need-lay-rows-requires Inv-loop μ-loop
+lay-rows-requires c κs =
+    let t = c .before .before .before .before .before .before in
+    let l = t .before .loop in
+    let s = t .before .before .before .before .before in
+    let n = c .before .before .before .before .before .in-one-call in
+    let k = one-call (s .args .count - l .i) (n .result) (n .ensures) (omega arith) in
+    let r = c .before .before .before .items in
+    let g = length-front (l .rows) (r .last .1 .1 .1 .1 .0) (rowLength * n .result) (r .kept .1 .1 .1 .1 .0) ∙ l .inv .1 in
+    (omega (arith, g, k .few), part-long (s .pre) (l .inv .0) (t .loop-test .taken) k)
 
 add-i : tie.Need-add-i Inv-loop μ-loop
-add-i c = search needs
+add-i c =
+    let t = c .before .before .before .before .before .before .before .before .before in
+    let l = t .before .loop in
+    let s = t .before .before .before .before .before in
+    let n = c .before .before .before .before .before .before .before .before .in-one-call in
+    let k = one-call (s .args .count - l .i) (n .result) (n .ensures) (omega arith) in
+    omega (arith, k .within)
 
 loop-less : tie.Need-loop-less Inv-loop μ-loop
-loop-less c = search needs
+loop-less c =
+    let t = c .before .before .before .before .before .before .before .before .before in
+    let l = t .before .loop in
+    let s = t .before .before .before .before .before in
+    let n = c .before .before .before .before .before .before .before .before .in-one-call in
+    let k = one-call (s .args .count - l .i) (n .result) (n .ensures) (omega arith) in
+    omega (arith, k .within, k .some)
 
 loop-again : tie.Need-loop-again Inv-loop μ-loop
 loop-again c =
-    let a = c .before .before .before .before .before .before .before .before .before .before .before .before .before .before .before .before .args in
-    let the-pre = c .before .before .before .before .before .before .before .before .before .before .before .before .before .before .before .before .pre in
-    let the-loop = c .before .before .before .before .before .before .before .before .before .before .before .before .loop in
-    let the-loop-test = c .before .before .before .before .before .before .before .before .before .before .before .loop-test in
-    let the-version = c .before .before .before .before .before .before .before .before .before .before .before .before .before .version-of in
-    let the-item = c .before .before .before .before .before .before .before .before .before .before .item in
-    let the-enum-told2 = c .before .before .before .before .before .before .before .enum-told2 in
-    let the-make-record = c .before .before .before .before .make-record in
-    let the-write = c .before .before .before .write in
-    fill-on (a .m .now) (a .count) (a .first) (a .above) (a .area .now) (the-pre) (the-loop .i) (the-loop .at) (the-loop .area) (the-loop .inv) (the-loop-test .taken)
-    (stepped (the-item .result)) (the-item .ensures .0 ∙ ap (λ v. itemAt v (a .m .now) (the-loop .at)) (the-version .ensures)) (stated (the-item .result .state)) (ap (λ x. metIn x (the-item .result .state)) (the-enum-told2 .given .1))
-    (the-write .last .0) (the-write .ensures ∙ the-make-record .ensures)
+    let t = c .before .before .before .before .before .before .before .before .before in
+    let l = t .before .loop in
+    let s = t .before .before .before .before .before in
+    let n = c .before .before .before .before .before .before .before .before .in-one-call in
+    let k = one-call (s .args .count - l .i) (n .result) (n .ensures) (omega arith) in
+    let r = c .before .before .before .before .before .before .items in
+    let w = c .before .before .lay-rows in
+    let h : rowLength * n .result ≤ length (l .rows) = omega (arith, k .few, l .inv .1) in
+    let told = rw (t .before .before .version-of .ensures) at (r .ensures) in (
+      fill-on (s .pre) (l .inv .0) (t .loop-test .taken) k (length-take-le (rowLength * n .result) (l .rows) h) told (drop (rowLength * n .result) (l .rows))
+          (w .last .1 .1 .1 .1 .0) (w .ensures) (w .kept .1 .1 .1 .1 .0),
+      length-front (l .rows) (r .last .1 .1 .1 .1 .0) (rowLength * n .result) (r .kept .1 .1 .1 .1 .0) ∙ l .inv .1,
+    )
 
-same-length-2 : tie.Need-same-length-2 Inv-loop μ-loop
-same-length-2 c = c .before .loop .inv .long
+same-length : tie.Need-same-length Inv-loop μ-loop
+same-length c = c .before .loop .inv .0 .long
 
-returns-2 : tie.Need-returns-2 Inv-loop μ-loop
-returns-2 c =
-    let a = c .before .before .before .before .before .args in
-    let the-pre = c .before .before .before .before .before .pre in
-    let the-loop = c .before .loop in
-    fill-ends (a .m .now) (a .count) (a .first) (a .above) (a .area .now) (the-pre) (the-loop .i) (the-loop .at) (the-loop .area) (the-loop .inv) (c .loop-test .left)
+returns : tie.Need-returns Inv-loop μ-loop
+returns c =
+    fill-ends (c .before .before .before .before .before .pre) (c .before .loop .inv .0) (c .loop-test .left)
 
 pub fill-spec : {M : Type 1} → statement M
 fill-spec =
@@ -158,21 +180,22 @@ fill-spec =
     μ-loop
     version-of-requires
     loop-holds
-    item-requires
-    enum-told
-    same-length
-    returns
-    enum-told-2
+    sub-in-one-call
+    in-one-call-requires
+    mul-wide
+    array-borrow-prefix-rows
+    slice-aggregate-items
+    items-requires
     mul-from
+    mul-to
     add-to
-    sub-write
-    part-write-start
-    part-write-end
-    make-record-requires
-    write-requires
-    cast-at
+    slice-aggregate-lay-rows
+    sub-lay-rows
+    part-lay-rows-start
+    part-lay-rows-end
+    lay-rows-requires
     add-i
     loop-less
     loop-again
-    same-length-2
-    returns-2)
+    same-length
+    returns)

@@ -1,20 +1,20 @@
--- `records::wherever` meets its contract: no place of the item's own, and one.
+-- `records::wherever` meets its contract: by where the item's own value begins.
 use borrow.Author.Needs.{needs}
-use Rattle.records.proofs.Fields.{take-above, take-own}
+use mathlib.Core.Path.{_∙_, ap}
+use Rattle.records.specs.Engine.{startOf, ownOr}
 use Rattle.records.proofs.wherever.Statement.{statement}
 use Rattle.records.proofs.wherever.Tie as tie
 
 start-of-requires : tie.Need-start-of-requires
 start-of-requires c κs = search needs
 
-start-of-requires-2 : tie.Need-start-of-requires-2
-start-of-requires-2 c κs = search needs
+or-above-requires : tie.Need-or-above-requires
+or-above-requires c κs = search needs
 
 returns : tie.Need-returns
-returns c = take-above _ _ _ (c .before .before .start-of .ensures) _ (c .before .if1 .taken) (c .start-of2 .ensures)
-
-returns-2 : tie.Need-returns-2
-returns-2 c = take-own _ _ _ (c .before .start-of .ensures) (c .if1 .left)
+returns c =
+    let a = c .before .before .args in
+    c .or-above .ensures ∙ ap (ownOr (startOf (a .above) (a .f))) (c .before .start-of .ensures)
 
 pub wherever-spec : {M : Type 1} → statement M
-wherever-spec = tie.close (tie.spec start-of-requires start-of-requires-2 returns returns-2)
+wherever-spec = tie.close (tie.spec start-of-requires or-above-requires returns)

@@ -10,7 +10,6 @@ use Rattle.notes.specs.declared.Notes.{Notes}
 use Rattle.notes.specs.Steps.{stated, stepped}
 use Rattle.notes.proofs.Stays.{later}
 use Rattle.straight.proofs.Groups.{tag-within, good-there, by-whole, by-cut, by-other, makes-at}
-use Rattle.straight.proofs.Kept.{kept-none}
 use borrow.Author.Needs.{needs}
 use Rattle.straight.proofs.first_item.Statement.{statement}
 use Rattle.straight.proofs.first_item.Tie as tie
@@ -46,7 +45,7 @@ one-item-requires c κs =
           (stated (the-at-place .result)) (the-at-place .ensures),
       omega (arith, i, w),
       rw j (e .1),
-      kept-none m,
+      e .2,
     )
 
 enum-told-2 : tie.Need-enum-told-2
@@ -74,10 +73,11 @@ returns c =
     let the-enum-told = c .before .before .before .before .before .before .enum-told in
     let the-one-item = c .before .before .one-item in
     let the-at-place = c .before .before .before .before .before .at-place in
-    by-whole m (a .st .at) (a .st .notes) g itemTag (s .result .at) (s .ensures .0) (s .ensures .1) (s .result .look) (s .ensures .2)
+    let y = by-whole m (a .st .at) (a .st .notes) g itemTag (s .result .at) (s .ensures .0) (s .ensures .1) (s .result .look) (s .ensures .2)
     (itemBody (a .v) m) (fault 4) (a .places .now) (the-enum-told .given .1) 0 (stepped (the-one-item .result)) _
     (makes-at m 0 (itemBody (a .v) m) (stated (the-at-place .result)) (s .result .at) (a .st .notes) (the-at-place .ensures)
-    (a .places .now) (stepped (the-one-item .result)) _ (the-one-item .ensures .0))
+    (a .places .now) (stepped (the-one-item .result)) _ (the-one-item .ensures .0)) in
+    (y, the-one-item .ensures .1)
 
 returns-2 : tie.Need-returns-2
 returns-2 c =
@@ -89,7 +89,7 @@ returns-2 c =
     let the-refuse = c .refuse in
     let y = by-cut m (a .st .at) (a .st .notes) g itemTag (s .result .at) (s .ensures .0) (s .ensures .1) (s .result .look) (s .ensures .2)
     (itemBody (a .v) m) (fault 4) (a .places .now) (c .before .enum-told2 .given .1) (stepped (the-refuse .result)) (the-refuse .ensures) in
-    (y .0, later m 0 (a .st .at) (omega arith) (stepped (the-refuse .result)) (y .1), y .2)
+    ((y .0, later m 0 (a .st .at) (omega arith) (stepped (the-refuse .result)) (y .1), y .2), e .2)
 
 returns-3 : tie.Need-returns-3
 returns-3 c =
@@ -99,8 +99,9 @@ returns-3 c =
     let g = e .0 in
     let s = c .before .before .before .seek in
     let the-refuse2 = c .refuse2 in
-    by-other m (a .st .at) (a .st .notes) g itemTag (s .result .at) (s .ensures .0) (s .ensures .1) (s .result .look) (s .ensures .2)
-    (itemBody (a .v) m) (fault 4) (a .places .now) (c .before .enum-told3 .given .1) 0 (stepped (the-refuse2 .result)) _ (the-refuse2 .ensures, rw (the-refuse2 .ensures) (s .ensures .1), refl)
+    let y = by-other m (a .st .at) (a .st .notes) g itemTag (s .result .at) (s .ensures .0) (s .ensures .1) (s .result .look) (s .ensures .2)
+    (itemBody (a .v) m) (fault 4) (a .places .now) (c .before .enum-told3 .given .1) 0 (stepped (the-refuse2 .result)) _ (the-refuse2 .ensures, rw (the-refuse2 .ensures) (s .ensures .1), refl) in
+    (y, e .2)
 
 pub first-item-spec : {M : Type 1} → statement M
 first-item-spec =

@@ -1,6 +1,7 @@
 -- `straight::item` meets its contract.
 use Rattle.notes.specs.Steps.{stated, stepped}
 use Rattle.engine.proofs.Whole.{item-long, item-far}
+use Rattle.straight.proofs.Kept.{kept-none}
 use Rattle.straight.proofs.Frame.{starts-good, starts-room, item-makes}
 use borrow.Author.Needs.{needs}
 use Rattle.straight.proofs.item.Statement.{statement}
@@ -41,22 +42,23 @@ slice-aggregate-first-item c = search needs
 
 first-item-requires : tie.Need-first-item-requires
 first-item-requires c κs =
-    let the-args = c .before .before .before .before .before .args in
-    let the-if1 = c .before .before .before .if1 in
-    let the-if2 = c .before .before .if2 in
-    let the-new3 = c .before .new3 in (
+    let the-args = c .before .before .before .before .before .before .args in
+    let the-if1 = c .before .before .before .before .if1 in
+    let the-if2 = c .before .before .before .if2 in
+    let the-new3 = c .before .before .new3 in (
       starts-good (the-args .v) (the-args .m .now) (the-args .at) (the-if1 .left) (the-if2 .left) (stated (the-new3 .result)) (the-new3 .ensures),
       starts-room (the-args .v) (the-args .m .now) (the-args .at) (the-if1 .left) (the-if2 .left) (stated (the-new3 .result)) (the-new3 .ensures),
+      kept-none (the-args .m .now),
     )
 
 returns-3 : tie.Need-returns-3
 returns-3 c =
-    let the-args = c .before .before .before .before .before .before .before .args in
-    let the-if1 = c .before .before .before .before .before .if1 in
-    let the-new3 = c .before .before .before .new3 in
+    let the-args = c .before .before .before .before .before .before .before .before .args in
+    let the-if1 = c .before .before .before .before .before .before .if1 in
+    let the-new3 = c .before .before .before .before .new3 in
     let the-first-item = c .before .first-item in
-    item-makes (the-args .v) (the-args .m .now) (the-args .at) (the-if1 .left) (c .before .before .before .before .if2 .left) (stated (the-new3 .result)) (the-new3 .ensures) _
-    (stepped (the-first-item .result)) _ (the-first-item .ensures)
+    item-makes (the-args .v) (the-args .m .now) (the-args .at) (the-if1 .left) (c .before .before .before .before .before .if2 .left) (stated (the-new3 .result)) (the-new3 .ensures) _
+    (stepped (the-first-item .result)) _ (the-first-item .ensures .0)
 
 pub item-spec : {M : Type 1} → statement M
 item-spec =
