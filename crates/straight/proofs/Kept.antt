@@ -52,8 +52,8 @@ zeros zero i = refl
 zeros (suc n) zero = refl
 zeros (suc n) (suc i) = zeros n i
 
-pub kept-none : (m : List ℕ) → Kept m (replicate 96 0)
-kept-none m = record { long = refl; each = λ j h. rw (zeros 96 (j + 32)) tt; stretch = λ s h. rw (zeros 96 (slotOf s + 1)) tt; listed = omega (arith, zeros 96 69) }
+pub kept-none : (m : List ℕ) → Kept m (replicate 101 0)
+kept-none m = record { long = refl; each = λ j h. rw (zeros 101 (j + 32)) tt; stretch = λ s h. rw (zeros 101 (slotOf s + 1)) tt; listed = omega (arith, zeros 101 69) }
 
 -- ---- legs by their values' places
 abbrev sizeOf : ℕ → ℕ
@@ -88,6 +88,18 @@ same-stretch m w u s h f =
     let b : getD u (slotOf s + 1) 0 ≡ getD w (slotOf s + 1) 0 = h (slotOf s + 1) (omega arith) (omega arith) in
     let e : stretchLegs s (offsets u s) ≡ stretchLegs s (offsets w s) = legs-same s (offsets u s) (offsets w s) (λ i l. h (slotOf s + 2 + i) (omega arith) (omega (arith, size-most s))) in
     rw (a, b, e) f
+
+-- ---- a guess says nothing
+pub kept-guess : (m w : List ℕ) (i x : ℕ) → Kept m w → 96 ≤ i → Kept m (set w i x)
+kept-guess m w i x k h = record {
+  long = length-set w i x ∙ k .long;
+  each = λ j l. rw (old j (omega arith), old (j + 32) (omega arith)) (k .each j l);
+  stretch = λ s l. same-stretch m w (set w i x) s (λ j a b. old j (omega arith)) (k .stretch s l);
+  listed = omega (arith, k .listed, old 69 (omega arith));
+}
+  where
+    old : (j : ℕ) → j < 96 → getD (set w i x) j 0 ≡ getD w j 0
+    old j l = getD-set-other w i j x 0 (λ e. let z : ⊥ = omega arith in z)
 
 -- ---- a run is kept
 pub kept-more : (m w : List ℕ) (p j r : ℕ) → Kept m w → j < 32 → 0 < r → Found (Spelled m p (textAt j)) r → Kept m (set (set w j p) (j + 32) (r - p))

@@ -14,11 +14,10 @@ use Rattle.straight.specs.Kept.{Kept}
 use Rattle.straight.proofs.Spelled.{spelled-whole, spelled-again}
 
 -- as it is written
-pub run-whole : (m : List ℕ) (p : ℕ) (t : List ℕ) (j r : ℕ) → t ≡ textAt j → 4 ≤ length t → Found (Past m p (part 0 (length t) t)) r → Found (Spelled m p (textAt j)) r
-run-whole m p t j r e h f =
+pub written : (m : List ℕ) (p : ℕ) (t : List ℕ) (r : ℕ) → 4 ≤ length t → Found (Past m p (part 0 (length t) t)) r → Found (Spelled m p t) r
+written m p t r h f =
     let z : part 0 (length t) t ≡ t = take-all (length t) t (omega arith) in
-    let g : Found (Past m p t) r = rw (← z) f in
-    rw (← e) (spelled-whole m p t r (omega arith) g)
+    spelled-whole m p t r (omega arith) (rw (← z) f)
 
 -- as it was spelled before
 pub run-again : (m w : List ℕ) (p j r : ℕ) → Kept m w → j < 32 → (getD w (j + 32) 0 ≡ 0 → r ≡ 0) → Found (Past m p (part (getD w j 0) (getD w (j + 32) 0) m)) r → Found (Spelled m p (textAt j)) r

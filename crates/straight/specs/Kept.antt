@@ -29,9 +29,10 @@ slotOf s = 64 + 8 * s
 abbrev pub offsets : List ℕ → ℕ → ℕ → ℕ
 offsets w s i = getD w (slotOf s + 2 + i) 0
 
--- ---- of each run, a place where it is spelled and how many bytes it has there; of each stretch the same; 0 bytes where none is known
+-- ---- of each run, a place where it is spelled and how many bytes it has there; of each stretch the same; 0 bytes where none is known;
+-- then the lengths of five values, of which nothing is said: they are only guesses
 pub record Kept (m w : List ℕ) : Type 0 where
-  pub long : length w ≡ 96
+  pub long : length w ≡ 101
   pub each : (j : ℕ) → j < 32 → Found (λ n. Spelled m (getD w j 0) (textAt j) (getD w j 0 + n)) (getD w (j + 32) 0)
   pub stretch : (s : ℕ) → s < 4 → Found (λ n. Gone m (getD w (slotOf s) 0) (lifted (getD w (slotOf s) 0) (stretchLegs s (offsets w s))) (getD w (slotOf s) 0 + n)) (getD w (slotOf s + 1) 0)
   pub listed : getD w 69 0 ≤ 4

@@ -936,7 +936,7 @@ fn header_exact(m: &[u8], v: Version, before: Step, places: &mut [u32]) -> Step
 }
 
 // What an item holds, up to behind its end tag: by the quick reader, or by the exact one where that does not tell. How an item was spelled is kept in w.
-fn held(m: &[u8], v: Version, st: State, places: &mut [u32], w: &mut [usize; 96]) -> Step
+fn held(m: &[u8], v: Version, st: State, places: &mut [u32], w: &mut [usize; 101]) -> Step
     requires { ⌜ Good (now m) (stated st) × Room 1 (st .notes) × Kept (now m) (now w) ⌝ }
     ensures { λ s. ⌜ Makes (now (m .entry)) 0 (trace (inItem v) (now (m .entry)) (st .at)) (st .notes) (now (places .entry)) (stepped s) (now (places .exit)) × Kept (now (m .entry)) (now (w .exit)) ⌝ }
 {
@@ -951,7 +951,7 @@ fn held(m: &[u8], v: Version, st: State, places: &mut [u32], w: &mut [usize; 96]
 }
 
 // The same after a step.
-fn then_held(m: &[u8], v: Version, before: Step, places: &mut [u32], w: &mut [usize; 96]) -> Step
+fn then_held(m: &[u8], v: Version, before: Step, places: &mut [u32], w: &mut [usize; 101]) -> Step
     requires { ⌜ Fine (now m) 0 (stepped before) × After (stepped before) (Room 1) × Kept (now m) (now w) ⌝ }
     ensures { λ s. ⌜ MakesThen (now (m .entry)) (trace (inItem v) (now (m .entry))) (stepped before) (now (places .entry)) (stepped s) (now (places .exit)) × Kept (now (m .entry)) (now (w .exit)) ⌝ }
 {
@@ -964,7 +964,7 @@ fn then_held(m: &[u8], v: Version, before: Step, places: &mut [u32], w: &mut [us
 }
 
 // An item from the `<` of its start tag, which lies whole at the state's place, to behind its end tag.
-fn one_item(m: &[u8], v: Version, st: State, places: &mut [u32], w: &mut [usize; 96]) -> Step
+fn one_item(m: &[u8], v: Version, st: State, places: &mut [u32], w: &mut [usize; 101]) -> Step
     requires { ⌜ Good (now m) (stated st) × (st .at + 14 ≤ length (now m)) × Room 0 (st .notes) × Kept (now m) (now w) ⌝ }
     ensures { λ s. ⌜ Makes (now (m .entry)) 0 (itemBody v (now (m .entry)) (st .at)) (st .notes) (now (places .entry)) (stepped s) (now (places .exit)) × Kept (now (m .entry)) (now (w .exit)) ⌝ }
 {
@@ -977,7 +977,7 @@ fn more_items(m: &[u8], v: Version, before: Step, places: &mut [u32]) -> Step
     requires { ⌜ Fine (now m) 0 (stepped before) × After (stepped before) (Room 0) ⌝ }
     ensures { λ s. ⌜ MakesThen (now (m .entry)) (moreOf v (now (m .entry)) (length (now (m .entry)))) (stepped before) (now (places .entry)) (stepped s) (now (places .exit)) ⌝ }
 {
-    let mut w = [0; 96];
+    let mut w = [0; 101];
     let mut left = m.len();
     let mut s = before;
     while 0 < left {
@@ -1003,7 +1003,7 @@ fn more_items(m: &[u8], v: Version, before: Step, places: &mut [u32]) -> Step
 // ---- The whole message
 
 // The first item, which is due after white space.
-fn first_item(m: &[u8], v: Version, st: State, places: &mut [u32], w: &mut [usize; 96]) -> Step
+fn first_item(m: &[u8], v: Version, st: State, places: &mut [u32], w: &mut [usize; 101]) -> Step
     requires { ⌜ Good (now m) (stated st) × Room 0 (st .notes) × Kept (now m) (now w) ⌝ }
     ensures { λ s. ⌜ Makes (now (m .entry)) 0 (dueItem v (now (m .entry)) (st .at)) (st .notes) (now (places .entry)) (stepped s) (now (places .exit)) × Kept (now (m .entry)) (now (w .exit)) ⌝ }
 {
@@ -1024,7 +1024,7 @@ fn then_first(m: &[u8], v: Version, before: Step, places: &mut [u32]) -> Step
 {
     let met = before.met;
     let st = before.state;
-    let mut w = [0; 96];
+    let mut w = [0; 101];
     match met {
         Met::Stopped(number, place) => st.refuse(number, place),
         Met::On => first_item(m, v, st, places, &mut w),
@@ -1078,7 +1078,7 @@ pub fn item(m: &[u8], at: usize, v: Version) -> Step
     }
     let st = State::new(at as u32);
     let mut none = [0; 1];
-    let mut w = [0; 96];
+    let mut w = [0; 101];
     first_item(m, v, st, &mut none, &mut w)
 }
 
@@ -1094,7 +1094,7 @@ pub fn items(m: &[u8], at: usize, v: Version, rows: &mut [u64]) -> Several
     }
     let most = rows.len() / engine::ROW;
     let mut none = [0; 1];
-    let mut w = [0; 96];
+    let mut w = [0; 101];
     let mut i = 0;
     let mut p = at;
     while i < most {

@@ -15,7 +15,7 @@ ghost use Rattle.profile.specs.Limits.{mostBytes};
 ghost use Rattle.profile.specs.Profile.{bicKind};
 ghost use Rattle.items.specs.Sums.{mostSum};
 ghost use Rattle.notes.specs.Steps.{stated};
-ghost use Rattle.swift_values.specs.Stands.{Found, StandsFor};
+ghost use Rattle.swift_values.specs.Stands.{Found, StandsFor, Stands};
 ghost use Rattle.straight.specs.Words.{halfAt, wordAt, Four, Eight, Match};
 ghost use Rattle.straight.specs.Due.{Past, saidBy};
 ghost use Rattle.straight.specs.Spelled.{Spelled, Onto};
@@ -331,20 +331,28 @@ fn again(m: &[u8], at: usize, q: usize, n: usize) -> usize
     here(m, at, m, q, n)
 }
 
-// A run of tags: as it is written, or as an item before this one spelled it, or byte by byte; how it is spelled then is kept.
-fn run(m: &[u8], at: usize, text: &[u8], w: &mut [usize; 96], j: usize) -> usize
-    requires { ⌜ (at ≤ length (now m)) × (now text ≡ textAt j) × (4 ≤ length (now text)) × (j < 32) × Kept (now m) (now w) ⌝ }
-    ensures { λ r. ⌜ (r ≤ length (now (m .entry))) × Found (Spelled (now (m .entry)) at (textAt j)) r × Kept (now (m .entry)) (now (w .exit)) ⌝ }
+// A text as it is spelled at a place: as it is written, or else by words: the place behind it, or 0.
+fn anew(m: &[u8], at: usize, text: &[u8]) -> usize
+    requires { ⌜ (at ≤ length (now m)) × (4 ≤ length (now text)) ⌝ }
+    ensures { λ r. ⌜ (r ≤ length (now (m .entry))) × Found (Spelled (now (m .entry)) at (now (text .entry))) r ⌝ }
 {
     let a = here(m, at, text, 0, text.len());
     if a != 0 {
         return a;
     }
+    spell(m, at, text)
+}
+
+// A run of tags: as an item before this one spelled it, or anew; how it is spelled then is kept.
+fn run(m: &[u8], at: usize, text: &[u8], w: &mut [usize; 101], j: usize) -> usize
+    requires { ⌜ (at ≤ length (now m)) × (now text ≡ textAt j) × (4 ≤ length (now text)) × (j < 32) × Kept (now m) (now w) ⌝ }
+    ensures { λ r. ⌜ (r ≤ length (now (m .entry))) × Found (Spelled (now (m .entry)) at (textAt j)) r × Kept (now (m .entry)) (now (w .exit)) ⌝ }
+{
     let b = again(m, at, w[j], w[j + 32]);
     if b != 0 {
         return b;
     }
-    let c = spell(m, at, text);
+    let c = anew(m, at, text);
     if c != 0 {
         w[j] = at;
         w[j + 32] = c - at;
@@ -413,7 +421,7 @@ fn again_wide(m: &[u8], at: usize, q: usize, n: usize) -> usize
 }
 
 // The stretch s stands at a place again: the place behind it, or 0.
-fn retrace(m: &[u8], at: usize, s: usize, w: &mut [usize; 96]) -> usize
+fn retrace(m: &[u8], at: usize, s: usize, w: &mut [usize; 101]) -> usize
     requires { ⌜ (at ≤ length (now m)) × (s < 4) × Kept (now m) (now w) ⌝ }
     ensures { λ r. ⌜ (r ≤ length (now (m .entry))) × Found (Gone (now (m .entry)) at (lifted at (stretchLegs s (offsets (now (w .exit)) s)))) r × Kept (now (m .entry)) (now (w .exit)) ⌝ }
 {
@@ -435,6 +443,48 @@ fn tag_at(m: &[u8], at: usize) -> usize
     at
 }
 
+// ---- values whose length is guessed from an item before
+
+// The length of a value is kept as guess i, where there is a value.
+fn keep_length(m: &[u8], at: usize, e: usize, w: &mut [usize; 101], i: usize)
+    requires { ⌜ (96 ≤ i) × (i < 101) × (0 < e → at ≤ e) × Kept (now m) (now w) ⌝ }
+    ensures { λ _. ⌜ Kept (now (m .entry)) (now (w .exit)) ⌝ }
+{
+    if e != 0 {
+        w[i] = e - at;
+    }
+}
+
+// A reference: where it ends, or 0.
+fn reference(m: &[u8], at: usize, w: &mut [usize; 101], i: usize) -> usize
+    requires { ⌜ (96 ≤ i) × (i < 101) × Kept (now m) (now w) ⌝ }
+    ensures { λ r. ⌜ (r ≤ length (now (m .entry))) × Found (Stands Simple.Reference (now (m .entry)) at) r × Kept (now (m .entry)) (now (w .exit)) ⌝ }
+{
+    let e = swift_values::reference(m, at, w[i]);
+    keep_length(m, at, e, w, i);
+    e
+}
+
+// An EndToEndId: where it ends, or 0.
+fn end_to_end(m: &[u8], at: usize, w: &mut [usize; 101], i: usize) -> usize
+    requires { ⌜ (96 ≤ i) × (i < 101) × Kept (now m) (now w) ⌝ }
+    ensures { λ r. ⌜ (r ≤ length (now (m .entry))) × Found (Stands Simple.EndToEnd (now (m .entry)) at) r × Kept (now (m .entry)) (now (w .exit)) ⌝ }
+{
+    let e = swift_values::end_to_end(m, at, w[i]);
+    keep_length(m, at, e, w, i);
+    e
+}
+
+// A remittance text: where it ends, or 0.
+fn remittance(m: &[u8], at: usize, w: &mut [usize; 101], i: usize) -> usize
+    requires { ⌜ (96 ≤ i) × (i < 101) × Kept (now m) (now w) ⌝ }
+    ensures { λ r. ⌜ (r ≤ length (now (m .entry))) × Found (Stands Simple.Text140 (now (m .entry)) at) r × Kept (now (m .entry)) (now (w .exit)) ⌝ }
+{
+    let e = swift_values::remittance(m, at, w[i]);
+    keep_length(m, at, e, w, i);
+    e
+}
+
 // ---- the pieces of an item. A place of 0 says that nothing is told.
 
 // Where InstrId begins (0 where there is none), and the value of EndToEndId.
@@ -444,7 +494,7 @@ struct Begun {
 }
 
 // From behind an item's start tag to the value of EndToEndId, past InstrId where there is one.
-fn begin(m: &[u8], at: usize, w: &mut [usize; 96]) -> Begun
+fn begin(m: &[u8], at: usize, w: &mut [usize; 101]) -> Begun
     requires { ⌜ (at ≤ length (now m)) × Kept (now m) (now w) ⌝ }
     ensures { λ r. ⌜ (r .at ≤ length (now (m .entry))) × (r .first ≤ length (now (m .entry))) × Found (Gone (now (m .entry)) at (begunLegs (r .first))) (r .at) × Kept (now (m .entry)) (now (w .exit)) ⌝ }
 {
@@ -453,7 +503,7 @@ fn begin(m: &[u8], at: usize, w: &mut [usize; 96]) -> Begun
         let z = run(m, at, b"<PmtId><EndToEndId>", w, 1);
         return Begun { at: z, first: 0 };
     }
-    let b = swift_values::reference(m, a);
+    let b = reference(m, a, w, 96);
     let z = run(m, b, b"</InstrId><EndToEndId>", w, 2);
     Begun { at: z, first: a }
 }
@@ -466,12 +516,12 @@ struct Ids {
 }
 
 // Up to the value of TxId.
-fn read_ids(m: &[u8], at: usize, w: &mut [usize; 96]) -> Ids
+fn read_ids(m: &[u8], at: usize, w: &mut [usize; 101]) -> Ids
     requires { ⌜ (at ≤ length (now m)) × Kept (now m) (now w) ⌝ }
     ensures { λ r. ⌜ (r .at ≤ length (now (m .entry))) × (r .first ≤ length (now (m .entry))) × (r .ends ≤ length (now (m .entry))) × Found (Gone (now (m .entry)) at (idsLegs (r .first) (r .ends))) (r .at) × Kept (now (m .entry)) (now (w .exit)) ⌝ }
 {
     let e = begin(m, at, w);
-    let a = swift_values::end_to_end(m, e.at);
+    let a = end_to_end(m, e.at, w, 97);
     let z = run(m, a, b"</EndToEndId><TxId>", w, 3);
     Ids {
         at: z,
@@ -514,7 +564,7 @@ fn may_follow(first: u64, listed: u64) -> bool
 }
 
 // The payment type as an item before had it; first is the service of the items before.
-fn typed_again(m: &[u8], at: usize, first: u64, w: &mut [usize; 96]) -> Codes
+fn typed_again(m: &[u8], at: usize, first: u64, w: &mut [usize; 101]) -> Codes
     requires { ⌜ (at ≤ length (now m)) × Kept (now m) (now w) ⌝ }
     ensures { λ r. ⌜ CodesWithin (length (now (m .entry))) r × Found (Gone (now (m .entry)) at (typedLegs (r .level) (r .service) (r .sequence) (r .listed))) (r .at) × ((0 < r .at) → mayFollow first (r .listed) ≡ true) × Kept (now (m .entry)) (now (w .exit)) ⌝ }
 {
@@ -536,7 +586,7 @@ fn typed_again(m: &[u8], at: usize, first: u64, w: &mut [usize; 96]) -> Codes
 }
 
 // The payment type from behind TxId, up to the value of the amount.
-fn typed_anew(m: &[u8], at: usize, first: u64, w: &mut [usize; 96]) -> Codes
+fn typed_anew(m: &[u8], at: usize, first: u64, w: &mut [usize; 101]) -> Codes
     requires { ⌜ (at ≤ length (now m)) × Kept (now m) (now w) ⌝ }
     ensures { λ r. ⌜ CodesWithin (length (now (m .entry))) r × Found (Gone (now (m .entry)) at (typedLegs (r .level) (r .service) (r .sequence) (r .listed))) (r .at) × ((0 < r .at) → mayFollow first (r .listed) ≡ true) × Kept (now (m .entry)) (now (w .exit)) ⌝ }
 {
@@ -567,7 +617,7 @@ fn typed_anew(m: &[u8], at: usize, first: u64, w: &mut [usize; 96]) -> Codes
 }
 
 // The payment type of an item is kept.
-fn keep_typed(m: &[u8], at: usize, r: Codes, w: &mut [usize; 96])
+fn keep_typed(m: &[u8], at: usize, r: Codes, w: &mut [usize; 101])
     requires { ⌜ Kept (now m) (now w) × (r .listed ≤ 4) × Gone (now m) at (typedLegs (r .level) (r .service) (r .sequence) (r .listed)) (r .at) ⌝ }
     ensures { λ _. ⌜ Kept (now (m .entry)) (now (w .exit)) ⌝ }
 {
@@ -580,7 +630,7 @@ fn keep_typed(m: &[u8], at: usize, r: Codes, w: &mut [usize; 96])
 }
 
 // The payment type: as an item before had it, or anew, and then it is kept.
-fn read_typed(m: &[u8], at: usize, first: u64, w: &mut [usize; 96]) -> Codes
+fn read_typed(m: &[u8], at: usize, first: u64, w: &mut [usize; 101]) -> Codes
     requires { ⌜ (at ≤ length (now m)) × Kept (now m) (now w) ⌝ }
     ensures { λ r. ⌜ CodesWithin (length (now (m .entry))) r × Found (Gone (now (m .entry)) at (typedLegs (r .level) (r .service) (r .sequence) (r .listed))) (r .at) × ((0 < r .at) → mayFollow first (r .listed) ≡ true) × Kept (now (m .entry)) (now (w .exit)) ⌝ }
 {
@@ -596,7 +646,7 @@ fn read_typed(m: &[u8], at: usize, first: u64, w: &mut [usize; 96]) -> Codes
 }
 
 // TxId's end tag and the amount's start tag: no payment type stands between them.
-fn no_type(m: &[u8], at: usize, w: &mut [usize; 96]) -> Codes
+fn no_type(m: &[u8], at: usize, w: &mut [usize; 101]) -> Codes
     requires { ⌜ (at ≤ length (now m)) × Kept (now m) (now w) ⌝ }
     ensures { λ r. ⌜ (r .at ≤ length (now (m .entry))) × Found (Spelled (now (m .entry)) at (textAt 5)) (r .at) × (r .level ≡ 0) × (r .service ≡ 0) × (r .sequence ≡ 0) × (r .listed ≡ 0) × Kept (now (m .entry)) (now (w .exit)) ⌝ }
 {
@@ -611,11 +661,11 @@ fn no_type(m: &[u8], at: usize, w: &mut [usize; 96]) -> Codes
 }
 
 // TxId and the payment type, up to the value of the amount; said is what was said of the type before (1 that it is there, 2 that it is absent, 0 nothing): the same is not said again.
-fn kind(m: &[u8], at: usize, said: u8, first: u64, w: &mut [usize; 96]) -> Codes
+fn kind(m: &[u8], at: usize, said: u8, first: u64, w: &mut [usize; 101]) -> Codes
     requires { ⌜ (at ≤ length (now m)) × Kept (now m) (now w) ⌝ }
     ensures { λ r. ⌜ CodesWithin (length (now (m .entry))) r × Found (Gone (now (m .entry)) at (typeLegs at (r .level) (r .service) (r .sequence) (r .listed))) (r .at) × ((0 < r .at) → Follows said first (r .level) (r .listed)) × Kept (now (m .entry)) (now (w .exit)) ⌝ }
 {
-    let a = swift_values::reference(m, at);
+    let a = reference(m, at, w, 98);
     if said == 1 {
         return no_type(m, a, w);
     }
@@ -637,7 +687,7 @@ struct Charged {
 }
 
 // ChrgBr and ReqdColltnDt as an item before had them, from behind the amount.
-fn charged_again(m: &[u8], at: usize, w: &mut [usize; 96]) -> Charged
+fn charged_again(m: &[u8], at: usize, w: &mut [usize; 101]) -> Charged
     requires { ⌜ (at ≤ length (now m)) × Kept (now m) (now w) ⌝ }
     ensures { λ r. ⌜ (r .at ≤ length (now (m .entry))) × (r .charge ≤ length (now (m .entry))) × (r .collected ≤ length (now (m .entry))) × Found (Gone (now (m .entry)) at (chargedLegs (r .charge) (r .collected))) (r .at) × Kept (now (m .entry)) (now (w .exit)) ⌝ }
 {
@@ -657,7 +707,7 @@ fn charged_again(m: &[u8], at: usize, w: &mut [usize; 96]) -> Charged
 }
 
 // ChrgBr and ReqdColltnDt from behind the amount, up to the value of MndtId.
-fn charged_anew(m: &[u8], at: usize, w: &mut [usize; 96]) -> Charged
+fn charged_anew(m: &[u8], at: usize, w: &mut [usize; 101]) -> Charged
     requires { ⌜ (at ≤ length (now m)) × Kept (now m) (now w) ⌝ }
     ensures { λ r. ⌜ (r .at ≤ length (now (m .entry))) × (r .charge ≤ length (now (m .entry))) × (r .collected ≤ length (now (m .entry))) × Found (Gone (now (m .entry)) at (chargedLegs (r .charge) (r .collected))) (r .at) × Kept (now (m .entry)) (now (w .exit)) ⌝ }
 {
@@ -681,7 +731,7 @@ fn charged_anew(m: &[u8], at: usize, w: &mut [usize; 96]) -> Charged
 }
 
 // ChrgBr and ReqdColltnDt of an item are kept.
-fn keep_charged(m: &[u8], at: usize, r: Charged, w: &mut [usize; 96])
+fn keep_charged(m: &[u8], at: usize, r: Charged, w: &mut [usize; 101])
     requires { ⌜ Kept (now m) (now w) × Gone (now m) at (chargedLegs (r .charge) (r .collected)) (r .at) ⌝ }
     ensures { λ _. ⌜ Kept (now (m .entry)) (now (w .exit)) ⌝ }
 {
@@ -692,7 +742,7 @@ fn keep_charged(m: &[u8], at: usize, r: Charged, w: &mut [usize; 96])
 }
 
 // ChrgBr and ReqdColltnDt: as an item before had them, or anew, and then they are kept.
-fn read_charged(m: &[u8], at: usize, w: &mut [usize; 96]) -> Charged
+fn read_charged(m: &[u8], at: usize, w: &mut [usize; 101]) -> Charged
     requires { ⌜ (at ≤ length (now m)) × Kept (now m) (now w) ⌝ }
     ensures { λ r. ⌜ (r .at ≤ length (now (m .entry))) × (r .charge ≤ length (now (m .entry))) × (r .collected ≤ length (now (m .entry))) × Found (Gone (now (m .entry)) at (chargedLegs (r .charge) (r .collected))) (r .at) × Kept (now (m .entry)) (now (w .exit)) ⌝ }
 {
@@ -716,7 +766,7 @@ struct Terms {
 }
 
 // From the amount to the value of MndtId.
-fn read_terms(m: &[u8], at: usize, w: &mut [usize; 96]) -> Terms
+fn read_terms(m: &[u8], at: usize, w: &mut [usize; 101]) -> Terms
     requires { ⌜ (at ≤ length (now m)) × Kept (now m) (now w) ⌝ }
     ensures { λ r. ⌜ (r .at ≤ length (now (m .entry))) × (r .charge ≤ length (now (m .entry))) × (r .collected ≤ length (now (m .entry))) × (r .cents ≤ most Range.Item) × Found (Gone (now (m .entry)) at (termsLegs at (r .cents) (r .charge) (r .collected))) (r .at) × Kept (now (m .entry)) (now (w .exit)) ⌝ }
 {
@@ -737,18 +787,18 @@ struct Two {
 }
 
 // The mandate, up to behind DtOfSgntr.
-fn mandate(m: &[u8], at: usize, w: &mut [usize; 96]) -> Two
+fn mandate(m: &[u8], at: usize, w: &mut [usize; 101]) -> Two
     requires { ⌜ (at ≤ length (now m)) × Kept (now m) (now w) ⌝ }
     ensures { λ r. ⌜ (r .at ≤ length (now (m .entry))) × (r .noted ≤ length (now (m .entry))) × Found (Gone (now (m .entry)) at (mandateLegs at (r .noted))) (r .at) × Kept (now (m .entry)) (now (w .exit)) ⌝ }
 {
-    let a = swift_values::reference(m, at);
+    let a = reference(m, at, w, 99);
     let b = run(m, a, b"</MndtId><DtOfSgntr>", w, 12);
     let z = swift_values::date(m, b);
     Two { at: z, noted: b }
 }
 
 // The creditor's identifier and its scheme, up to the creditor's name.
-fn scheme(m: &[u8], at: usize, w: &mut [usize; 96]) -> Two
+fn scheme(m: &[u8], at: usize, w: &mut [usize; 101]) -> Two
     requires { ⌜ (at ≤ length (now m)) × Kept (now m) (now w) ⌝ }
     ensures { λ r. ⌜ (r .at ≤ length (now (m .entry))) × (r .noted ≤ length (now (m .entry))) × Found (Gone (now (m .entry)) at (schemeLegs at (r .noted))) (r .at) × Kept (now (m .entry)) (now (w .exit)) ⌝ }
 {
@@ -772,7 +822,7 @@ pub enum Side {
 }
 
 // From a party's name to its account's number.
-fn to_iban(m: &[u8], at: usize, s: Side, w: &mut [usize; 96]) -> usize
+fn to_iban(m: &[u8], at: usize, s: Side, w: &mut [usize; 101]) -> usize
     requires { ⌜ (at ≤ length (now m)) × Kept (now m) (now w) ⌝ }
     ensures { λ r. ⌜ (r ≤ length (now (m .entry))) × Found (Spelled (now (m .entry)) at (textAt (toIban s))) r × Kept (now (m .entry)) (now (w .exit)) ⌝ }
 {
@@ -783,7 +833,7 @@ fn to_iban(m: &[u8], at: usize, s: Side, w: &mut [usize; 96]) -> usize
 }
 
 // From the creditor's account's number to its agent's BIC.
-fn to_agent(m: &[u8], at: usize, v: Version, w: &mut [usize; 96]) -> usize
+fn to_agent(m: &[u8], at: usize, v: Version, w: &mut [usize; 101]) -> usize
     requires { ⌜ (at ≤ length (now m)) × Kept (now m) (now w) ⌝ }
     ensures { λ r. ⌜ (r ≤ length (now (m .entry))) × Found (Spelled (now (m .entry)) at (textAt (toBic Side.Creditor v))) r × Kept (now (m .entry)) (now (w .exit)) ⌝ }
 {
@@ -806,7 +856,7 @@ fn to_agent(m: &[u8], at: usize, v: Version, w: &mut [usize; 96]) -> usize
 }
 
 // From the debtor's account's number to its agent's BIC.
-fn to_bank(m: &[u8], at: usize, v: Version, w: &mut [usize; 96]) -> usize
+fn to_bank(m: &[u8], at: usize, v: Version, w: &mut [usize; 101]) -> usize
     requires { ⌜ (at ≤ length (now m)) × Kept (now m) (now w) ⌝ }
     ensures { λ r. ⌜ (r ≤ length (now (m .entry))) × Found (Spelled (now (m .entry)) at (textAt (toBic Side.Debtor v))) r × Kept (now (m .entry)) (now (w .exit)) ⌝ }
 {
@@ -829,7 +879,7 @@ fn to_bank(m: &[u8], at: usize, v: Version, w: &mut [usize; 96]) -> usize
 }
 
 // From a party's account's number to its agent's BIC.
-fn to_bic(m: &[u8], at: usize, s: Side, v: Version, w: &mut [usize; 96]) -> usize
+fn to_bic(m: &[u8], at: usize, s: Side, v: Version, w: &mut [usize; 101]) -> usize
     requires { ⌜ (at ≤ length (now m)) × Kept (now m) (now w) ⌝ }
     ensures { λ r. ⌜ (r ≤ length (now (m .entry))) × Found (Spelled (now (m .entry)) at (textAt (toBic s v))) r × Kept (now (m .entry)) (now (w .exit)) ⌝ }
 {
@@ -840,7 +890,7 @@ fn to_bic(m: &[u8], at: usize, s: Side, v: Version, w: &mut [usize; 96]) -> usiz
 }
 
 // A party's name and account, up to the value of its agent's BIC.
-fn party(m: &[u8], at: usize, s: Side, v: Version, w: &mut [usize; 96]) -> Two
+fn party(m: &[u8], at: usize, s: Side, v: Version, w: &mut [usize; 101]) -> Two
     requires { ⌜ (at ≤ length (now m)) × Kept (now m) (now w) ⌝ }
     ensures { λ r. ⌜ (r .at ≤ length (now (m .entry))) × (r .noted ≤ length (now (m .entry))) × Found (Gone (now (m .entry)) at (partyLegs s v at (r .noted))) (r .at) × Kept (now (m .entry)) (now (w .exit)) ⌝ }
 {
@@ -862,7 +912,7 @@ fn bic(m: &[u8], at: usize, v: Version) -> usize
 }
 
 // From the creditor's BIC to the debtor's name.
-fn to_debtor(m: &[u8], at: usize, v: Version, w: &mut [usize; 96]) -> usize
+fn to_debtor(m: &[u8], at: usize, v: Version, w: &mut [usize; 101]) -> usize
     requires { ⌜ (at ≤ length (now m)) × Kept (now m) (now w) ⌝ }
     ensures { λ r. ⌜ (r ≤ length (now (m .entry))) × Found (Spelled (now (m .entry)) at (textAt (toDebtor v))) r × Kept (now (m .entry)) (now (w .exit)) ⌝ }
 {
@@ -873,7 +923,7 @@ fn to_debtor(m: &[u8], at: usize, v: Version, w: &mut [usize; 96]) -> usize
 }
 
 // The creditor's BIC, up to the debtor's name.
-fn agent(m: &[u8], at: usize, v: Version, w: &mut [usize; 96]) -> usize
+fn agent(m: &[u8], at: usize, v: Version, w: &mut [usize; 101]) -> usize
     requires { ⌜ (at ≤ length (now m)) × Kept (now m) (now w) ⌝ }
     ensures { λ r. ⌜ (r ≤ length (now (m .entry))) × Found (Gone (now (m .entry)) at (agentLegs v at)) r × Kept (now (m .entry)) (now (w .exit)) ⌝ }
 {
@@ -902,7 +952,7 @@ fn side_of(v: Version) -> usize
 }
 
 // The creditor's side as an item before had it, from behind DtOfSgntr.
-fn creditor_again(m: &[u8], at: usize, v: Version, w: &mut [usize; 96]) -> CreditorSide
+fn creditor_again(m: &[u8], at: usize, v: Version, w: &mut [usize; 101]) -> CreditorSide
     requires { ⌜ (at ≤ length (now m)) × Kept (now m) (now w) ⌝ }
     ensures { λ r. ⌜ SideWithin (length (now (m .entry))) r × Found (Gone (now (m .entry)) at (creditorLegs v (r .identifier) (r .scheme) (r .name) (r .account) (r .agent))) (r .at) × Kept (now (m .entry)) (now (w .exit)) ⌝ }
 {
@@ -930,7 +980,7 @@ fn creditor_again(m: &[u8], at: usize, v: Version, w: &mut [usize; 96]) -> Credi
 }
 
 // The creditor's side from behind DtOfSgntr, up to the debtor's name.
-fn creditor_anew(m: &[u8], at: usize, v: Version, w: &mut [usize; 96]) -> CreditorSide
+fn creditor_anew(m: &[u8], at: usize, v: Version, w: &mut [usize; 101]) -> CreditorSide
     requires { ⌜ (at ≤ length (now m)) × Kept (now m) (now w) ⌝ }
     ensures { λ r. ⌜ SideWithin (length (now (m .entry))) r × Found (Gone (now (m .entry)) at (creditorLegs v (r .identifier) (r .scheme) (r .name) (r .account) (r .agent))) (r .at) × Kept (now (m .entry)) (now (w .exit)) ⌝ }
 {
@@ -956,7 +1006,7 @@ fn creditor_anew(m: &[u8], at: usize, v: Version, w: &mut [usize; 96]) -> Credit
 }
 
 // The creditor's side of an item is kept.
-fn keep_creditor(m: &[u8], at: usize, v: Version, r: CreditorSide, w: &mut [usize; 96])
+fn keep_creditor(m: &[u8], at: usize, v: Version, r: CreditorSide, w: &mut [usize; 101])
     requires { ⌜ Kept (now m) (now w) × Gone (now m) at (creditorLegs v (r .identifier) (r .scheme) (r .name) (r .account) (r .agent)) (r .at) ⌝ }
     ensures { λ _. ⌜ Kept (now (m .entry)) (now (w .exit)) ⌝ }
 {
@@ -971,7 +1021,7 @@ fn keep_creditor(m: &[u8], at: usize, v: Version, r: CreditorSide, w: &mut [usiz
 }
 
 // The creditor's side: as an item before had it, or anew, and then it is kept.
-fn read_creditor(m: &[u8], at: usize, v: Version, w: &mut [usize; 96]) -> CreditorSide
+fn read_creditor(m: &[u8], at: usize, v: Version, w: &mut [usize; 101]) -> CreditorSide
     requires { ⌜ (at ≤ length (now m)) × Kept (now m) (now w) ⌝ }
     ensures { λ r. ⌜ SideWithin (length (now (m .entry))) r × Found (Gone (now (m .entry)) at (creditorLegs v (r .identifier) (r .scheme) (r .name) (r .account) (r .agent))) (r .at) × Kept (now (m .entry)) (now (w .exit)) ⌝ }
 {
@@ -987,7 +1037,7 @@ fn read_creditor(m: &[u8], at: usize, v: Version, w: &mut [usize; 96]) -> Credit
 }
 
 // From the debtor's BIC to the remittance text.
-fn to_text(m: &[u8], at: usize, v: Version, w: &mut [usize; 96]) -> usize
+fn to_text(m: &[u8], at: usize, v: Version, w: &mut [usize; 101]) -> usize
     requires { ⌜ (at ≤ length (now m)) × Kept (now m) (now w) ⌝ }
     ensures { λ r. ⌜ (r ≤ length (now (m .entry))) × Found (Spelled (now (m .entry)) at (textAt (toText v))) r × Kept (now (m .entry)) (now (w .exit)) ⌝ }
 {
@@ -1010,7 +1060,7 @@ fn to_text(m: &[u8], at: usize, v: Version, w: &mut [usize; 96]) -> usize
 }
 
 // From the debtor's BIC to behind the item, where there is no remittance text.
-fn to_end(m: &[u8], at: usize, v: Version, w: &mut [usize; 96]) -> usize
+fn to_end(m: &[u8], at: usize, v: Version, w: &mut [usize; 101]) -> usize
     requires { ⌜ (at ≤ length (now m)) × Kept (now m) (now w) ⌝ }
     ensures { λ r. ⌜ (r ≤ length (now (m .entry))) × Found (Spelled (now (m .entry)) at (textAt (toEnd v))) r × Kept (now (m .entry)) (now (w .exit)) ⌝ }
 {
@@ -1033,7 +1083,7 @@ fn to_end(m: &[u8], at: usize, v: Version, w: &mut [usize; 96]) -> usize
 }
 
 // The debtor's BIC and the remittance text, where there is one, up to behind the item.
-fn last(m: &[u8], at: usize, v: Version, w: &mut [usize; 96]) -> Two
+fn last(m: &[u8], at: usize, v: Version, w: &mut [usize; 101]) -> Two
     requires { ⌜ (at ≤ length (now m)) × Kept (now m) (now w) ⌝ }
     ensures { λ r. ⌜ (r .at ≤ length (now (m .entry))) × (r .noted ≤ length (now (m .entry))) × Found (Gone (now (m .entry)) at (lastLegs v at (r .noted))) (r .at) × Kept (now (m .entry)) (now (w .exit)) ⌝ }
 {
@@ -1043,7 +1093,7 @@ fn last(m: &[u8], at: usize, v: Version, w: &mut [usize; 96]) -> Two
         let e = to_end(m, a, v, w);
         return Two { at: e, noted: 0 };
     }
-    let c = swift_values::remittance(m, b);
+    let c = remittance(m, b, w, 100);
     let z = run(m, c, b"</Ustrd></RmtInf></DrctDbtTxInf>", w, 28);
     Two { at: z, noted: b }
 }
@@ -1067,7 +1117,7 @@ pub struct Front {
 }
 
 // From behind an item's start tag to the value of MndtId.
-fn read_front(m: &[u8], at: usize, said: u8, first: u64, w: &mut [usize; 96]) -> Front
+fn read_front(m: &[u8], at: usize, said: u8, first: u64, w: &mut [usize; 101]) -> Front
     requires { ⌜ (at ≤ length (now m)) × Kept (now m) (now w) ⌝ }
     ensures { λ r. ⌜ FrontWithin (length (now (m .entry))) r × Found (Gone (now (m .entry)) at (frontLegs r)) (r .at) × ((0 < r .at) → Followed said first r) × Kept (now (m .entry)) (now (w .exit)) ⌝ }
 {
@@ -1106,7 +1156,7 @@ pub struct Back {
 }
 
 // From the value of MndtId to behind the item.
-fn read_back(m: &[u8], at: usize, v: Version, w: &mut [usize; 96]) -> Back
+fn read_back(m: &[u8], at: usize, v: Version, w: &mut [usize; 101]) -> Back
     requires { ⌜ (at ≤ length (now m)) × Kept (now m) (now w) ⌝ }
     ensures { λ r. ⌜ BackWithin (length (now (m .entry))) r × Found (Gone (now (m .entry)) at (backLegs v at r)) (r .at) × Kept (now (m .entry)) (now (w .exit)) ⌝ }
 {
@@ -1136,7 +1186,14 @@ pub struct Item {
 }
 
 // What an item holds, from behind its start tag to behind its end tag; said is what was said of the payment type before it, first the service of the items before.
-pub fn read_item(m: &[u8], at: usize, v: Version, said: u8, first: u64, w: &mut [usize; 96]) -> Item
+pub fn read_item(
+    m: &[u8],
+    at: usize,
+    v: Version,
+    said: u8,
+    first: u64,
+    w: &mut [usize; 101],
+) -> Item
     requires { ⌜ (at ≤ length (now m)) × Kept (now m) (now w) ⌝ }
     ensures { λ r. ⌜ FrontWithin (length (now (m .entry))) (r .front) × BackWithin (length (now (m .entry))) (r .back) × Found (Gone (now (m .entry)) at (itemLegs v r)) (r .back .at) × ((0 < r .back .at) → Followed said first (r .front)) × Kept (now (m .entry)) (now (w .exit)) ⌝ }
 {

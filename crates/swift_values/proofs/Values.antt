@@ -178,6 +178,10 @@ pub found-at : (P : ℕ → Type 0) (r : ℕ) → 0 < r → Found P r → P r
 found-at P zero h f = absurd (let z : ⊥ = omega arith in z)
 found-at P (suc r) h f = f
 
+-- fewer bytes of a run
+pub run-less : (f : ℕ → ℕ → Bool) (s : List ℕ) (p n k : ℕ) → Run f s p n → k ≤ n → Run f s p k
+run-less f s p n k a h = record { each = λ j l. a .each j (omega arith) }
+
 -- one run behind another
 pub run-join : (f : ℕ → ℕ → Bool) (s : List ℕ) (p n k : ℕ) → Run f s p n → Run f s (p + n) k → Run f s p (n + k)
 run-join f s p n k a b = record { each = each }

@@ -216,8 +216,22 @@ fn usual_lanes(m: &[u8], at: usize) -> usize
     r as usize
 }
 
-// A reference of up to 32 such bytes stands at a place, and `<` behind it: where it ends, or 0 where this does not tell.
-fn usual_reference(m: &[u8], at: usize) -> usize
+// Of n bytes that a value may have, like are all: `<` is behind them. A length that is guessed right lets the reader go on before n is known.
+fn ends_like(m: &[u8], at: usize, n: usize, like: usize) -> bool
+    requires { ⌜ at + n < length (now m) ⌝ }
+    ensures { λ r. ⌜ (r ≡ true → (0 < like) × (like ≤ n) × (getD (now (m .entry)) (at + like) 0 ≡ 60)) ⌝ }
+{
+    if like == 0 {
+        return false;
+    }
+    if n < like {
+        return false;
+    }
+    m[at + like] == b'<'
+}
+
+// A reference of up to 32 such bytes stands at a place, and `<` behind it: where it ends, or 0 where this does not tell. It may be as long as like.
+fn usual_reference(m: &[u8], at: usize, like: usize) -> usize
     ensures { λ r. ⌜ (r ≤ length (now (m .entry))) × Found (Stands Simple.Reference (now (m .entry)) at) r ⌝ }
 {
     if !room(m, at, 33) {
@@ -226,6 +240,9 @@ fn usual_reference(m: &[u8], at: usize) -> usize
     let n = usual_lanes(m, at);
     if n == 0 {
         return 0;
+    }
+    if ends_like(m, at, n, like) {
+        return at + like;
     }
     let e = at + n;
     if m[e] != b'<' {
@@ -245,11 +262,11 @@ fn rare_reference(m: &[u8], at: usize) -> usize
     r
 }
 
-// A reference stands at a place, and `<` behind it: where it ends, or 0.
-pub fn reference(m: &[u8], at: usize) -> usize
+// A reference stands at a place, and `<` behind it: where it ends, or 0. It may be as long as like, such as the one before.
+pub fn reference(m: &[u8], at: usize, like: usize) -> usize
     ensures { λ r. ⌜ (r ≤ length (now (m .entry))) × Found (Stands Simple.Reference (now (m .entry)) at) r ⌝ }
 {
-    let r = usual_reference(m, at);
+    let r = usual_reference(m, at, like);
     if r == 0 {
         return rare_reference(m, at);
     }
@@ -267,11 +284,11 @@ fn rare_end_to_end(m: &[u8], at: usize) -> usize
     r
 }
 
-// An EndToEndId stands at a place, and `<` behind it: where it ends, or 0.
-pub fn end_to_end(m: &[u8], at: usize) -> usize
+// An EndToEndId stands at a place, and `<` behind it: where it ends, or 0. It may be as long as like.
+pub fn end_to_end(m: &[u8], at: usize, like: usize) -> usize
     ensures { λ r. ⌜ (r ≤ length (now (m .entry))) × Found (Stands Simple.EndToEnd (now (m .entry)) at) r ⌝ }
 {
-    let r = usual_reference(m, at);
+    let r = usual_reference(m, at, like);
     if r == 0 {
         return rare_end_to_end(m, at);
     }
@@ -1037,8 +1054,8 @@ fn usual_run(m: &[u8], at: usize) -> usize
     96 + text_run(m, at + 96)
 }
 
-// A remittance text that begins so stands at a place, and `<` behind it: where it ends, or 0 where this does not tell.
-fn usual_remittance(m: &[u8], at: usize) -> usize
+// A remittance text that begins so stands at a place, and `<` behind it: where it ends, or 0 where this does not tell. It may be as long as like.
+fn usual_remittance(m: &[u8], at: usize, like: usize) -> usize
     ensures { λ r. ⌜ (r ≤ length (now (m .entry))) × Found (Stands Simple.Text140 (now (m .entry)) at) r ⌝ }
 {
     if !room(m, at, 161) {
@@ -1051,11 +1068,14 @@ fn usual_remittance(m: &[u8], at: usize) -> usize
     if 140 < n {
         return 0;
     }
-    let e = at + n;
-    if m[e] != 60 {
+    if m[at] == 32 {
         return 0;
     }
-    if m[at] == 32 {
+    if ends_like(m, at, n, like) {
+        return at + like;
+    }
+    let e = at + n;
+    if m[e] != 60 {
         return 0;
     }
     e
@@ -1072,11 +1092,11 @@ fn rare_remittance(m: &[u8], at: usize) -> usize
     r
 }
 
-// A remittance text stands at a place, and `<` behind it: where it ends, or 0.
-pub fn remittance(m: &[u8], at: usize) -> usize
+// A remittance text stands at a place, and `<` behind it: where it ends, or 0. It may be as long as like.
+pub fn remittance(m: &[u8], at: usize, like: usize) -> usize
     ensures { λ r. ⌜ (r ≤ length (now (m .entry))) × Found (Stands Simple.Text140 (now (m .entry)) at) r ⌝ }
 {
-    let r = usual_remittance(m, at);
+    let r = usual_remittance(m, at, like);
     if r == 0 {
         return rare_remittance(m, at);
     }

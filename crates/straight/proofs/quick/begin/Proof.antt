@@ -47,9 +47,9 @@ run-requires-3 c κs = search needs
 returns-2 : tie.Need-returns-2
 unfolding textAt
 returns-2 c =
-    let a = c .before .before .before .before .before .before .before .before .before .args in
+    let a = c .before .before .before .before .before .before .before .before .before .before .args in
     let m = a .m .now in
-    let r = c .before .before .before .before .before .run in
+    let r = c .before .before .before .before .before .before .run in
     let v = c .before .before .before .reference in
     let z = c .run3 in (
       z .ensures .0,

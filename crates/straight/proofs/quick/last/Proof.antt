@@ -50,10 +50,10 @@ run-requires c κs = search needs
 returns-2 : tie.Need-returns-2
 unfolding textAt
 returns-2 c =
-    let a = c .before .before .before .before .before .before .before .before .before .args in
+    let a = c .before .before .before .before .before .before .before .before .before .before .args in
     let m = a .m .now in
-    let v1 = c .before .before .before .before .before .before .before .bic in
-    let r1 = c .before .before .before .before .before .to-text in
+    let v1 = c .before .before .before .before .before .before .before .before .bic in
+    let r1 = c .before .before .before .before .before .before .to-text in
     let v2 = c .before .before .before .remittance in
     let z = c .run in (
       z .ensures .0,

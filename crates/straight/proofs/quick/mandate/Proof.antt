@@ -26,7 +26,7 @@ date-requires c κs = search needs
 returns : tie.Need-returns
 unfolding textAt
 returns c =
-    let a = c .before .before .before .before .before .before .args in
+    let a = c .before .before .before .before .before .before .before .args in
     let m = a .m .now in
     let v1 = c .before .before .before .before .reference in
     let r1 = c .before .run in

@@ -27,9 +27,9 @@ run-requires c κs = search needs
 returns : tie.Need-returns
 unfolding textAt
 returns c =
-    let a = c .before .before .before .before .before .before .before .args in
+    let a = c .before .before .before .before .before .before .before .before .args in
     let m = a .m .now in
-    let e = c .before .before .before .before .begin in
+    let e = c .before .before .before .before .before .begin in
     let v = c .before .before .before .end-to-end in
     let z = c .run in (
       z .ensures .0,

@@ -1,5 +1,5 @@
 -- `straight::quick::run` meets its contract.
-use Rattle.straight.proofs.Runs.{run-whole, run-again}
+use Rattle.straight.proofs.Runs.{run-again}
 use Rattle.straight.proofs.Kept.{kept-more}
 use Rattle.straight.specs.Runs.{textAt}
 use Rattle.straight.specs.Spelled.{Spelled}
@@ -9,15 +9,6 @@ use native.Mathlib.Omega.{arith}
 use borrow.Author.Needs.{needs}
 use Rattle.straight.proofs.quick.run.Statement.{statement}
 use Rattle.straight.proofs.quick.run.Tie as tie
-
-here-requires : tie.Need-here-requires
-here-requires c κs = search needs
-
-returns : tie.Need-returns
-returns c =
-    let a = c .before .before .before .before .args in
-    let h = c .before .before .before .before .pre in
-    (c .before .here .ensures .0, run-whole (a .m .now) (a .at) (a .text .now) (a .j) (c .before .here .result) (h .1) (h .2) (c .before .here .ensures .1), h .4)
 
 mul-again : tie.Need-mul-again
 mul-again c = search needs
@@ -37,14 +28,15 @@ element-copy-out-again-2 c = search needs
 again-requires : tie.Need-again-requires
 again-requires c κs = search needs
 
-returns-2 : tie.Need-returns-2
-returns-2 c =
-    let a = c .before .before .before .before .before .before .before .before .args in
-    let h = c .before .before .before .before .before .before .before .before .pre in
-    (c .before .again .ensures .0, run-again (a .m .now) (a .w .now) (a .at) (a .j) (c .before .again .result) (h .4) (h .3) (c .before .again .ensures .1) (c .before .again .ensures .2), h .4)
+returns : tie.Need-returns
+returns c =
+    let a = c .before .before .before .before .before .before .args in
+    let h = c .before .before .before .before .before .before .pre in
+    let z = c .before .again in
+    (z .ensures .0, run-again (a .m .now) (a .w .now) (a .at) (a .j) (z .result) (h .4) (h .3) (z .ensures .1) (z .ensures .2), h .4)
 
-spell-requires : tie.Need-spell-requires
-spell-requires c κs = search needs
+anew-requires : tie.Need-anew-requires
+anew-requires c κs = search needs
 
 mul-w : tie.Need-mul-w
 mul-w c = search needs
@@ -54,9 +46,9 @@ element-write-w c = search needs
 
 sub-w : tie.Need-sub-w
 sub-w c =
-    let a = c .before .before .before .before .before .before .before .before .before .before .args in
-    let s = found-at (Spelled (a .m .now) (a .at) (a .text .now)) (c .before .spell .result) (omega arith) (c .before .spell .ensures .1) in
-    omega (arith, s .from)
+    let a = c .before .before .before .before .before .before .before .before .args in
+    let z = c .before .anew in
+    omega (arith, found-at (Spelled (a .m .now) (a .at) (a .text .now)) (z .result) (omega arith) (z .ensures .1) .from)
 
 add-w : tie.Need-add-w
 add-w c = search needs
@@ -67,38 +59,37 @@ mul-w-2 c = search needs
 element-write-w-2 : tie.Need-element-write-w-2
 element-write-w-2 c = search needs
 
+returns-2 : tie.Need-returns-2
+returns-2 c =
+    let a = c .before .before .before .before .before .before .before .before .args in
+    let h = c .before .before .before .before .before .before .before .before .pre in
+    let z = c .before .anew in
+    let f : Found (Spelled (a .m .now) (a .at) (textAt (a .j))) (z .result) = rw (← h .1) (z .ensures .1) in
+    (z .ensures .0, f, kept-more (a .m .now) (a .w .now) (a .at) (a .j) (z .result) (h .4) (h .3) (omega arith) f)
+
 returns-3 : tie.Need-returns-3
 returns-3 c =
-    let a = c .before .before .before .before .before .before .before .before .before .before .args in
-    let h = c .before .before .before .before .before .before .before .before .before .before .pre in
-    let f : Found (Spelled (a .m .now) (a .at) (textAt (a .j))) (c .before .spell .result) = rw (← h .1) (c .before .spell .ensures .1) in
-    (c .before .spell .ensures .0, f, kept-more (a .m .now) (a .w .now) (a .at) (a .j) (c .before .spell .result) (h .4) (h .3) (omega arith) f)
-
-returns-4 : tie.Need-returns-4
-returns-4 c =
-    let a = c .before .before .before .before .before .before .before .before .before .before .args in
-    let h = c .before .before .before .before .before .before .before .before .before .before .pre in
-    (c .before .spell .ensures .0, rw (← h .1) (c .before .spell .ensures .1), h .4)
+    let h = c .before .before .before .before .before .before .before .before .pre in
+    let z = c .before .anew in
+    (z .ensures .0, rw (← h .1) (z .ensures .1), h .4)
 
 pub run-spec : {M : Type 1} → statement M
 run-spec =
     tie.close
     (tie.spec
-    here-requires
-    returns
     mul-again
     element-copy-out-again
     add-again
     mul-again-2
     element-copy-out-again-2
     again-requires
-    returns-2
-    spell-requires
+    returns
+    anew-requires
     mul-w
     element-write-w
     sub-w
     add-w
     mul-w-2
     element-write-w-2
-    returns-3
-    returns-4)
+    returns-2
+    returns-3)
