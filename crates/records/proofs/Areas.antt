@@ -102,15 +102,15 @@ records-append h (x ∷ a) b = rw (records-append h a b, append-assoc)
 -- so many of those that are left are read in one call
 pub record Called (left n : ℕ) : Type 0 where
   pub within : n ≤ left
-  pub few : n ≤ 32
+  pub few : n ≤ 128
   pub some : 0 < n
 
 pub one-call : (left n : ℕ) → n ≡ inOneCall left → 0 < left → Called left n
-one-call left n e h = rw e (go (ltb left 32) refl)
+one-call left n e h = rw e (go (ltb left 128) refl)
   where
-    go : (b : Bool) → b ≡ ltb left 32 → Called left (pick b left 32)
-    go true f = record { within = omega arith; few = omega (arith, ltb-true left 32 (sym f)); some = h }
-    go false f = record { within = ltb-false left 32 (sym f); few = omega arith; some = omega arith }
+    go : (b : Bool) → b ≡ ltb left 128 → Called left (pick b left 128)
+    go true f = record { within = omega arith; few = omega (arith, ltb-true left 128 (sym f)); some = h }
+    go false f = record { within = ltb-false left 128 (sym f); few = omega arith; some = omega arith }
 
 pub record Filling (m : List ℕ) (count : ℕ) (area₀ : List ℕ) (i at : ℕ) (area : List ℕ) : Type 0 where
   pub going : Going m count i at

@@ -10,13 +10,19 @@ use borrow.Author.Tests.{eq-eqb, ne-eqb, ltb-true, ltb-false}
 use lib.Dec.{eqb, ltb}
 use lib.ListN.{length, take, drop, getD, set, replicate, length-append, length-take, length-replicate, take-append-drop, drop-of-length-le, replicate-append-replicate}
 use lib.Seq.{paste, paste-suc, take-all, take-length, take-nil, take-take, take-at, drop-at, set-at, drop-drop}
-use Rattle.text.specs.Truth.{either, pick, lead}
+use Rattle.text.specs.Truth.{either, pick, lead, part}
 use Rattle.text.proofs.Scan.{rest-of, lead-le}
 use Rattle.text.proofs.Truths.{never}
 use Rattle.tags.specs.Values.{inValue, valueAt}
 use Rattle.profile.specs.declared.Field.{Field}
 use Rattle.profile.specs.declared.Field.the-variants.{TxId, EndToEndId, MndtId, DbtrIban, CdtrIban, DbtrBic, ReqdColltnDt, SeqTp, CdtrId, CdtrBic, InstrId, LclInstrm, DtOfSgntr}
+use Rattle.answers.specs.Given.{yes}
+use Rattle.words.specs.Reference.{referenceGiven}
 use Rattle.words.specs.Collapsed.{collapsed}
+use Rattle.words.proofs.Legal.{end-to-end-long, reference-collapsed, reference-end-to-end}
+use Rattle.profile.specs.declared.Simple.the-variants.{Reference}
+use Rattle.kinds.specs.Given.{simpleGiven}
+use Rattle.swift_values.specs.Stands.{Stands}
 use Rattle.words.specs.Walk.{overwritten}
 use Rattle.postings.specs.Record.{recordLength, padded, digits}
 use Rattle.postings.proofs.Long.{length-padded, length-digits}
@@ -153,6 +159,47 @@ module _ (m : List ℕ) (start : ℕ) (b : Bool) (t : b ≡ either (eqb start 0)
       → (x : List ℕ) → x ≡ overwritten (collapsed (take n (take (length m - start) (drop start m)))) (replicate 35 32) → x ≡ padded 35 collapsedAt
   end-written h n e x g =
       g ∙ ap (λ (v : List ℕ). overwritten (collapsed v) (replicate 35 32)) (field-whole m start 35 b t h n e) ∙ field-written 35 collapsedAt
+
+-- ---- a reference laid over spaces is EndToEndId collapsed: it has no white space
+drop-spaces : (n w : ℕ) (t : List ℕ) → n ≤ w → drop n (replicate w 32 ++ t) ≡ replicate (w - n) 32 ++ t
+drop-spaces n w t h =
+    let z : n + (w - n) ≡ w = omega arith in
+    let e : replicate w 32 ++ t ≡ replicate n 32 ++ (replicate (w - n) 32 ++ t) =
+    ap (λ (k : ℕ). replicate k 32 ++ t) (sym z) ∙ ap (λ (l : List ℕ). l ++ t) (sym (replicate-append-replicate {A = ℕ} n (w - n) 32)) ∙ append-assoc (replicate n 32) (replicate (w - n) 32) t in
+    rw e (drop-at (replicate n 32) (replicate (w - n) 32 ++ t) n (length-replicate {A = ℕ} n 32))
+
+laid-over : (at w : ℕ) (v r : List ℕ) → length v ≤ w → at ≤ length r → laid at v (laid at (replicate w 32) r) ≡ laid at (padded w v) r
+unfolding laid
+laid-over at w v r h fits =
+    let d = take at r in
+    let s = replicate {A = ℕ} w 32 in
+    let t = drop (at + w) r in
+    let n = length v in
+    let l : length d ≡ at = simp length-take (omega arith) in
+    let p : padded w v ≡ v ++ replicate (w - n) 32 = padded-is w v ∙ rw (take-all w v h) in
+    let a : take at (d ++ (s ++ t)) ≡ d = take-at d (s ++ t) at l in
+    let b : drop (at + n) (d ++ (s ++ t)) ≡ replicate (w - n) 32 ++ t = sym (drop-drop n at (d ++ (s ++ t))) ∙ ap (drop n) (drop-at d (s ++ t) at l) ∙ drop-spaces n w t h in
+    rw (length-replicate {A = ℕ} w 32, a, b, length-padded w v, p, append-assoc)
+
+module _ (m : List ℕ) (start e : ℕ) (s : Stands Reference m start e) where
+  abbrev stood : List ℕ
+  stood = part start (e - start) m
+
+  legal : referenceGiven stood ≡ yes
+  unfolding simpleGiven
+  legal = s .given
+
+  stood-held : collapsed (heldAt m start) ≡ stood
+  stood-held = rw (ne-eqb start 0 (λ z. let y : ⊥ = omega (arith, s .some) in y), s .upto) (reference-collapsed stood legal)
+
+  stood-few : length stood ≤ 35
+  stood-few = rw (reference-collapsed stood legal) at (end-to-end-long stood (reference-end-to-end stood legal) .1)
+
+  pub reference-fits : 35 + length stood ≤ recordLength
+  reference-fits = omega (arith, stood-few)
+
+  pub reference-laid : (r r1 r2 : List ℕ) → length r ≡ recordLength → r1 ≡ laid 35 (replicate 35 32) r → r2 ≡ laid 35 stood r1 → r2 ≡ laid 35 (padded 35 (collapsed (heldAt m start))) r
+  reference-laid r r1 r2 n f g = rw (g, f, stood-held) (laid-over 35 35 stood r stood-few (omega arith))
 
 module _ {at : ℕ} {d r : List ℕ} (s : So at d r) where
   -- whatever is laid next

@@ -42,7 +42,7 @@ recordsOf m above (suc n) rows = recordOf m (take rowLength rows) above ++ recor
 
 -- so many of the items that are left are read in one call
 abbrev pub inOneCall : ℕ → ℕ
-inOneCall left = pick (ltb left 32) left 32
+inOneCall left = pick (ltb left 128) left 128
 
 -- "into which each field is written at its offset": bytes from `at` on replaced by v
 unfoldable pub laid : ℕ → List ℕ → List ℕ → List ℕ

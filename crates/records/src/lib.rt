@@ -23,7 +23,7 @@ ghost use Rattle.records.specs.Engine.{startOf, ownOr, centsOf, recordOf
 pub const LENGTH: usize = 320;
 
 // How many items are read in one call, at most.
-const MOST: usize = 32;
+const MOST: usize = 128;
 
 // A value's bytes, laid into the record from an offset on.
 fn lay(rec: &mut [u8; LENGTH], at: usize, v: &[u8])
@@ -107,7 +107,7 @@ fn put(rec: &mut [u8; LENGTH], at: usize, width: usize, m: &[u8], row: &[u64], f
 }
 
 // EndToEndId, from where its start was noted up to the next `<`, collapsed, laid at its offset.
-fn put_end_to_end(rec: &mut [u8; LENGTH], m: &[u8], start: usize)
+fn put_collapsed(rec: &mut [u8; LENGTH], m: &[u8], start: usize)
     requires { ⌜ length (now rec) ≡ recordLength ⌝ }
     ensures { λ _. ⌜ (now (rec .exit) ≡ laid 35 (padded 35 (collapsed (heldAt (now (m .entry)) start))) (now (rec .entry))) × (length (now (rec .exit)) ≡ recordLength) ⌝ }
 {
@@ -120,6 +120,21 @@ fn put_end_to_end(rec: &mut [u8; LENGTH], m: &[u8], start: usize)
     let n = tags::upto(s);
     words::collapse(&s[..n], &mut field);
     lay(rec, 35, &field)
+}
+
+// The same; a reference has no white space, and is laid as it stands.
+fn put_end_to_end(rec: &mut [u8; LENGTH], m: &[u8], start: usize)
+    requires { ⌜ length (now rec) ≡ recordLength ⌝ }
+    ensures { λ _. ⌜ (now (rec .exit) ≡ laid 35 (padded 35 (collapsed (heldAt (now (m .entry)) start))) (now (rec .entry))) × (length (now (rec .exit)) ≡ recordLength) ⌝ }
+{
+    let e = swift_values::reference(m, start, 0);
+    if e == 0 {
+        put_collapsed(rec, m, start);
+        return;
+    }
+    let field = [32; 35];
+    lay(rec, 35, &field);
+    lay(rec, 35, &m[start..e])
 }
 
 // The cents as 11 digits, laid at their offset.

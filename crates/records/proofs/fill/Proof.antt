@@ -11,7 +11,7 @@ use Rattle.records.proofs.fill.Statement.{statement}
 use Rattle.records.proofs.fill.Tie as tie
 
 abbrev Inv-loop : tie.InvT-loop
-Inv-loop e m count first above area₀ version rows₀ i₀ at₀ area rows i at = Filling m count area₀ i at area × (length rows ≡ rowLength * 32)
+Inv-loop e m count first above area₀ version rows₀ i₀ at₀ area rows i at = Filling m count area₀ i at area × (length rows ≡ rowLength * 128)
 
 abbrev μ-loop : tie.MeasureT-loop
 μ-loop e m count first above area₀ version rows₀ i₀ at₀ area rows i at = count - i
