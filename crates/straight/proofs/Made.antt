@@ -28,10 +28,7 @@ thenMade a f =
 made-then : (t : Trace) (f : ℕ → Trace) (x : Notes) (l : List ℕ) → made (andThen t f) x l ≡ thenMade (made t x l) f
 made-then t f x l = made-of (noted-then inNotes t f x) (then-placed t f x l)
 
--- the same made of the first part, or of what follows
-pub made-under : (t u : Trace) (f : ℕ → Trace) (x y : Notes) (l k : List ℕ) → made t x l ≡ made u y k → made (andThen t f) x l ≡ made (andThen u f) y k
-made-under t u f x y l k e = made-then t f x l ∙ (ap (λ (a : Made). thenMade a f) e ∙ sym (made-then u f y k))
-
+-- the same made of what follows
 abbrev pub Alike : (ℕ → Trace) → (ℕ → Trace) → Type 0
 Alike f g = (p : ℕ) (x : Notes) (l : List ℕ) → made (f p) x l ≡ made (g p) x l
 

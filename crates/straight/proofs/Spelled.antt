@@ -342,13 +342,6 @@ words-alike s p t k x y d r a b e f =
     ap (λ (z : ℕ). z + 256 ^ r * l .u) (word-worth s p ∙ sym (a .0)) ∙ l .same ∙ ap (λ (z : ℕ). z + 256 ^ r * l .v) (b .0 ∙ sym (word-worth t k)) in
     (h, record { each = low-bytes r 8 (λ i. getD s (p + i) 0) (λ i. getD t (k + i) 0) (l .u) (l .v) (each-eight s p (a .1)) (each-eight t k (b .1)) h g })
 
-pub match-one : (s : List ℕ) (p : ℕ) (t : List ℕ) (k : ℕ) → getD s p 0 ≡ getD t k 0 → Match s p t k 1
-match-one s p t k e = record { each = each }
-  where
-    each : (j : ℕ) → j < 1 → getD s (p + j) 0 ≡ getD t (k + j) 0
-    each zero h = rw (add-zero p, add-zero k) e
-    each (suc j) h = absurd (let z : ⊥ = omega arith in z)
-
 -- ---- white space: a few bytes, and then such as are alike
 module _ (m : List ℕ) where
   pub all-white : (n p : ℕ) → p + n ≤ length m → ((j : ℕ) → j < n → white (getD m (p + j) 0) ≡ true) → every white (part p n m) ≡ true
@@ -371,6 +364,11 @@ module _ (m : List ℕ) where
       each : (j : ℕ) → j < 1 → white (getD m (p + j) 0) ≡ true
       each zero l = ap (λ (x : ℕ). white (getD m x 0)) (add-zero p) ∙ a
       each (suc j) l = absurd (let z : ⊥ = omega arith in z)
+
+  pub white-few : (p w : ℕ) → p + 1 ≤ length m → w ≤ 1 → (0 < w → white (getD m p 0) ≡ true) → every white (part p w m) ≡ true
+  white-few p zero h l f = refl
+  white-few p (suc zero) h l f = white-one p h (f (omega arith))
+  white-few p (suc (suc w)) h l f = absurd (let z : ⊥ = omega arith in z)
 
   pub white-two : (p : ℕ) → p + 2 ≤ length m → white (getD m p 0) ≡ true → white (getD m (p + 1) 0) ≡ true → every white (part p 2 m) ≡ true
   white-two p h a b = all-white 2 p h each

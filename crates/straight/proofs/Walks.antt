@@ -278,9 +278,6 @@ module _ (m : List ℕ) (t s : List ℕ) (p : ℕ) (still : skipped m p ≡ p) (
 
 -- ---- white space is passed once
 module _ (m : List ℕ) where
-  pub still-at : (p : ℕ) → lead white (drop p m) ≡ 0 → skipped m p ≡ p
-  still-at p h = ap (λ (n : ℕ). p + n) h ∙ add-zero p
-
   turn-skips : (o : Occ) (n : String) (tag : List (ℕ → Bool)) (body next rest : ℕ → Trace) (p : ℕ)
       → turn o n tag m body next rest (skipped m p) ≡ turn o n tag m body next rest p
   turn-skips o n tag body next rest p =

@@ -202,63 +202,77 @@ fn alike_to(m: &[u8], p: usize, t: &[u8], i: usize, n: usize) -> usize
     z + alike(m, p + z, t, i + z)
 }
 
-// The same of one byte.
-fn alike_one(m: &[u8], p: usize, t: &[u8], i: usize) -> usize
-    requires { ⌜ (p < length (now m)) × (i < length (now t)) ⌝ }
-    ensures { λ r. ⌜ (r ≤ 1) × Match (now (m .entry)) p (now (t .entry)) i r ⌝ }
-{
-    if m[p] == t[i] {
-        return 1;
-    }
-    0
+// A mark in the highest bit of each byte of a word that is `<`, from the lowest up to the first: such a byte, with `<` taken from it, is one from which 1 cannot be taken.
+fn marks(x: u64) -> u64 {
+    let y = x ^ 4340410370284600380;
+    std::num::wrapping_sub_u64(y, 72340172838076673)
+        & (y ^ 18446744073709551615)
+        & 9259542123273814144
 }
 
-// Of n bytes, fewer than eight: all, or else the first alone.
-fn alike_few(m: &[u8], p: usize, t: &[u8], i: usize, n: usize) -> usize
-    requires { ⌜ (p + n ≤ length (now m)) × (i + n ≤ length (now t)) × (0 < n) × (n < 8) ⌝ }
-    ensures { λ r. ⌜ (r ≤ n) × Match (now (m .entry)) p (now (t .entry)) i r ⌝ }
+// Of eight bytes of a text, the number of the first `<`, or 8. (Where a text is parted elsewhere, it is read as well, only more slowly.)
+fn before_tag(t: &[u8], i: usize) -> usize
+    requires { ⌜ i + 8 ≤ length (now t) ⌝ }
+    ensures { λ r. ⌜ r ≤ 8 ⌝ }
+{
+    (u64::trailing_zeros(marks(word(t, i))) / 8) as usize
+}
+
+// How many bytes of a text from i on are a tag: up to the next `<`, or to the end.
+fn tag_length(t: &[u8], i: usize) -> usize
+    requires { ⌜ i < length (now t) ⌝ }
+    ensures { λ r. ⌜ i + r ≤ length (now (t .entry)) ⌝ }
+{
+    let left = t.len() - i;
+    if left < 9 {
+        return left;
+    }
+    let n = before_tag(t, i + 1);
+    if n < 8 {
+        return 1 + n;
+    }
+    longer(t, i, left)
+}
+
+// The same of a tag of nine bytes and more.
+fn longer(t: &[u8], i: usize, left: usize) -> usize
+    requires { ⌜ (i + left ≡ length (now t)) × (9 ≤ left) ⌝ }
+    ensures { λ r. ⌜ r ≤ left ⌝ }
+{
+    let mut k = 9;
+    while k + 8 <= left {
+        let n = before_tag(t, i + k);
+        if n < 8 {
+            return k + n;
+        }
+        k += 8;
+    }
+    left - 8 + before_tag(t, i + left - 8)
+}
+
+// A tag of n bytes of a text stands at a place.
+fn same_tag(m: &[u8], at: usize, t: &[u8], k: usize, n: usize) -> bool
+    requires { ⌜ (at + n ≤ length (now m)) × (k + n ≤ length (now t)) ⌝ }
+    ensures { λ r. ⌜ (r ≡ true → (4 ≤ n) × Match (now (m .entry)) at (now (t .entry)) k n) ⌝ }
 {
     if n < 4 {
-        return alike_one(m, p, t, i);
+        return false;
     }
-    if same_short(m, p, t, i, n) {
-        return n;
-    }
-    alike_one(m, p, t, i)
+    same(m, at, t, k, n)
 }
 
-// How many bytes of a text from i on stand at a place, as far as one look goes.
-fn alike_from(m: &[u8], p: usize, t: &[u8], i: usize) -> usize
-    requires { ⌜ (p + 16 ≤ length (now m)) × (i < length (now t)) ⌝ }
-    ensures { λ r. ⌜ (r ≤ 16) × (i + r ≤ length (now (t .entry))) × Match (now (m .entry)) p (now (t .entry)) i r ⌝ }
-{
-    let n = t.len() - i;
-    if n < 8 {
-        return alike_few(m, p, t, i, n);
-    }
-    if n < 16 {
-        return alike_to(m, p, t, i, n);
-    }
-    alike_to(m, p, t, i, 16)
-}
-
-// Whether c is white space.
+// Whether c is white space, without a branch.
 fn is_white(c: u8) -> bool
     ensures { λ r. ⌜ r ≡ white c ⌝ }
 {
-    if c == 32 {
-        return true;
-    }
-    if c == 9 {
-        return true;
-    }
-    if c == 13 {
-        return true;
-    }
-    if c == 10 {
-        return true;
-    }
-    false
+    (c == 32) | (c == 9) | (c == 13) | (c == 10)
+}
+
+// 1 for what is so, else 0.
+fn one(b: bool) -> usize
+    ensures { λ r. ⌜ (r ≤ 1) × (0 < r → b ≡ true) ⌝ }
+{
+    if b { 1 } else { 0 }
 }
 
 // How many bytes of white space stand at a place, as far as one look goes: two, and then such as are alike. A new line and what a line begins with are that.
@@ -278,7 +292,7 @@ fn blanks(m: &[u8], p: usize) -> usize
     3 + alike_to(m, p + 2, m, p + 3, 16)
 }
 
-// White space where the next byte of a text is `<`, else none.
+// White space where the next byte of a text is `<`, else none. One byte or none before a tag is seen at once.
 fn blanks_before(m: &[u8], p: usize, c: u8) -> usize
     requires { ⌜ p + 19 ≤ length (now m) ⌝ }
     ensures { λ r. ⌜ (r ≤ 19) × (0 < r → c ≡ 60) × (every white (part p r (now (m .entry))) ≡ true) ⌝ }
@@ -286,10 +300,28 @@ fn blanks_before(m: &[u8], p: usize, c: u8) -> usize
     if c != 60 {
         return 0;
     }
+    let w = one(is_white(m[p]));
+    if m[p + w] == 60 {
+        return w;
+    }
     blanks(m, p)
 }
 
-// A text as it is spelled at a place, by words, and near the end of the message byte by byte: the place behind it, or 0.
+// White space before a tag of n bytes, of which the first is c; 19 where there is more, or the message ends too soon to tell.
+fn white_before(m: &[u8], p: usize, c: u8, n: usize) -> usize
+    requires { ⌜ p ≤ length (now m) ⌝ }
+    ensures { λ r. ⌜ (r ≤ 19) × (r < 19 → (p + 19 + n ≤ length (now (m .entry))) × (0 < r → c ≡ 60) × (every white (part p r (now (m .entry))) ≡ true)) ⌝ }
+{
+    if m.len() - p < 19 {
+        return 19;
+    }
+    if m.len() - p - 19 < n {
+        return 19;
+    }
+    blanks_before(m, p, c)
+}
+
+// A text as it is spelled at a place, tag by tag; byte by byte from a tag on with much white space before it, and near the end of the message: the place behind it, or 0.
 fn spell(m: &[u8], at: usize, text: &[u8]) -> usize
     requires { ⌜ (at ≤ length (now m)) × (0 < length (now text)) ⌝ }
     ensures { λ r. ⌜ (r ≤ length (now (m .entry))) × Found (Spelled (now (m .entry)) at (now (text .entry))) r ⌝ }
@@ -300,16 +332,16 @@ fn spell(m: &[u8], at: usize, text: &[u8]) -> usize
     let mut p = at;
     let mut i = 0;
     while i < text.len() {
-        if m.len() - p < 35 {
+        let n = tag_length(text, i);
+        let w = white_before(m, p, text[i], n);
+        if 19 <= w {
             return by_bytes(m, p, &text[i..]);
         }
-        let w = blanks_before(m, p, text[i]);
-        let k = alike_from(m, p + w, text, i);
-        if w + k == 0 {
+        if !same_tag(m, p + w, text, i, n) {
             return 0;
         }
-        p += w + k;
-        i += k;
+        p += w + n;
+        i += n;
     }
     p
 }

@@ -5,6 +5,7 @@ use mathlib.Core.List.{List}
 use lib.ListN.{length, take, drop, length-drop}
 use Rattle.text.proofs.Scan.{rest-of}
 use native.Mathlib.Omega.{arith}
+use borrow.Author.Tests.{not-false}
 use borrow.Author.Needs.{needs}
 use Rattle.straight.specs.Spelled.{Spelled}
 use Rattle.swift_values.proofs.Values.{found}
@@ -29,8 +30,14 @@ returns c = search needs
 loop-holds : tie.Need-loop-holds Inv-loop μ-loop
 loop-holds c = (sofar-none _ _ _ (c .before .before .before .pre .0), omega arith, omega arith)
 
-sub-if2 : tie.Need-sub-if2 Inv-loop μ-loop
-sub-if2 c = c .before .loop .inv .0 .within
+tag-length-requires : tie.Need-tag-length-requires Inv-loop μ-loop
+tag-length-requires c κs = search needs
+
+shared-slice-read-white-before : tie.Need-shared-slice-read-white-before Inv-loop μ-loop
+shared-slice-read-white-before c = search needs
+
+white-before-requires : tie.Need-white-before-requires Inv-loop μ-loop
+white-before-requires c κs = c .before .before .before .loop .inv .0 .within
 
 sub-by-bytes : tie.Need-sub-by-bytes Inv-loop μ-loop
 sub-by-bytes c = search needs
@@ -42,57 +49,72 @@ part-by-bytes-end : tie.Need-part-by-bytes-end Inv-loop μ-loop
 part-by-bytes-end c = search needs
 
 by-bytes-requires : tie.Need-by-bytes-requires Inv-loop μ-loop
-by-bytes-requires c κs = (c .before .before .before .loop .inv .0 .within, rest-some (c .before .before .before .before .before .before .before .args .text .now) (c .before .before .before .loop .i) (omega arith))
+by-bytes-requires c κs =
+    let a = c .before .before .before .before .before .before .before .before .before .before .args in
+    let l = c .before .before .before .before .before .before .loop in
+    (l .inv .0 .within, rest-some (a .text .now) (l .i) (omega (arith, c .before .before .before .before .before)))
 
 returns-2 : tie.Need-returns-2 Inv-loop μ-loop
 returns-2 c =
-    let a = c .before .before .before .before .before .before .before .before .args in
-    let l = c .before .before .before .before .loop in
+    let a = c .before .before .before .before .before .before .before .before .before .before .before .args in
+    let l = c .before .before .before .before .before .before .before .loop in
     (c .by-bytes .ensures .0, sofar-then (a .m .now) (a .at) (a .text .now) (l .i) (l .p) (c .by-bytes .result) (l .inv .1) (l .inv .0) (c .by-bytes .ensures .1))
 
-shared-slice-read-blanks-before : tie.Need-shared-slice-read-blanks-before Inv-loop μ-loop
-shared-slice-read-blanks-before c = search needs
+add-same-tag : tie.Need-add-same-tag Inv-loop μ-loop
+add-same-tag c =
+    let w = c .before .white-before in
+    omega (arith, w .ensures .1 (omega (arith, c .if2 .left)) .0)
 
-blanks-before-requires : tie.Need-blanks-before-requires Inv-loop μ-loop
-blanks-before-requires c κs = omega (arith, c .before .before .before .loop .inv .0 .within)
-
-add-alike-from : tie.Need-add-alike-from Inv-loop μ-loop
-add-alike-from c = omega (arith, c .before .before, c .before .before .before .before .loop .inv .0 .within, c .blanks-before .ensures .0)
-
-alike-from-requires : tie.Need-alike-from-requires Inv-loop μ-loop
-alike-from-requires c κs = (omega (arith, c .before .before, c .before .before .before .before .loop .inv .0 .within, c .blanks-before .ensures .0), omega (arith, c .before .before .before))
-
-add-if3 : tie.Need-add-if3 Inv-loop μ-loop
-add-if3 c = omega (arith, c .before .blanks-before .ensures .0, c .alike-from .ensures .0)
+same-tag-requires : tie.Need-same-tag-requires Inv-loop μ-loop
+same-tag-requires c κs =
+    let w = c .before .white-before in
+    (omega (arith, w .ensures .0, w .ensures .1 (omega (arith, c .if2 .left)) .0), c .before .before .before .tag-length .ensures)
 
 returns-3 : tie.Need-returns-3 Inv-loop μ-loop
 returns-3 c = search needs
 
 add-p : tie.Need-add-p Inv-loop μ-loop
-add-p c = omega (arith, c .before .before .blanks-before .ensures .0, c .before .alike-from .ensures .0)
+add-p c =
+    let w = c .before .before .before .white-before in
+    omega (arith, w .ensures .1 (omega (arith, c .before .before .if2 .left)) .0)
 
 add-p-2 : tie.Need-add-p-2 Inv-loop μ-loop
-add-p-2 c = omega (arith, c .before .before .before .before, c .before .before .before .before .before .before .loop .inv .0 .within, c .before .before .blanks-before .ensures .0, c .before .alike-from .ensures .0)
+add-p-2 c =
+    let w = c .before .before .before .white-before in
+    omega (arith, w .ensures .0, w .ensures .1 (omega (arith, c .before .before .if2 .left)) .0)
 
 add-i : tie.Need-add-i Inv-loop μ-loop
-add-i c = omega (arith, c .before .alike-from .ensures .1)
+add-i c = omega (arith, c .before .before .before .before .before .tag-length .ensures)
 
 loop-less : tie.Need-loop-less Inv-loop μ-loop
-loop-less c = omega (arith, c .before .before .before .before, c .before .before .before .before .before .before .loop .inv .0 .within, c .before .before .blanks-before .ensures .0, c .before .alike-from .ensures .0)
+loop-less c =
+    let w = c .before .before .before .white-before in
+    let same = c .before .same-tag in
+    omega (arith, w .ensures .0, w .ensures .1 (omega (arith, c .before .before .if2 .left)) .0, same .ensures (not-false (same .result) (c .if3 .left)) .0)
 
 loop-again : tie.Need-loop-again Inv-loop μ-loop
 loop-again c =
-    let a = c .before .before .before .before .before .before .before .before .before .before .args in
-    let l = c .before .before .before .before .before .before .loop in
-    let w = c .before .before .blanks-before in
-    let k = c .before .alike-from in
-    (sofar-turn (a .m .now) (a .at) (a .text .now) (l .i) (l .p) (w .result) (k .result) (l .inv .0) (omega (arith, c .before .before .before .before .before)) (w .ensures .1) (w .ensures .2) (k .ensures .2) (k .ensures .1) (omega (arith, c .before .before .before .before, l .inv .0 .within, w .ensures .0, k .ensures .0)), l .inv .1, omega (arith, l .inv .2))
+    let a = c .before .before .before .before .before .before .before .before .before .before .before .args in
+    let l = c .before .before .before .before .before .before .before .loop in
+    let n = c .before .before .before .before .before .tag-length in
+    let w = c .before .before .before .white-before in
+    let f = w .ensures .1 (omega (arith, c .before .before .if2 .left)) in
+    let same = c .before .same-tag in
+    let k = same .ensures (not-false (same .result) (c .if3 .left)) in (
+      sofar-turn (a .m .now) (a .at) (a .text .now) (l .i) (l .p) (w .result) (n .result) (l .inv .0) (omega (arith, c .before .before .before .before .before .before))
+          (f .1) (f .2) (k .1) (n .ensures) (omega (arith, f .0, w .ensures .0)),
+      l .inv .1,
+      omega (arith, l .inv .2),
+    )
 
 returns-4 : tie.Need-returns-4 Inv-loop μ-loop
 returns-4 c =
     let a = c .before .before .before .before .before .args in
-    let l = c .before .loop in
-    (l .inv .0 .within, found (Spelled (a .m .now) (a .at) (a .text .now)) (l .p) (sofar-all (a .m .now) (a .at) (a .text .now) (l .i) (l .p) (l .inv .1) (c .before .before .before .before .before .pre .1) (omega arith) (l .inv .0)))
+    let l = c .before .loop in (
+      l .inv .0 .within,
+      found (Spelled (a .m .now) (a .at) (a .text .now)) (l .p)
+          (sofar-all (a .m .now) (a .at) (a .text .now) (l .i) (l .p) (l .inv .1) (c .before .before .before .before .before .pre .1) (omega arith) (l .inv .0)),
+    )
 
 pub spell-spec : {M : Type 1} → statement M
 spell-spec =
@@ -102,17 +124,16 @@ spell-spec =
     μ-loop
     returns
     loop-holds
-    sub-if2
+    tag-length-requires
+    shared-slice-read-white-before
+    white-before-requires
     sub-by-bytes
     part-by-bytes-start
     part-by-bytes-end
     by-bytes-requires
     returns-2
-    shared-slice-read-blanks-before
-    blanks-before-requires
-    add-alike-from
-    alike-from-requires
-    add-if3
+    add-same-tag
+    same-tag-requires
     returns-3
     add-p
     add-p-2
