@@ -17,7 +17,7 @@ ghost use Rattle.items.specs.Places.{heldAt};
 ghost use Rattle.judge.specs.Verdict.{meant};
 ghost use Rattle.records.specs.Indexed.{recordedWith};
 ghost use Rattle.engine.specs.Several.{rowLength};
-ghost use Rattle.records.specs.Engine.{startOf, ownOr, centsOf, recordOf, recordsOf, inOneCall, laid, Room};
+ghost use Rattle.records.specs.Engine.{startOf, ownOr, recordOf, recordsOf, inOneCall, laid, Room};
 
 // How many bytes a record has.
 pub const LENGTH: usize = 320;

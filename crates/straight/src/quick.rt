@@ -363,7 +363,7 @@ fn again(m: &[u8], at: usize, q: usize, n: usize) -> usize
     here(m, at, m, q, n)
 }
 
-// A text as it is spelled at a place: as it is written, or else by words: the place behind it, or 0.
+// A text as it is spelled at a place: as it is written, or else tag by tag: the place behind it, or 0.
 fn anew(m: &[u8], at: usize, text: &[u8]) -> usize
     requires { ⌜ (at ≤ length (now m)) × (4 ≤ length (now text)) ⌝ }
     ensures { λ r. ⌜ (r ≤ length (now (m .entry))) × Found (Spelled (now (m .entry)) at (now (text .entry))) r ⌝ }

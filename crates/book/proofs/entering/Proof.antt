@@ -20,13 +20,19 @@ same-length : tie.Need-same-length
 same-length c = search needs
 
 returns : tie.Need-returns
-returns c = (unfit-call (c .before .before .before .before .before .before .before .before .before .before .before .args .index .now) (c .before .before .before .before .before .before .before .before .before .before .before .args .message .now) (c .before .before .before .before .before .before .before .key .result) (c .before .before .before .before .before .before .before .key .ensures .0) _ _ (c .blank .result) (c .before .before .verdict .given .1), c .before .before .before .before .before .before .before .key .ensures .1)
+returns c =
+    let a = c .before .before .before .before .before .before .before .before .before .before .before .args in
+    let k = c .before .before .before .before .before .before .before .key in
+    (unfit-call (a .index .now) (a .message .now) (k .result) (k .ensures .0) _ _ (c .blank .result) (c .before .before .verdict .given .1), k .ensures .1)
 
 same-length-2 : tie.Need-same-length-2
 same-length-2 c = search needs
 
 returns-2 : tie.Need-returns-2
-returns-2 c = (fit-call (c .before .before .before .before .before .before .before .before .before .before .args .index .now) (c .before .before .before .before .before .before .before .before .before .before .args .message .now) (c .before .before .before .before .before .before .key .result) (c .before .before .before .before .before .before .key .ensures .0) _ _ (c .before .verdict2 .given .1), c .before .before .before .before .before .before .key .ensures .1)
+returns-2 c =
+    let a = c .before .before .before .before .before .before .before .before .before .before .args in
+    let k = c .before .before .before .before .before .before .key in
+    (fit-call (a .index .now) (a .message .now) (k .result) (k .ensures .0) _ _ (c .before .verdict2 .given .1), k .ensures .1)
 
 pub entering-spec : {M : Type 1} → statement M
 entering-spec =

@@ -69,11 +69,14 @@ same-length-4 c = search needs
 returns-3 : tie.Need-returns-3
 returns-3 c =
     let a = c .before .before .before .before .before .before .before .before .before .before .before .before .before .before .before .before .args in
-    let j = c .before .before .before .before .before .before .before .before .before .before .before .judge in (
-      wrote-with (a .index .now) (a .m .now) (a .area .now) (j .result) (j .ensures .0) _ _ (c .before .before .before .before .before .before .before .enum-told .given .1) _
-          (has-room (a .m .now) (a .area .now) (j .result) (judged-with (a .index .now) (a .m .now) (a .area .now) (j .result) (j .ensures .0) _ _ (c .before .before .before .before .before .before .before .enum-told .given .1)) _ _
-          (c .before .before .before .before .before .before .before .enum-told .given .1) (c .before .before .before .before .before .before .body-of .result .now) (c .before .before .before .before .before .before .body-of .ensures) (c .before .before .before .before .before .measure .result) (c .before .before .before .before .before .measure .ensures) (c .before .before .before .before .if1 .left) (c .before .before .put .last .1 .0)
-          (c .before .before .put .ensures)),
+    let j = c .before .before .before .before .before .before .before .before .before .before .before .judge in
+    let yes = c .before .before .before .before .before .before .before .enum-told .given .1 in
+    let body = c .before .before .before .before .before .before .body-of in
+    let long = c .before .before .before .before .before .measure in
+    let put = c .before .before .put in (
+      wrote-with (a .index .now) (a .m .now) (a .area .now) (j .result) (j .ensures .0) _ _ yes _
+          (has-room (a .m .now) (a .area .now) (j .result) (judged-with (a .index .now) (a .m .now) (a .area .now) (j .result) (j .ensures .0) _ _ yes) _ _
+          yes (body .result .now) (body .ensures) (long .result) (long .ensures) (c .before .before .before .before .if1 .left) (put .last .1 .0) (put .ensures)),
       j .ensures .1,
     )
 
