@@ -30,7 +30,7 @@ use Rattle.engine.proofs.Steps.{halts}
 use Rattle.engine.proofs.Placed.{then-placed, closed-placed}
 use Rattle.engine.proofs.Steps.{closed-by}
 use Rattle.straight.specs.Due.{made}
-use Rattle.straight.specs.Exact.{endOf, byTag, moreOf, Makes, MakesThen, Behind}
+use Rattle.straight.specs.Exact.{endOf, byTag, moreOf, Makes, MakesThen, Behind, Onward}
 use Rattle.straight.proofs.Exact.{then-on, ends-then, end-is}
 use Rattle.straight.proofs.Groups.{by-cut, by-other}
 use Rattle.straight.proofs.Wholes.{then-alike}
@@ -44,16 +44,13 @@ sum n = n .sum
 abbrev count : Notes → ℕ
 count n = n .count
 
--- what is due at the start is what is due here
-pub record Loop (v : Version) (m : List ℕ) (r₀ : Going) (l₀ : List ℕ) (left : ℕ) (s : Going) (l : List ℕ) : Type 0 where
-  pub fine : Fine m 0 s
-  pub room : Behind s (Room 0)
-  pub same : onward r₀ (λ z. reads (moreOf v m (length m) (z .at)) (z .notes)) ≡ onward s (λ z. reads (moreOf v m left (z .at)) (z .notes))
-  pub places : orElse r₀ (λ z. placed (moreOf v m (length m) (z .at)) (z .notes) l₀) l₀ ≡ orElse s (λ z. placed (moreOf v m left (z .at)) (z .notes) l) l
-  pub long : length l ≡ length l₀
+pub begin : (v : Version) (m : List ℕ) (n : ℕ) (r : Going) (l : List ℕ) → Fine m 0 r → Behind r (Room 0) → Onward v m n r l n r l
+begin v m n r l f h = record { fine = f; room = h; same = refl; places = refl; long = refl }
 
-pub begin : (v : Version) (m : List ℕ) (r : Going) (l : List ℕ) → Fine m 0 r → Behind r (Room 0) → Loop v m r l (length m) r l
-begin v m r l f h = record { fine = f; room = h; same = refl; places = refl; long = refl }
+-- and on from there
+pub onto : {v : Version} {m : List ℕ} {n : ℕ} {r : Going} {k : List ℕ} {i : ℕ} {s : Going} {l : List ℕ} {j : ℕ} {t : Going} {q : List ℕ}
+    → Onward v m n r k i s l → Onward v m i s l j t q → Onward v m n r k j t q
+onto a b = record { fine = b .fine; room = b .room; same = a .same ∙ b .same; places = a .places ∙ b .places; long = b .long ∙ a .long }
 
 item-fair : (v : Version) → law.fairly anAmount (inItem v) ≡ true
 unfolding inItem
@@ -69,9 +66,9 @@ item-behind : (v : Version) (m : List ℕ) (q : ℕ) (x : Notes) → Room 0 x �
 item-behind v m q x r (on z) e = law.ended-room anAmount inNotes sum count adds 0 (itemBody v m q) x z (item-leaves v m q x r) (sym e)
 item-behind v m q x r (stop n p) e = tt
 
-module _ (v : Version) (m : List ℕ) (r₀ : Going) (l₀ : List ℕ) (left : ℕ) (s : Going) (l : List ℕ) (k : Loop v m r₀ l₀ left s l) where
+module _ (v : Version) (m : List ℕ) (n : ℕ) (r₀ : Going) (l₀ : List ℕ) (left : ℕ) (s : Going) (l : List ℕ) (k : Onward v m n r₀ l₀ left s l) where
   abbrev Done : Going → List ℕ → Type 0
-  Done x y = MakesThen m (moreOf v m (length m)) r₀ l₀ x y
+  Done x y = MakesThen m (moreOf v m n) r₀ l₀ x y
 
   so : (x : Going) (y : List ℕ) → MakesThen m (moreOf v m left) s l x y → Done x y
   so x y i = (i .0 ∙ sym (k .same), i .1, i .2 ∙ sym (k .places))
@@ -118,8 +115,8 @@ module _ (v : Version) (m : List ℕ) (r₀ : Going) (l₀ : List ℕ) (left : �
         by-turn (left - 1) (omega arith) 0 x l (by-other m (u .at) (u .notes) g itemTag q place within c w (whole (left - 1)) other l h (b .at) x l
         (i2 ∙ ap (λ (t : Trace). reads t (u .notes)) (sym end-here), f, sym (ap (λ (t : Trace). placed t (u .notes) l) end-here ∙ closed-placed m (exactly (endTag bulkName)) q (u .notes) l)))
 
-    pub loop-next : c ≡ Whole → (b : Ended Notes) → b ≡ here q (u .notes) → (x : Going) (y : List ℕ) → Makes m 0 (itemBody v m (b .at)) (b .notes) l x y → length y ≡ length l → Loop v m r₀ l₀
-        (left - 1) x y
+    pub loop-next : c ≡ Whole → (b : Ended Notes) → b ≡ here q (u .notes) → (x : Going) (y : List ℕ) → Makes m 0 (itemBody v m (b .at)) (b .notes) l x y → length y ≡ length l
+        → Onward v m n r₀ l₀ (left - 1) x y
     loop-next h b d x y i z =
         let j : Makes m 0 (itemBody v m q) (u .notes) l x y = rw d at i in
         let t : moreOf v m left (u .at) ≡ whole (left - 1) q = turned (left - 1) (omega arith) (u .at) ∙ rw (← place, ← w, h) refl in

@@ -2,12 +2,13 @@
 use mathlib.Core.Path.{_≡_, refl, sym, ap, _∙_}
 use mathlib.Core.Bool.{Bool, true, false}
 use mathlib.Core.List.{List}
-use Prim.Native.Nat.{ℕ, _+_, _≤_}
+use Prim.Native.Nat.{ℕ, zero, suc, _+_, _≤_}
 use native.Mathlib.Omega.{arith}
 use lib.Dec.{ltb}
-use lib.ListN.{length}
+use lib.ListN.{length, drop}
 use Rattle.text.specs.Truth.{pick}
-use Rattle.tags.specs.Tags.{plainTag}
+use Rattle.tags.specs.Tags.{skipped, plainTag}
+use Rattle.tags.proofs.Looks.{look-text}
 use Rattle.profile.specs.declared.Version.{Version}
 use Rattle.profile.specs.Limits.{mostItems}
 use Rattle.profile.specs.Tree.{many}
@@ -23,7 +24,9 @@ use Rattle.notes.proofs.Notings.{here}
 use Rattle.notes.proofs.Stays.{begun-fine}
 use Rattle.engine.specs.Engine.{orElse, placed}
 use Rattle.engine.proofs.Placed.{ends-placed}
-use Rattle.straight.specs.Exact.{Makes, MakesThen, Behind}
+use Rattle.swift_values.specs.Stands.{Found}
+use Rattle.straight.specs.Due.{Past}
+use Rattle.straight.specs.Exact.{Makes, MakesThen, Behind, ItemBegins}
 use Rattle.straight.proofs.Types.{after-fine}
 
 abbrev Going : Type 0
@@ -82,3 +85,11 @@ module _ (m : List ℕ) (q : ℕ) (x : Notes) where
           i .1,
           i .2 ∙ ap (λ (c : Going). orElse c (λ s. placed (trace (inItem v) m (s .at)) (s .notes) l) l) k,
         )
+
+-- its start tag, after white space
+pub item-begins : (m : List ℕ) (p q r : ℕ) → q ≡ skipped m p → Found (Past m q (plainTag itemName)) r → Found (ItemBegins m p) r
+item-begins m p q zero e f = tt
+item-begins m p q (suc r) e f = record {
+  whole = rw (← e, f .stands) (look-text (plainTag itemName) (drop (suc r) m));
+  behind = f .place ∙ ap (λ (k : ℕ). k + 14) e;
+}

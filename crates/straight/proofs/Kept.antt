@@ -101,14 +101,30 @@ kept-guess m w i x k h = record {
     old : (j : ℕ) → j < 96 → getD (set w i x) j 0 ≡ getD w j 0
     old j l = getD-set-other w i j x 0 (λ e. let z : ⊥ = omega arith in z)
 
--- ---- a run is kept
+-- ---- of one run something else is kept, or nothing: the rest stays
+module _ (m w u : List ℕ) (j : ℕ) (k : Kept m w) (h : j < 32) (l : length u ≡ 101) (old : (i : ℕ) → (i ≡ j → ⊥) → (i ≡ j + 32 → ⊥) → getD u i 0 ≡ getD w i 0) where
+  abbrev Known : ℕ → Type 0
+  Known i = Found (λ x. Spelled m (getD u i 0) (textAt i) (getD u i 0 + x)) (getD u (i + 32) 0)
+
+  kept-run : Known j → Kept m u
+  kept-run f = record {
+    long = l;
+    each = λ i g. go i g (eqb i j) refl;
+    stretch = λ s g. same-stretch m w u s (λ i a b. old i (λ e. let z : ⊥ = omega arith in z) (λ e. let z : ⊥ = omega arith in z)) (k .stretch s g);
+    listed = omega (arith, k .listed, old 69 (λ e. let z : ⊥ = omega arith in z) (λ e. let z : ⊥ = omega arith in z));
+  }
+    where
+      go : (i : ℕ) → i < 32 → (b : Bool) → eqb i j ≡ b → Known i
+      go i g true e = rw (eqb-true i j e) f
+      go i g false e =
+          let a : getD u i 0 ≡ getD w i 0 = old i (eqb-false i j e) (λ y. let z : ⊥ = omega arith in z) in
+          let b : getD u (i + 32) 0 ≡ getD w (i + 32) 0 = old (i + 32) (λ y. let z : ⊥ = omega arith in z) (λ y. eqb-false i j e (omega arith)) in
+          rw (a, b) (k .each i g)
+
 pub kept-more : (m w : List ℕ) (p j r : ℕ) → Kept m w → j < 32 → 0 < r → Found (Spelled m p (textAt j)) r → Kept m (set (set w j p) (j + 32) (r - p))
-kept-more m w p j r k h g f = record {
-  long = length-set (set w j p) (j + 32) (r - p) ∙ length-set w j p ∙ k .long;
-  each = λ i l. go i l (eqb i j) refl;
-  stretch = λ s l. same-stretch m w new s (λ i a b. old i (λ e. let z : ⊥ = omega arith in z) (λ e. let z : ⊥ = omega arith in z)) (k .stretch s l);
-  listed = omega (arith, k .listed, old 69 (λ e. let z : ⊥ = omega arith in z) (λ e. let z : ⊥ = omega arith in z));
-}
+kept-more m w p j r k h g f =
+    kept-run m w new j k h (length-set (set w j p) (j + 32) (r - p) ∙ length-set w j p ∙ k .long)
+    (λ i a b. getD-set-other (set w j p) (j + 32) i (r - p) 0 b ∙ getD-set-other w j i p 0 a) (rw (place, long) here)
   where
     s : Spelled m p (textAt j) r
     s = found-at (Spelled m p (textAt j)) r g f
@@ -122,18 +138,22 @@ kept-more m w p j r k h g f = record {
     long : getD new (j + 32) 0 ≡ r - p
     long = getD-set-same (set w j p) (j + 32) (r - p) 0 (omega (arith, length-set w j p, k .long))
 
-    old : (i : ℕ) → (i ≡ j → ⊥) → (i ≡ j + 32 → ⊥) → getD new i 0 ≡ getD w i 0
-    old i a b = getD-set-other (set w j p) (j + 32) i (r - p) 0 b ∙ getD-set-other w j i p 0 a
-
     here : Found (λ x. Spelled m p (textAt j) (p + x)) (r - p)
     here = found (λ x. Spelled m p (textAt j) (p + x)) (r - p) (let e : p + (r - p) ≡ r = omega (arith, s .from) in rw e s)
 
-    go : (i : ℕ) → i < 32 → (b : Bool) → eqb i j ≡ b → Found (λ x. Spelled m (getD new i 0) (textAt i) (getD new i 0 + x)) (getD new (i + 32) 0)
-    go i l true e = rw (eqb-true i j e, place, long) here
-    go i l false e =
-        let a : getD new i 0 ≡ getD w i 0 = old i (eqb-false i j e) (λ y. let z : ⊥ = omega arith in z) in
-        let b : getD new (i + 32) 0 ≡ getD w (i + 32) 0 = old (i + 32) (λ y. let z : ⊥ = omega arith in z) (λ y. eqb-false i j e (omega arith)) in
-        rw (a, b) (k .each i l)
+-- nothing is kept of it, and the number for its place is free
+pub kept-waits : (m w : List ℕ) (j x : ℕ) → Kept m w → j < 32 → getD w (j + 32) 0 ≡ 0 → Kept m (set w j x)
+kept-waits m w j x k h e =
+    let z : getD (set w j x) (j + 32) 0 ≡ 0 = getD-set-other w j (j + 32) x 0 (λ i. let y : ⊥ = omega arith in y) ∙ e in
+    kept-run m w (set w j x) j k h (length-set w j x ∙ k .long) (λ i a b. getD-set-other w j i x 0 a) (rw z tt)
+
+pub kept-none-of : (m w : List ℕ) (j x : ℕ) → Kept m w → j < 32 → Kept m (set (set w (j + 32) 0) j x)
+kept-none-of m w j x k h =
+    let u = set w (j + 32) 0 in
+    let z : getD (set u j x) (j + 32) 0 ≡ 0 =
+    getD-set-other u j (j + 32) x 0 (λ i. let y : ⊥ = omega arith in y) ∙ getD-set-same w (j + 32) 0 0 (omega (arith, k .long)) in
+    kept-run m w (set u j x) j k h (length-set u j x ∙ length-set w (j + 32) 0 ∙ k .long)
+    (λ i a b. getD-set-other u j i x 0 a ∙ getD-set-other w (j + 32) i 0 0 b) (rw z tt)
 
 -- ---- numbers set one behind the other
 abbrev pub sets : ℕ → List ℕ → List ℕ → List ℕ

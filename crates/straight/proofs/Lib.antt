@@ -17,4 +17,5 @@ pub mod Again
 pub mod Frame
 pub mod Told
 pub mod Stretches
+pub mod Swift
 pub mod Kept

@@ -170,11 +170,6 @@ module _ (m : List ℕ) (p : ℕ) where
       let n : r - p ≡ length t = omega (arith, h .place) in
       ap (λ (k : ℕ). take k (drop p m)) n ∙ ap (take (length t)) (h .stands) ∙ take-append-seam t (drop r m)
 
-  pub spelled-whole : (t : List ℕ) (r : ℕ) → 0 < length t → Found (Past m p t) r → Found (Spelled m p t) r
-  spelled-whole t zero g h = tt
-  spelled-whole t (suc r) g h =
-      record { some = h .some; from = omega (arith, h .place); within = h .within; spelt = ap (λ (k : List ℕ). spells k t) (past-part t (suc r) h) ∙ itself t }
-
   pub spelled-again : (t : List ℕ) (q n r : ℕ) → 0 < n → Found (λ k. Spelled m q t (q + k)) n → Found (Past m p (part q n m)) r → Found (Spelled m p t) r
   spelled-again t q n zero g f h = tt
   spelled-again t q zero (suc r) g f h = absurd (let z : ⊥ = omega arith in z)

@@ -6,9 +6,11 @@ use Prim.Native.Nat.{ℕ, zero, suc, _+_, _-_, _*_, _≤_, _<_}
 use native.Mathlib.Omega.{arith}
 use native.Mathlib.Nat.{add-zero}
 use native.Mathlib.Decide.{decLt}
+use lib.Bits.{bitOr}
 use lib.ListN.{length, take, drop, getD, length-drop, take-append-drop}
 use lib.Seq.{ext-getD, getD-take, getD-drop, length-take-le, drop-drop}
 use Rattle.text.specs.Truth.{part}
+use Rattle.swift_values.proofs.Blocks.{or-none}
 use Rattle.straight.specs.Due.{Past}
 use Rattle.straight.specs.Words.{halfAt, wordAt, Four, Eight, Match}
 
@@ -91,6 +93,19 @@ module _ (s : List ℕ) (p : ℕ) (t : List ℕ) (k : ℕ) where
           let a : p + 4 + i ≡ p + (4 + i) = omega arith in
           let b : k + 4 + i ≡ k + (4 + i) = omega arith in
           ap (λ (x : ℕ). getD s x 0) a ∙ h ∙ ap (λ (x : ℕ). getD t x 0) (sym b)
+
+-- one byte more: d is what differed before, x what differs now
+pub match-one : (s t : List ℕ) (p k i d x : ℕ) → (d ≡ 0 → Match s p t k i) → (x ≡ 0 → getD s (p + i) 0 ≡ getD t (k + i) 0) → bitOr d x ≡ 0 → Match s p t k (i + 1)
+match-one s t p k i d x f g e = record { each = go }
+  where
+    go : (j : ℕ) → j < i + 1 → getD s (p + j) 0 ≡ getD t (k + j) 0
+    go j h =
+        elim (decLt j i) [
+          | yes a ↦ f (or-none d x e .0) .each j a
+          | no a ↦
+              let z : j ≡ i = omega arith in
+              rw z (g (or-none d x e .1))
+        ]
 
 -- what matches is the part, and stands there
 module _ (s : List ℕ) (p : ℕ) (t : List ℕ) (k n : ℕ) (h : p + n ≤ length s) (g : k + n ≤ length t) where

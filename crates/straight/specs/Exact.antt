@@ -1,10 +1,11 @@
 -- A value's element alone, by its two tags; what the exact readers answer.
-use Prim.Native.Nat.{ℕ, _+_}
+use Prim.Native.Nat.{ℕ, _+_, _≤_}
 use mathlib.Core.Path.{_≡_}
 use mathlib.Core.Bool.{Bool, true, false}
 use mathlib.Core.List.{List, _++_}
 use lib.ListN.{length, drop}
 use Rattle.text.specs.Truth.{pick}
+use Rattle.tags.specs.declared.Look.the-variants.{Whole}
 use Rattle.tags.specs.Tags.{skipped, look, onLook, exactly, plainTag, amountTag, endTag, currency}
 use Rattle.codes.specs.declared.Element.the-variants as code
 use Rattle.profile.specs.declared.Kind.{Kind}
@@ -42,11 +43,12 @@ use Rattle.profile.specs.Profile.{bicName, bicKind, typeName, bulkName, headerN
 use Rattle.reading.specs.Trace.{there, absent, _at_, Trace, met, upTo, fault, andThen, priced, again, trace}
 use Rattle.reading.specs.Noted.{Reading, on, stop, onward, Ended}
 use Rattle.notes.specs.declared.Notes.{Notes}
-use Rattle.notes.specs.Steps.{reads, Fine}
+use Rattle.notes.specs.Steps.{reads, Room, Fine}
 use Rattle.profile.specs.Tree.{once, many, Shape, end, group}
 use Rattle.items.specs.Alone.{itemTag, itemBody}
 use Rattle.straight.specs.Pieces.{pmtId}
-use Rattle.engine.specs.Engine.{closedBy, valuedBy, orElse, placed}
+use Rattle.engine.specs.Engine.{closedBy, valuedBy, itemAt, orElse, placed}
+use Rattle.engine.specs.Several.{toldIn}
 
 -- due, or where it may be left out passed over
 unfoldable pub leafOf : Bool → List ℕ → List ℕ → Kind → Field → List ℕ → ℕ → Trace
@@ -204,3 +206,34 @@ MakesThen m t r l x y =
 abbrev pub Behind : Reading (Ended Notes) → (Notes → Type 0) → Type 0
 Behind (on s) P = P (s .notes)
 Behind (stop n q) P = Unit {0}
+
+-- the start tag of an item stands at p, after white space, and r is the place behind it
+pub record ItemBegins (m : List ℕ) (p r : ℕ) : Type 0 where
+  pub whole : look itemTag (drop (skipped m p) m) ≡ Whole
+  pub behind : r ≡ skipped m p + 14
+
+-- items one behind the other: what is made of n more behind r is what is made of i more behind s
+pub record Onward (v : Version) (m : List ℕ) (n : ℕ) (r : Reading (Ended Notes)) (k : List ℕ) (i : ℕ) (s : Reading (Ended Notes)) (l : List ℕ) : Type 0 where
+  pub fine : Fine m 0 s
+  pub room : Behind s (Room 0)
+  pub same : onward r (λ z. reads (moreOf v m n (z .at)) (z .notes)) ≡ onward s (λ z. reads (moreOf v m i (z .at)) (z .notes))
+  pub places : orElse r (λ z. placed (moreOf v m n (z .at)) (z .notes) k) k ≡ orElse s (λ z. placed (moreOf v m i (z .at)) (z .notes) l) l
+  pub long : length l ≡ length k
+
+-- an item from p on, with nothing noted before it, is told in a row, and r is the place behind it
+pub record ItemTold (v : Version) (m : List ℕ) (p : ℕ) (row : List ℕ) (r : ℕ) (after : List ℕ) : Type 0 where
+  pub notes : Notes
+  pub is : itemAt v m p ≡ on (record { at = r; notes = notes })
+  pub within : r ≤ length m
+  pub told : after ≡ toldIn notes row
+
+-- it cannot be read, and the row is left as it was
+pub record ItemLeft (v : Version) (m : List ℕ) (p : ℕ) (row after : List ℕ) : Type 0 where
+  pub number : ℕ
+  pub place : ℕ
+  pub is : itemAt v m p ≡ stop number place
+  pub left : after ≡ row
+
+abbrev pub RowRead : Bool → Version → List ℕ → ℕ → List ℕ → ℕ → List ℕ → Type 0
+RowRead true v m p row r after = ItemTold v m p row r after
+RowRead false v m p row r after = ItemLeft v m p row after

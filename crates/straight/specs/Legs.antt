@@ -95,15 +95,18 @@ abbrev pub ibanOf : Side → Field
 ibanOf Creditor = CdtrIban
 ibanOf Debtor = DbtrIban
 
+-- of two runs that differ by the version, that of .08 comes next
+abbrev pub byVersion : ℕ → Version → ℕ
+byVersion j V02 = j
+byVersion j V08 = j + 1
+
 abbrev pub toIban : Side → ℕ
 toIban Creditor = 16
 toIban Debtor = 21
 
 abbrev pub toBic : Side → Version → ℕ
-toBic Creditor V02 = 17
-toBic Creditor V08 = 18
-toBic Debtor V02 = 22
-toBic Debtor V08 = 23
+toBic Creditor v = byVersion 17 v
+toBic Debtor v = byVersion 22 v
 
 abbrev pub partyLegs : Side → Version → ℕ → ℕ → List Leg
 partyLegs s v p a =
@@ -111,8 +114,7 @@ partyLegs s v p a =
 
 -- the creditor's BIC, up to the debtor's name
 abbrev pub toDebtor : Version → ℕ
-toDebtor V02 = 19
-toDebtor V08 = 20
+toDebtor v = byVersion 19 v
 
 abbrev pub agentLegs : Version → ℕ → List Leg
 agentLegs v p = holds (bicKind v) CdtrBic p 0 ∷ tags (tagsAt (toDebtor v)) ∷ []
@@ -123,12 +125,10 @@ creditorLegs v a b c d e = tags (tagsAt 13) ∷ (schemeLegs a b ++ (partyLegs Cr
 
 -- the debtor's BIC, and the remittance text, up to behind the item
 abbrev pub toText : Version → ℕ
-toText V02 = 24
-toText V08 = 25
+toText v = byVersion 24 v
 
 abbrev pub toEnd : Version → ℕ
-toEnd V02 = 26
-toEnd V08 = 27
+toEnd v = byVersion 26 v
 
 abbrev pub lastLegs : Version → ℕ → ℕ → List Leg
 lastLegs v p zero = holds (bicKind v) DbtrBic p 0 ∷ tags (tagsAt (toEnd v)) ∷ []

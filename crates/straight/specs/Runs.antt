@@ -1,8 +1,10 @@
 -- The runs of tags between the values of an item, in the order of the profile.
-use Prim.Native.Nat.{ℕ}
+use Prim.Native.Nat.{ℕ, _+_, _*_, _≤_, _<_}
 use Prim.Native.String.{String}
+use mathlib.Core.Path.{_≡_}
 use mathlib.Core.List.{List, [], _∷_}
-use lib.ListN.{getD}
+use lib.ListN.{length, getD}
+use Rattle.text.specs.Truth.{part}
 use Rattle.text.specs.Quoted.{bytes}
 use Rattle.straight.specs.Due.{Token, tight, spaced, flat}
 
@@ -51,3 +53,10 @@ tagsAt j = getD itemTags j []
 
 unfoldable pub textAt : ℕ → List ℕ
 textAt j = flat (tagsAt j)
+
+-- the texts of the runs in a row of 96 bytes each: its text, and at 80 how long that is; of the lengths of its tags, which follow, nothing is said
+pub record Texts (t : List ℕ) : Type 0 where
+  pub long : length t ≡ 2784
+  pub some : (j : ℕ) → j < 29 → 0 < getD t (96 * j + 80) 0
+  pub short : (j : ℕ) → j < 29 → getD t (96 * j + 80) 0 ≤ 80
+  pub each : (j : ℕ) → j < 29 → part (96 * j) (getD t (96 * j + 80) 0) t ≡ textAt j

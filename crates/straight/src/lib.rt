@@ -14,7 +14,7 @@ mod quick;
 
 ghost use mathlib.Core.Path.{_≡_};
 ghost use mathlib.Core.List.{_++_};
-ghost use Prim.Native.Nat.{_+_, _≤_};
+ghost use Prim.Native.Nat.{_+_, _≤_, _<_};
 ghost use lib.ListN.{length, drop};
 ghost use Rattle.tags.specs.Tags.{skipped, look, exactly, amountTag, endTag, currency};
 ghost use Rattle.profile.specs.Limits.{mostBytes};
@@ -26,9 +26,11 @@ ghost use Rattle.items.specs.Alone.{itemBody};
 ghost use Rattle.notes.specs.Steps.{stated, stepped, reads, Good, Room, Fine};
 ghost use Rattle.engine.specs.Engine.{closedBy, valuedBy, messageAt, placesAt, itemAt};
 ghost use Rattle.engine.specs.Several.{Tells};
+ghost use Rattle.swift_values.specs.Stands.{Found};
+ghost use Rattle.straight.specs.Runs.{Texts};
 ghost use Rattle.straight.specs.Kept.{Kept};
 ghost use Rattle.straight.specs.Pieces.{pmtId};
-ghost use Rattle.straight.specs.Exact.{leafOf, endOf, openOf, enterOf, oneOf, twoOf, insideOf, mayOf, inTypeOf, typeOf, amountOf, mandateOf, otherOf, privateOf, ownOf, schemeOf, debitOf, agentOf, headOf, partiesOf, lastOf, moreOf, firstOf, dueItem, inBulk, Makes, MakesThen, Behind as After};
+ghost use Rattle.straight.specs.Exact.{leafOf, endOf, openOf, enterOf, oneOf, twoOf, insideOf, mayOf, inTypeOf, typeOf, amountOf, mandateOf, otherOf, privateOf, ownOf, schemeOf, debitOf, agentOf, headOf, partiesOf, lastOf, moreOf, firstOf, dueItem, inBulk, Makes, MakesThen, Behind as After, Onward, ItemTold, RowRead};
 
 // ---- The exact readers, for all that the quick ones do not tell.
 
@@ -936,11 +938,11 @@ fn header_exact(m: &[u8], v: Version, before: Step, places: &mut [u32]) -> Step
 }
 
 // What an item holds, up to behind its end tag: by the quick reader, or by the exact one where that does not tell. How an item was spelled is kept in w.
-fn held(m: &[u8], v: Version, st: State, places: &mut [u32], w: &mut [usize; 101]) -> Step
-    requires { ⌜ Good (now m) (stated st) × Room 1 (st .notes) × Kept (now m) (now w) ⌝ }
+fn held(m: &[u8], v: Version, st: State, places: &mut [u32], t: &[u8], w: &mut [usize; 101]) -> Step
+    requires { ⌜ Good (now m) (stated st) × Room 1 (st .notes) × Texts (now t) × Kept (now m) (now w) ⌝ }
     ensures { λ s. ⌜ Makes (now (m .entry)) 0 (trace (inItem v) (now (m .entry)) (st .at)) (st .notes) (now (places .entry)) (stepped s) (now (places .exit)) × Kept (now (m .entry)) (now (w .exit)) ⌝ }
 {
-    let r = quick::read_item(m, st.at as usize, v, st.notes.typed, st.notes.service, w);
+    let r = quick::read_item(m, st.at as usize, v, st.notes.typed, st.notes.service, t, w);
     let front = r.front;
     let back = r.back;
     if back.at == 0 {
@@ -951,30 +953,97 @@ fn held(m: &[u8], v: Version, st: State, places: &mut [u32], w: &mut [usize; 101
 }
 
 // The same after a step.
-fn then_held(m: &[u8], v: Version, before: Step, places: &mut [u32], w: &mut [usize; 101]) -> Step
-    requires { ⌜ Fine (now m) 0 (stepped before) × After (stepped before) (Room 1) × Kept (now m) (now w) ⌝ }
+fn then_held(
+    m: &[u8],
+    v: Version,
+    before: Step,
+    places: &mut [u32],
+    t: &[u8],
+    w: &mut [usize; 101],
+) -> Step
+    requires { ⌜ Fine (now m) 0 (stepped before) × After (stepped before) (Room 1) × Texts (now t) × Kept (now m) (now w) ⌝ }
     ensures { λ s. ⌜ MakesThen (now (m .entry)) (trace (inItem v) (now (m .entry))) (stepped before) (now (places .entry)) (stepped s) (now (places .exit)) × Kept (now (m .entry)) (now (w .exit)) ⌝ }
 {
     let met = before.met;
     let st = before.state;
     match met {
         Met::Stopped(number, place) => st.refuse(number, place),
-        Met::On => held(m, v, st, places, w),
+        Met::On => held(m, v, st, places, t, w),
     }
 }
 
 // An item from the `<` of its start tag, which lies whole at the state's place, to behind its end tag.
-fn one_item(m: &[u8], v: Version, st: State, places: &mut [u32], w: &mut [usize; 101]) -> Step
-    requires { ⌜ Good (now m) (stated st) × (st .at + 14 ≤ length (now m)) × Room 0 (st .notes) × Kept (now m) (now w) ⌝ }
+fn one_item(
+    m: &[u8],
+    v: Version,
+    st: State,
+    places: &mut [u32],
+    t: &[u8],
+    w: &mut [usize; 101],
+) -> Step
+    requires { ⌜ Good (now m) (stated st) × (st .at + 14 ≤ length (now m)) × Room 0 (st .notes) × Texts (now t) × Kept (now m) (now w) ⌝ }
     ensures { λ s. ⌜ Makes (now (m .entry)) 0 (itemBody v (now (m .entry)) (st .at)) (st .notes) (now (places .entry)) (stepped s) (now (places .exit)) × Kept (now (m .entry)) (now (w .exit)) ⌝ }
 {
     let b = after(st.begin_item(), st.at as usize + 14);
-    then_held(m, v, b, places, w)
+    then_held(m, v, b, places, t, w)
 }
 
-// Items that come again, and the end of the bulk. (A message of n bytes has no more than n items.)
-fn more_items(m: &[u8], v: Version, before: Step, places: &mut [u32]) -> Step
-    requires { ⌜ Fine (now m) 0 (stepped before) × After (stepped before) (Room 0) ⌝ }
+// An item from the `<` of its start tag, which lies whole at the state's place, to behind its end tag, by the exact reader alone.
+fn exact_item(m: &[u8], v: Version, st: State, places: &mut [u32]) -> Step
+    requires { ⌜ Good (now m) (stated st) × (st .at + 14 ≤ length (now m)) × Room 0 (st .notes) ⌝ }
+    ensures { λ s. ⌜ Makes (now (m .entry)) 0 (itemBody v (now (m .entry)) (st .at)) (st .notes) (now (places .entry)) (stepped s) (now (places .exit)) ⌝ }
+{
+    let b = after(st.begin_item(), st.at as usize + 14);
+    item_exact(m, v, b, places)
+}
+
+// The state behind some items, and how many more may come.
+struct Ran {
+    state: State,
+    left: usize,
+}
+
+// Items one behind the other, as far as the quick reader tells them; one that may come is left.
+fn swift_items(
+    m: &[u8],
+    v: Version,
+    st: State,
+    most: usize,
+    places: &mut [u32],
+    t: &[u8],
+    w: &mut [usize; 101],
+) -> Ran
+    requires { ⌜ Good (now m) (stated st) × Room 0 (st .notes) × (0 < most) × Texts (now t) × Kept (now m) (now w) ⌝ }
+    ensures { λ r. ⌜ Onward v (now (m .entry)) most (on (stated st)) (now (places .entry)) (r .left) (on (stated (r .state))) (now (places .exit)) × (0 < r .left) × (r .left ≤ most) × Kept (now (m .entry)) (now (w .exit)) ⌝ }
+{
+    let mut s = st;
+    let mut left = most;
+    while 1 < left {
+        let at = quick::item_tag(m, s.at as usize);
+        if at == 0 {
+            return Ran { state: s, left };
+        }
+        let b = s.at_place((at - 14) as u32).begin_item();
+        if engine::is_stopped(b) {
+            return Ran { state: s, left };
+        }
+        let begun = b.state;
+        let r = quick::read_item(m, at, v, begun.notes.typed, begun.notes.service, t, w);
+        let front = r.front;
+        let back = r.back;
+        if back.at == 0 {
+            return Ran { state: s, left };
+        }
+        engine::file(Field::TxId, front.tx as u32, places);
+        s = quick::note_item(begun, r);
+        left -= 1;
+    }
+    Ran { state: s, left }
+}
+
+// Items that come again, and the end of the bulk: as far as they are told quickly, and one by the exact reader where they are not. (A message of n bytes has no more than n items.)
+fn more_items(m: &[u8], v: Version, before: Step, places: &mut [u32], t: &[u8]) -> Step
+    requires { ⌜ Fine (now m) 0 (stepped before) × After (stepped before) (Room 0) × Texts (now t) ⌝ }
     ensures { λ s. ⌜ MakesThen (now (m .entry)) (moreOf v (now (m .entry)) (length (now (m .entry)))) (stepped before) (now (places .entry)) (stepped s) (now (places .exit)) ⌝ }
 {
     let mut w = [0; 101];
@@ -984,7 +1053,8 @@ fn more_items(m: &[u8], v: Version, before: Step, places: &mut [u32]) -> Step
         if engine::is_stopped(s) {
             return s;
         }
-        let st = s.state;
+        let r = swift_items(m, v, s.state, left, places, t, &mut w);
+        let st = r.state;
         let f = seek(m, b"<DrctDbtTxInf>", st);
         let look = f.look;
         let at = f.at;
@@ -992,10 +1062,10 @@ fn more_items(m: &[u8], v: Version, before: Step, places: &mut [u32]) -> Step
             Look::Cut => return st.refuse(3, m.len()),
             Look::Other => return close(m, b"</FIToFICstmrDrctDbt>", st.at_place(at as u32)),
             Look::Whole => {
-                s = one_item(m, v, st.at_place(at as u32), places, &mut w);
+                s = exact_item(m, v, st.at_place(at as u32), places);
             }
         }
-        left -= 1;
+        left = r.left - 1;
     }
     then_close(m, b"</FIToFICstmrDrctDbt>", s)
 }
@@ -1003,23 +1073,30 @@ fn more_items(m: &[u8], v: Version, before: Step, places: &mut [u32]) -> Step
 // ---- The whole message
 
 // The first item, which is due after white space.
-fn first_item(m: &[u8], v: Version, st: State, places: &mut [u32], w: &mut [usize; 101]) -> Step
-    requires { ⌜ Good (now m) (stated st) × Room 0 (st .notes) × Kept (now m) (now w) ⌝ }
+fn first_item(
+    m: &[u8],
+    v: Version,
+    st: State,
+    places: &mut [u32],
+    t: &[u8],
+    w: &mut [usize; 101],
+) -> Step
+    requires { ⌜ Good (now m) (stated st) × Room 0 (st .notes) × Texts (now t) × Kept (now m) (now w) ⌝ }
     ensures { λ s. ⌜ Makes (now (m .entry)) 0 (dueItem v (now (m .entry)) (st .at)) (st .notes) (now (places .entry)) (stepped s) (now (places .exit)) × Kept (now (m .entry)) (now (w .exit)) ⌝ }
 {
     let s = seek(m, b"<DrctDbtTxInf>", st);
     let look = s.look;
     let at = s.at;
     match look {
-        Look::Whole => one_item(m, v, st.at_place(at as u32), places, w),
+        Look::Whole => one_item(m, v, st.at_place(at as u32), places, t, w),
         Look::Cut => st.refuse(3, m.len()),
         Look::Other => st.refuse(4, at),
     }
 }
 
 // The same after a step.
-fn then_first(m: &[u8], v: Version, before: Step, places: &mut [u32]) -> Step
-    requires { ⌜ Fine (now m) 0 (stepped before) × After (stepped before) (Room 0) ⌝ }
+fn then_first(m: &[u8], v: Version, before: Step, places: &mut [u32], t: &[u8]) -> Step
+    requires { ⌜ Fine (now m) 0 (stepped before) × After (stepped before) (Room 0) × Texts (now t) ⌝ }
     ensures { λ s. ⌜ MakesThen (now (m .entry)) (dueItem v (now (m .entry))) (stepped before) (now (places .entry)) (stepped s) (now (places .exit)) ⌝ }
 {
     let met = before.met;
@@ -1027,28 +1104,28 @@ fn then_first(m: &[u8], v: Version, before: Step, places: &mut [u32]) -> Step
     let mut w = [0; 101];
     match met {
         Met::Stopped(number, place) => st.refuse(number, place),
-        Met::On => first_item(m, v, st, places, &mut w),
+        Met::On => first_item(m, v, st, places, t, &mut w),
     }
 }
 
 // What the bulk holds, up to behind its end tag: the header, and one item or more.
-fn in_bulk(m: &[u8], v: Version, before: Step, places: &mut [u32]) -> Step
-    requires { ⌜ Fine (now m) 0 (stepped before) × After (stepped before) (Room 0) ⌝ }
+fn in_bulk(m: &[u8], v: Version, before: Step, places: &mut [u32], t: &[u8]) -> Step
+    requires { ⌜ Fine (now m) 0 (stepped before) × After (stepped before) (Room 0) × Texts (now t) ⌝ }
     ensures { λ s. ⌜ MakesThen (now (m .entry)) (trace (inBulk v) (now (m .entry))) (stepped before) (now (places .entry)) (stepped s) (now (places .exit)) ⌝ }
 {
     let a = then_open(m, b"<GrpHdr>", before);
     let b = header_exact(m, v, a, places);
-    let c = then_first(m, v, b, places);
-    more_items(m, v, c, places)
+    let c = then_first(m, v, b, places, t);
+    more_items(m, v, c, places, t)
 }
 
 // The bulk, and the end of the root.
-fn bulk(m: &[u8], v: Version, before: Step, places: &mut [u32]) -> Step
-    requires { ⌜ Fine (now m) 0 (stepped before) × After (stepped before) (Room 0) ⌝ }
+fn bulk(m: &[u8], v: Version, before: Step, places: &mut [u32], t: &[u8]) -> Step
+    requires { ⌜ Fine (now m) 0 (stepped before) × After (stepped before) (Room 0) × Texts (now t) ⌝ }
     ensures { λ s. ⌜ MakesThen (now (m .entry)) (trace (profile v) (now (m .entry))) (stepped before) (now (places .entry)) (stepped s) (now (places .exit)) ⌝ }
 {
     let a = then_open(m, b"<FIToFICstmrDrctDbt>", before);
-    let b = in_bulk(m, v, a, places);
+    let b = in_bulk(m, v, a, places, t);
     then_close(m, b"</Document>", b)
 }
 
@@ -1063,7 +1140,8 @@ pub fn message(m: &[u8], at: usize, v: Version, places: &mut [u32]) -> Step
         return State::new(0).refuse(1, 0);
     }
     let st = State::new(at as u32);
-    bulk(m, v, st.read_on(), places)
+    let t = quick::texts();
+    bulk(m, v, st.read_on(), places, &t)
 }
 
 // The item that stands at a place, after white space, with nothing noted before it.
@@ -1079,7 +1157,92 @@ pub fn item(m: &[u8], at: usize, v: Version) -> Step
     let st = State::new(at as u32);
     let mut none = [0; 1];
     let mut w = [0; 101];
-    first_item(m, v, st, &mut none, &mut w)
+    let t = quick::texts();
+    first_item(m, v, st, &mut none, &t, &mut w)
+}
+
+// Whether an item was read, and the place behind it.
+struct ReadRow {
+    read: bool,
+    at: usize,
+}
+
+// The item that stands at a place, after white space, with nothing noted before it, told in a row by the quick reader: the place behind it, or 0 where that does not tell.
+fn swift_row(
+    m: &[u8],
+    p: usize,
+    v: Version,
+    row: &mut [u64],
+    t: &[u8],
+    w: &mut [usize; 101],
+) -> usize
+    requires { ⌜ (length (now m) ≤ mostBytes) × (p ≤ length (now m)) × Texts (now t) × Kept (now m) (now w) ⌝ }
+    ensures { λ r. ⌜ Found (λ e. ItemTold v (now (m .entry)) p (now (row .entry)) e (now (row .exit))) r × (r ≡ 0 → now (row .exit) ≡ now (row .entry)) × Kept (now (m .entry)) (now (w .exit)) ⌝ }
+{
+    let at = quick::item_tag(m, p);
+    if at == 0 {
+        return 0;
+    }
+    let b = State::new((at - 14) as u32).begin_item();
+    if engine::is_stopped(b) {
+        return 0;
+    }
+    let begun = b.state;
+    let r = quick::read_item(m, at, v, begun.notes.typed, begun.notes.service, t, w);
+    let back = r.back;
+    if back.at == 0 {
+        return 0;
+    }
+    let s = quick::note_item(begun, r);
+    engine::tell(row, s.notes);
+    back.at
+}
+
+// The same by either reader.
+fn any_row(
+    m: &[u8],
+    p: usize,
+    v: Version,
+    row: &mut [u64],
+    t: &[u8],
+    w: &mut [usize; 101],
+) -> ReadRow
+    requires { ⌜ (length (now m) ≤ mostBytes) × (p ≤ length (now m)) × Texts (now t) × Kept (now m) (now w) ⌝ }
+    ensures { λ r. ⌜ RowRead (r .read) v (now (m .entry)) p (now (row .entry)) (r .at) (now (row .exit)) × Kept (now (m .entry)) (now (w .exit)) ⌝ }
+{
+    let mut none = [0; 1];
+    let s = first_item(m, v, State::new(p as u32), &mut none, t, w);
+    let met = s.met;
+    let st = s.state;
+    match met {
+        Met::Stopped(_, _) => ReadRow { read: false, at: p },
+        Met::On => {
+            engine::tell(row, st.notes);
+            ReadRow {
+                read: true,
+                at: st.at as usize,
+            }
+        }
+    }
+}
+
+// The same by the quick reader, or else by either.
+fn one_row(
+    m: &[u8],
+    p: usize,
+    v: Version,
+    row: &mut [u64],
+    t: &[u8],
+    w: &mut [usize; 101],
+) -> ReadRow
+    requires { ⌜ (length (now m) ≤ mostBytes) × (p ≤ length (now m)) × Texts (now t) × Kept (now m) (now w) ⌝ }
+    ensures { λ r. ⌜ RowRead (r .read) v (now (m .entry)) p (now (row .entry)) (r .at) (now (row .exit)) × Kept (now (m .entry)) (now (w .exit)) ⌝ }
+{
+    let e = swift_row(m, p, v, row, t, w);
+    if e != 0 {
+        return ReadRow { read: true, at: e };
+    }
+    any_row(m, p, v, row, t, w)
 }
 
 // As many items as rows have room for, from a place on, one behind the other; what was kept of those before helps to read the next. None where rule 1 or the place forbids it.
@@ -1093,25 +1256,19 @@ pub fn items(m: &[u8], at: usize, v: Version, rows: &mut [u64]) -> Several
         return Several { read: 0, at };
     }
     let most = rows.len() / engine::ROW;
-    let mut none = [0; 1];
+    let t = quick::texts();
     let mut w = [0; 101];
     let mut i = 0;
     let mut p = at;
     while i < most {
-        let s = first_item(m, v, State::new(p as u32), &mut none, &mut w);
-        let met = s.met;
-        let st = s.state;
-        match met {
-            Met::Stopped(_, _) => return Several { read: i, at: p },
-            Met::On => {
-                let from = engine::ROW * i;
-                let to = from + engine::ROW;
-                let notes = st.notes;
-                engine::tell(&mut rows[from..to], notes);
-                p = st.at as usize;
-                i += 1;
-            }
+        let from = engine::ROW * i;
+        let to = from + engine::ROW;
+        let r = one_row(m, p, v, &mut rows[from..to], &t, &mut w);
+        if !r.read {
+            return Several { read: i, at: p };
         }
+        p = r.at;
+        i += 1;
     }
     Several { read: i, at: p }
 }

@@ -19,16 +19,24 @@ ghost use Rattle.swift_values.specs.Stands.{Found, StandsFor, Stands};
 ghost use Rattle.straight.specs.Words.{halfAt, wordAt, Four, Eight, Match};
 ghost use Rattle.straight.specs.Due.{Past, saidBy};
 ghost use Rattle.straight.specs.Spelled.{Spelled, Onto};
-ghost use Rattle.straight.specs.Runs.{textAt};
+ghost use Rattle.straight.specs.Runs.{textAt, Texts};
 ghost use Rattle.straight.specs.Ways.{told, mayFollow, Gone, lifted};
+ghost use Rattle.straight.specs.Exact.{ItemBegins};
 ghost use Rattle.straight.specs.Kept.{stretchLegs, sideOf, slotOf, offsets, Kept};
-ghost use Rattle.straight.specs.Legs.{stood, begunLegs, idsLegs, typedLegs, typeLegs, chargedLegs, termsLegs, mandateLegs, schemeLegs, creditorLegs, toIban, toBic, partyLegs, toDebtor, agentLegs, toText, toEnd, lastLegs, frontLegs, backLegs, itemLegs, CodesWithin, SideWithin, FrontWithin, BackWithin, Follows, Followed, typeFrom, serviceFrom, frontFrom, backFrom, itemNoted};
+ghost use Rattle.straight.specs.Legs.{stood, begunLegs, idsLegs, typedLegs, typeLegs, chargedLegs, termsLegs, mandateLegs, schemeLegs, creditorLegs, byVersion, toIban, toBic, partyLegs, agentLegs, lastLegs, frontLegs, backLegs, itemLegs, CodesWithin, SideWithin, FrontWithin, BackWithin, Follows, Followed, typeFrom, serviceFrom, frontFrom, backFrom, itemNoted};
 
 // A byte as a number of 64 bits.
 fn wide(x: u8) -> u64
     ensures { λ r. ⌜ (r ≡ x) × (r < 256) ⌝ }
 {
     x as u64
+}
+
+// A byte as a length.
+fn size(x: u8) -> usize
+    ensures { λ r. ⌜ (r ≡ x) × (r < 256) ⌝ }
+{
+    x as usize
 }
 
 // Eight bytes as a number, the lowest first: one load.
@@ -127,6 +135,42 @@ fn here(m: &[u8], at: usize, t: &[u8], k: usize, n: usize) -> usize
 
 // ---- runs of tags
 
+// The texts of the runs, 96 bytes for each: its text, padded to 80, how long it is, and how long each of its tags.
+pub fn texts() -> [u8; 2784]
+    ensures { λ r. ⌜ Texts r ⌝ }
+{
+    *b"\
+        <PmtId><InstrId>                                                                \x10\x07\x09\0\0\0\0\0\0\0\0\0\0\0\0\0\
+        <PmtId><EndToEndId>                                                             \x13\x07\x0c\0\0\0\0\0\0\0\0\0\0\0\0\0\
+        </InstrId><EndToEndId>                                                          \x16\x0a\x0c\0\0\0\0\0\0\0\0\0\0\0\0\0\
+        </EndToEndId><TxId>                                                             \x13\x0d\x06\0\0\0\0\0\0\0\0\0\0\0\0\0\
+        </TxId></PmtId><PmtTpInf><SvcLvl><Cd>                                           \x25\x07\x08\x0a\x08\x04\0\0\0\0\0\0\0\0\0\0\
+        </TxId></PmtId><IntrBkSttlmAmt Ccy=\"EUR\">                                       \x29\x07\x08\x1a\0\0\0\0\0\0\0\0\0\0\0\0\
+        </Cd></SvcLvl><LclInstrm><Cd>                                                   \x1d\x05\x09\x0b\x04\0\0\0\0\0\0\0\0\0\0\0\
+        </Cd></LclInstrm><SeqTp>                                                        \x18\x05\x0c\x07\0\0\0\0\0\0\0\0\0\0\0\0\
+        </SeqTp></PmtTpInf><IntrBkSttlmAmt Ccy=\"EUR\">                                   \x2d\x08\x0b\x1a\0\0\0\0\0\0\0\0\0\0\0\0\
+        </IntrBkSttlmAmt><ChrgBr>                                                       \x19\x11\x08\0\0\0\0\0\0\0\0\0\0\0\0\0\
+        </ChrgBr><ReqdColltnDt>                                                         \x17\x09\x0e\0\0\0\0\0\0\0\0\0\0\0\0\0\
+        </ReqdColltnDt><DrctDbtTx><MndtRltdInf><MndtId>                                 \x2f\x0f\x0b\x0d\x08\0\0\0\0\0\0\0\0\0\0\0\
+        </MndtId><DtOfSgntr>                                                            \x14\x09\x0b\0\0\0\0\0\0\0\0\0\0\0\0\0\
+        </DtOfSgntr></MndtRltdInf><CdtrSchmeId><Id><PrvtId><Othr><Id>                   \x3d\x0c\x0e\x0d\x04\x08\x06\x04\0\0\0\0\0\0\0\0\
+        </Id><SchmeNm><Prtry>                                                           \x15\x05\x09\x07\0\0\0\0\0\0\0\0\0\0\0\0\
+        </Prtry></SchmeNm></Othr></PrvtId></Id></CdtrSchmeId></DrctDbtTx><Cdtr><Nm>     \x4b\x08\x0a\x07\x09\x05\x0e\x0c\x06\x04\0\0\0\0\0\0\
+        </Nm></Cdtr><CdtrAcct><Id><IBAN>                                                \x20\x05\x07\x0a\x04\x06\0\0\0\0\0\0\0\0\0\0\
+        </IBAN></Id></CdtrAcct><CdtrAgt><FinInstnId><BIC>                               \x31\x07\x05\x0b\x09\x0c\x05\0\0\0\0\0\0\0\0\0\
+        </IBAN></Id></CdtrAcct><CdtrAgt><FinInstnId><BICFI>                             \x33\x07\x05\x0b\x09\x0c\x07\0\0\0\0\0\0\0\0\0\
+        </BIC></FinInstnId></CdtrAgt><Dbtr><Nm>                                         \x27\x06\x0d\x0a\x06\x04\0\0\0\0\0\0\0\0\0\0\
+        </BICFI></FinInstnId></CdtrAgt><Dbtr><Nm>                                       \x29\x08\x0d\x0a\x06\x04\0\0\0\0\0\0\0\0\0\0\
+        </Nm></Dbtr><DbtrAcct><Id><IBAN>                                                \x20\x05\x07\x0a\x04\x06\0\0\0\0\0\0\0\0\0\0\
+        </IBAN></Id></DbtrAcct><DbtrAgt><FinInstnId><BIC>                               \x31\x07\x05\x0b\x09\x0c\x05\0\0\0\0\0\0\0\0\0\
+        </IBAN></Id></DbtrAcct><DbtrAgt><FinInstnId><BICFI>                             \x33\x07\x05\x0b\x09\x0c\x07\0\0\0\0\0\0\0\0\0\
+        </BIC></FinInstnId></DbtrAgt><RmtInf><Ustrd>                                    \x2c\x06\x0d\x0a\x08\x07\0\0\0\0\0\0\0\0\0\0\
+        </BICFI></FinInstnId></DbtrAgt><RmtInf><Ustrd>                                  \x2e\x08\x0d\x0a\x08\x07\0\0\0\0\0\0\0\0\0\0\
+        </BIC></FinInstnId></DbtrAgt></DrctDbtTxInf>                                    \x2c\x06\x0d\x0a\x0f\0\0\0\0\0\0\0\0\0\0\0\
+        </BICFI></FinInstnId></DbtrAgt></DrctDbtTxInf>                                  \x2e\x08\x0d\x0a\x0f\0\0\0\0\0\0\0\0\0\0\0\
+        </Ustrd></RmtInf></DrctDbtTxInf>                                                \x20\x08\x09\x0f\0\0\0\0\0\0\0\0\0\0\0\0"
+}
+
 // A byte stands at a place: the place behind it, or 0.
 fn byte_at(m: &[u8], p: usize, c: u8) -> usize
     requires { ⌜ p ≤ length (now m) ⌝ }
@@ -202,52 +246,18 @@ fn alike_to(m: &[u8], p: usize, t: &[u8], i: usize, n: usize) -> usize
     z + alike(m, p + z, t, i + z)
 }
 
-// A mark in the highest bit of each byte of a word that is `<`, from the lowest up to the first: such a byte, with `<` taken from it, is one from which 1 cannot be taken.
-fn marks(x: u64) -> u64 {
-    let y = x ^ 4340410370284600380;
-    std::num::wrapping_sub_u64(y, 72340172838076673)
-        & (y ^ 18446744073709551615)
-        & 9259542123273814144
-}
-
-// Of eight bytes of a text, the number of the first `<`, or 8. (Where a text is parted elsewhere, it is read as well, only more slowly.)
-fn before_tag(t: &[u8], i: usize) -> usize
-    requires { ⌜ i + 8 ≤ length (now t) ⌝ }
-    ensures { λ r. ⌜ r ≤ 8 ⌝ }
-{
-    (u64::trailing_zeros(marks(word(t, i))) / 8) as usize
-}
-
-// How many bytes of a text from i on are a tag: up to the next `<`, or to the end.
-fn tag_length(t: &[u8], i: usize) -> usize
-    requires { ⌜ i < length (now t) ⌝ }
-    ensures { λ r. ⌜ i + r ≤ length (now (t .entry)) ⌝ }
-{
-    let left = t.len() - i;
-    if left < 9 {
-        return left;
-    }
-    let n = before_tag(t, i + 1);
-    if n < 8 {
-        return 1 + n;
-    }
-    longer(t, i, left)
-}
-
-// The same of a tag of nine bytes and more.
-fn longer(t: &[u8], i: usize, left: usize) -> usize
-    requires { ⌜ (i + left ≡ length (now t)) × (9 ≤ left) ⌝ }
+// How many of the bytes of a text that are left are its next tag, by the lengths of its tags. (Where they say something else, the text is read as well, only more slowly.)
+fn tag_length(lengths: &[u8], i: usize, left: usize) -> usize
     ensures { λ r. ⌜ r ≤ left ⌝ }
 {
-    let mut k = 9;
-    while k + 8 <= left {
-        let n = before_tag(t, i + k);
-        if n < 8 {
-            return k + n;
-        }
-        k += 8;
+    if lengths.len() <= i {
+        return left;
     }
-    left - 8 + before_tag(t, i + left - 8)
+    let n = size(lengths[i]);
+    if left < n {
+        return left;
+    }
+    n
 }
 
 // A tag of n bytes of a text stands at a place.
@@ -322,7 +332,7 @@ fn white_before(m: &[u8], p: usize, c: u8, n: usize) -> usize
 }
 
 // A text as it is spelled at a place, tag by tag; byte by byte from a tag on with much white space before it, and near the end of the message: the place behind it, or 0.
-fn spell(m: &[u8], at: usize, text: &[u8]) -> usize
+fn spell(m: &[u8], at: usize, text: &[u8], lengths: &[u8]) -> usize
     requires { ⌜ (at ≤ length (now m)) × (0 < length (now text)) ⌝ }
     ensures { λ r. ⌜ (r ≤ length (now (m .entry))) × Found (Spelled (now (m .entry)) at (now (text .entry))) r ⌝ }
 {
@@ -331,8 +341,9 @@ fn spell(m: &[u8], at: usize, text: &[u8]) -> usize
     }
     let mut p = at;
     let mut i = 0;
+    let mut k = 0;
     while i < text.len() {
-        let n = tag_length(text, i);
+        let n = tag_length(lengths, k, text.len() - i);
         let w = white_before(m, p, text[i], n);
         if 19 <= w {
             return by_bytes(m, p, &text[i..]);
@@ -342,105 +353,140 @@ fn spell(m: &[u8], at: usize, text: &[u8]) -> usize
         }
         p += w + n;
         i += n;
+        k += 1;
     }
     p
 }
 
-// The n bytes at q stand at another place too: the place behind them, or 0.
+// The n bytes at a place before stand at this one too, sixteen or more: the place behind them, or 0.
 fn again(m: &[u8], at: usize, q: usize, n: usize) -> usize
     requires { ⌜ at ≤ length (now m) ⌝ }
     ensures { λ r. ⌜ (r ≤ length (now (m .entry))) × (n ≡ 0 → r ≡ 0) × Found (Past (now (m .entry)) at (part q n (now (m .entry)))) r ⌝ }
 {
-    if n < 4 {
+    if n < 16 {
         return 0;
     }
-    if m.len() < q {
+    if at <= q {
         return 0;
     }
-    if m.len() - q < n {
+    if m.len() - at < n {
         return 0;
     }
-    here(m, at, m, q, n)
+    if same_long(m, at, m, q, n) {
+        return at + n;
+    }
+    0
 }
 
-// A text as it is spelled at a place: as it is written, or else tag by tag: the place behind it, or 0.
-fn anew(m: &[u8], at: usize, text: &[u8]) -> usize
-    requires { ⌜ (at ≤ length (now m)) × (4 ≤ length (now text)) ⌝ }
-    ensures { λ r. ⌜ (r ≤ length (now (m .entry))) × Found (Spelled (now (m .entry)) at (now (text .entry))) r ⌝ }
+// How run j is spelled at a place is kept, if nothing is. Where it was spelled otherwise before, it may be so again: then nothing is kept for some items, which are spelled at once.
+fn keep_run(m: &[u8], at: usize, e: usize, w: &mut [usize; 101], j: usize)
+    requires { ⌜ (j < 32) × (0 < e) × Found (Spelled (now m) at (textAt j)) e × Kept (now m) (now w) ⌝ }
+    ensures { λ _. ⌜ Kept (now (m .entry)) (now (w .exit)) ⌝ }
 {
-    let a = here(m, at, text, 0, text.len());
-    if a != 0 {
-        return a;
+    if w[j + 32] != 0 {
+        w[j + 32] = 0;
+        w[j] = 8;
+        return;
     }
-    spell(m, at, text)
+    if w[j] != 0 {
+        w[j] = w[j] - 1;
+        return;
+    }
+    w[j] = at;
+    w[j + 32] = e - at;
 }
 
-// A run of tags: as an item before this one spelled it, or anew; how it is spelled then is kept.
-fn run(m: &[u8], at: usize, text: &[u8], w: &mut [usize; 101], j: usize) -> usize
-    requires { ⌜ (at ≤ length (now m)) × (now text ≡ textAt j) × (4 ≤ length (now text)) × (j < 32) × Kept (now m) (now w) ⌝ }
+// Run j as an item before this one spelled it: the place behind it, or 0.
+fn as_before(m: &[u8], at: usize, w: &mut [usize; 101], j: usize) -> usize
+    requires { ⌜ (at ≤ length (now m)) × (j < 32) × Kept (now m) (now w) ⌝ }
     ensures { λ r. ⌜ (r ≤ length (now (m .entry))) × Found (Spelled (now (m .entry)) at (textAt j)) r × Kept (now (m .entry)) (now (w .exit)) ⌝ }
 {
-    let b = again(m, at, w[j], w[j + 32]);
+    again(m, at, w[j], w[j + 32])
+}
+
+// Run j spelled anew, tag by tag.
+fn anew(m: &[u8], at: usize, t: &[u8], w: &mut [usize; 101], j: usize) -> usize
+    requires { ⌜ (at ≤ length (now m)) × (j < 29) × Texts (now t) × Kept (now m) (now w) ⌝ }
+    ensures { λ r. ⌜ (r ≤ length (now (m .entry))) × Found (Spelled (now (m .entry)) at (textAt j)) r × Kept (now (m .entry)) (now (w .exit)) ⌝ }
+{
+    let from = 96 * j;
+    let n = size(t[from + 80]);
+    let e = spell(m, at, &t[from..from + n], &t[from + 81..from + 96]);
+    if e != 0 {
+        keep_run(m, at, e, w, j);
+    }
+    e
+}
+
+// Run j: as an item before this one spelled it, or anew.
+fn run(m: &[u8], at: usize, t: &[u8], w: &mut [usize; 101], j: usize) -> usize
+    requires { ⌜ (at ≤ length (now m)) × (j < 29) × Texts (now t) × Kept (now m) (now w) ⌝ }
+    ensures { λ r. ⌜ (r ≤ length (now (m .entry))) × Found (Spelled (now (m .entry)) at (textAt j)) r × Kept (now (m .entry)) (now (w .exit)) ⌝ }
+{
+    let b = as_before(m, at, w, j);
     if b != 0 {
         return b;
     }
-    let c = anew(m, at, text);
-    if c != 0 {
-        w[j] = at;
-        w[j + 32] = c - at;
-    }
-    c
+    anew(m, at, t, w, j)
+}
+
+// The start tag of an item stands at a place, after white space: the place behind it, or 0.
+pub fn item_tag(m: &[u8], at: usize) -> usize
+    requires { ⌜ at ≤ length (now m) ⌝ }
+    ensures { λ r. ⌜ (r ≤ length (now (m .entry))) × Found (ItemBegins (now (m .entry)) at) r ⌝ }
+{
+    let p = at + tags::spaces(&m[at..]);
+    here(m, p, b"<DrctDbtTxInf>", 0, 14)
 }
 
 // ---- stretches: from behind a value to another value, as an item before had them
 
-// The sixteen bytes at two places are the same, by two words.
-fn same_pair(m: &[u8], at: usize, q: usize) -> bool
-    requires { ⌜ (at + 16 ≤ length (now m)) × (q + 16 ≤ length (now m)) ⌝ }
-    ensures { λ r. ⌜ (r ≡ true → Match (now (m .entry)) at (now (m .entry)) q 16) ⌝ }
+// How far two bytes are apart: 0 where they are the same.
+fn apart(a: u8, b: u8) -> u8
+    ensures { λ r. ⌜ (r ≡ 0 → a ≡ b) ⌝ }
 {
-    (word(m, at) == word(m, q)) & (word(m, at + 8) == word(m, q + 8))
+    std::num::wrapping_sub_u8(a, b)
 }
 
-// The same for 32 bytes, with no branch between.
+// The 64 bytes at two places are the same, with no branch between.
 fn same_block(m: &[u8], at: usize, q: usize) -> bool
-    requires { ⌜ (at + 32 ≤ length (now m)) × (q + 32 ≤ length (now m)) ⌝ }
-    ensures { λ r. ⌜ (r ≡ true → Match (now (m .entry)) at (now (m .entry)) q 32) ⌝ }
+    requires { ⌜ (at + 64 ≤ length (now m)) × (q + 64 ≤ length (now m)) ⌝ }
+    ensures { λ r. ⌜ (r ≡ true → Match (now (m .entry)) at (now (m .entry)) q 64) ⌝ }
 {
-    same_pair(m, at, q) & same_pair(m, at + 16, q + 16)
+    let mut d: u8 = 0;
+    let mut i = 0;
+    while i < 64 {
+        d |= apart(m[at + i], m[q + i]);
+        i += 1;
+    }
+    d == 0
 }
 
-// The same for 32 bytes and more: 32 a turn, the last 32 overlap.
+// The same for 64 bytes and more: 64 a turn, the last 64 overlap.
 fn same_wide(m: &[u8], at: usize, q: usize, n: usize) -> bool
-    requires { ⌜ (at + n ≤ length (now m)) × (q + n ≤ length (now m)) × (32 ≤ n) ⌝ }
+    requires { ⌜ (at + n ≤ length (now m)) × (q + n ≤ length (now m)) × (64 ≤ n) ⌝ }
     ensures { λ r. ⌜ (r ≡ true → Match (now (m .entry)) at (now (m .entry)) q n) ⌝ }
 {
-    let z = n - 32;
+    let z = n - 64;
     let mut i = 0;
     while i < z {
         if !same_block(m, at + i, q + i) {
             return false;
         }
-        i += 32;
+        i += 64;
     }
     same_block(m, at + z, q + z)
 }
 
-// The n bytes at q stand at another place too, where n is large: the place behind them, or 0. (Apart from `again`, which is laid into every run and must stay small.)
+// The same of 64 or more. (Apart from `again`, which is laid into every run and must stay small.)
 fn again_wide(m: &[u8], at: usize, q: usize, n: usize) -> usize
     requires { ⌜ at ≤ length (now m) ⌝ }
     ensures { λ r. ⌜ (r ≤ length (now (m .entry))) × (n ≡ 0 → r ≡ 0) × Found (Past (now (m .entry)) at (part q n (now (m .entry)))) r ⌝ }
 {
-    if n < 32 {
+    if n < 64 {
         return 0;
     }
-    if at == 0 {
-        return 0;
-    }
-    if m.len() < q {
-        return 0;
-    }
-    if m.len() - q < n {
+    if at <= q {
         return 0;
     }
     if m.len() - at < n {
@@ -526,17 +572,21 @@ struct Begun {
 }
 
 // From behind an item's start tag to the value of EndToEndId, past InstrId where there is one.
-fn begin(m: &[u8], at: usize, w: &mut [usize; 101]) -> Begun
-    requires { ⌜ (at ≤ length (now m)) × Kept (now m) (now w) ⌝ }
+fn begin(m: &[u8], at: usize, t: &[u8], w: &mut [usize; 101]) -> Begun
+    requires { ⌜ (at ≤ length (now m)) × Texts (now t) × Kept (now m) (now w) ⌝ }
     ensures { λ r. ⌜ (r .at ≤ length (now (m .entry))) × (r .first ≤ length (now (m .entry))) × Found (Gone (now (m .entry)) at (begunLegs (r .first))) (r .at) × Kept (now (m .entry)) (now (w .exit)) ⌝ }
 {
-    let a = run(m, at, b"<PmtId><InstrId>", w, 0);
+    let e = as_before(m, at, w, 1);
+    if e != 0 {
+        return Begun { at: e, first: 0 };
+    }
+    let a = run(m, at, t, w, 0);
     if a == 0 {
-        let z = run(m, at, b"<PmtId><EndToEndId>", w, 1);
+        let z = anew(m, at, t, w, 1);
         return Begun { at: z, first: 0 };
     }
     let b = reference(m, a, w, 96);
-    let z = run(m, b, b"</InstrId><EndToEndId>", w, 2);
+    let z = run(m, b, t, w, 2);
     Begun { at: z, first: a }
 }
 
@@ -548,13 +598,13 @@ struct Ids {
 }
 
 // Up to the value of TxId.
-fn read_ids(m: &[u8], at: usize, w: &mut [usize; 101]) -> Ids
-    requires { ⌜ (at ≤ length (now m)) × Kept (now m) (now w) ⌝ }
+fn read_ids(m: &[u8], at: usize, t: &[u8], w: &mut [usize; 101]) -> Ids
+    requires { ⌜ (at ≤ length (now m)) × Texts (now t) × Kept (now m) (now w) ⌝ }
     ensures { λ r. ⌜ (r .at ≤ length (now (m .entry))) × (r .first ≤ length (now (m .entry))) × (r .ends ≤ length (now (m .entry))) × Found (Gone (now (m .entry)) at (idsLegs (r .first) (r .ends))) (r .at) × Kept (now (m .entry)) (now (w .exit)) ⌝ }
 {
-    let e = begin(m, at, w);
+    let e = begin(m, at, t, w);
     let a = end_to_end(m, e.at, w, 97);
-    let z = run(m, a, b"</EndToEndId><TxId>", w, 3);
+    let z = run(m, a, t, w, 3);
     Ids {
         at: z,
         first: e.first,
@@ -618,27 +668,21 @@ fn typed_again(m: &[u8], at: usize, first: u64, w: &mut [usize; 101]) -> Codes
 }
 
 // The payment type from behind TxId, up to the value of the amount.
-fn typed_anew(m: &[u8], at: usize, first: u64, w: &mut [usize; 101]) -> Codes
-    requires { ⌜ (at ≤ length (now m)) × Kept (now m) (now w) ⌝ }
+fn typed_anew(m: &[u8], at: usize, first: u64, t: &[u8], w: &mut [usize; 101]) -> Codes
+    requires { ⌜ (at ≤ length (now m)) × Texts (now t) × Kept (now m) (now w) ⌝ }
     ensures { λ r. ⌜ CodesWithin (length (now (m .entry))) r × Found (Gone (now (m .entry)) at (typedLegs (r .level) (r .service) (r .sequence) (r .listed))) (r .at) × ((0 < r .at) → mayFollow first (r .listed) ≡ true) × Kept (now (m .entry)) (now (w .exit)) ⌝ }
 {
     let o = tag_at(m, at);
-    let p = run(m, o, b"</TxId></PmtId><PmtTpInf><SvcLvl><Cd>", w, 4);
+    let p = run(m, o, t, w, 4);
     let a = swift_values::code(Element::SvcLvl, m, p);
-    let b = run(m, a.at, b"</Cd></SvcLvl><LclInstrm><Cd>", w, 6);
+    let b = run(m, a.at, t, w, 6);
     let c = swift_values::code(Element::LclInstrm, m, b);
     if !may_follow(first, c.worth) {
         return no_codes();
     }
-    let d = run(m, c.at, b"</Cd></LclInstrm><SeqTp>", w, 7);
+    let d = run(m, c.at, t, w, 7);
     let e = swift_values::code(Element::SeqTp, m, d);
-    let z = run(
-        m,
-        e.at,
-        b"</SeqTp></PmtTpInf><IntrBkSttlmAmt Ccy=\"EUR\">",
-        w,
-        8,
-    );
+    let z = run(m, e.at, t, w, 8);
     Codes {
         at: z,
         level: p,
@@ -662,15 +706,15 @@ fn keep_typed(m: &[u8], at: usize, r: Codes, w: &mut [usize; 101])
 }
 
 // The payment type: as an item before had it, or anew, and then it is kept.
-fn read_typed(m: &[u8], at: usize, first: u64, w: &mut [usize; 101]) -> Codes
-    requires { ⌜ (at ≤ length (now m)) × Kept (now m) (now w) ⌝ }
+fn read_typed(m: &[u8], at: usize, first: u64, t: &[u8], w: &mut [usize; 101]) -> Codes
+    requires { ⌜ (at ≤ length (now m)) × Texts (now t) × Kept (now m) (now w) ⌝ }
     ensures { λ r. ⌜ CodesWithin (length (now (m .entry))) r × Found (Gone (now (m .entry)) at (typedLegs (r .level) (r .service) (r .sequence) (r .listed))) (r .at) × ((0 < r .at) → mayFollow first (r .listed) ≡ true) × Kept (now (m .entry)) (now (w .exit)) ⌝ }
 {
     let a = typed_again(m, at, first, w);
     if a.at != 0 {
         return a;
     }
-    let b = typed_anew(m, at, first, w);
+    let b = typed_anew(m, at, first, t, w);
     if b.at != 0 {
         keep_typed(m, at, b, w);
     }
@@ -678,11 +722,11 @@ fn read_typed(m: &[u8], at: usize, first: u64, w: &mut [usize; 101]) -> Codes
 }
 
 // TxId's end tag and the amount's start tag: no payment type stands between them.
-fn no_type(m: &[u8], at: usize, w: &mut [usize; 101]) -> Codes
-    requires { ⌜ (at ≤ length (now m)) × Kept (now m) (now w) ⌝ }
+fn no_type(m: &[u8], at: usize, t: &[u8], w: &mut [usize; 101]) -> Codes
+    requires { ⌜ (at ≤ length (now m)) × Texts (now t) × Kept (now m) (now w) ⌝ }
     ensures { λ r. ⌜ (r .at ≤ length (now (m .entry))) × Found (Spelled (now (m .entry)) at (textAt 5)) (r .at) × (r .level ≡ 0) × (r .service ≡ 0) × (r .sequence ≡ 0) × (r .listed ≡ 0) × Kept (now (m .entry)) (now (w .exit)) ⌝ }
 {
-    let z = run(m, at, b"</TxId></PmtId><IntrBkSttlmAmt Ccy=\"EUR\">", w, 5);
+    let z = run(m, at, t, w, 5);
     Codes {
         at: z,
         level: 0,
@@ -693,22 +737,22 @@ fn no_type(m: &[u8], at: usize, w: &mut [usize; 101]) -> Codes
 }
 
 // TxId and the payment type, up to the value of the amount; said is what was said of the type before (1 that it is there, 2 that it is absent, 0 nothing): the same is not said again.
-fn kind(m: &[u8], at: usize, said: u8, first: u64, w: &mut [usize; 101]) -> Codes
-    requires { ⌜ (at ≤ length (now m)) × Kept (now m) (now w) ⌝ }
+fn kind(m: &[u8], at: usize, said: u8, first: u64, t: &[u8], w: &mut [usize; 101]) -> Codes
+    requires { ⌜ (at ≤ length (now m)) × Texts (now t) × Kept (now m) (now w) ⌝ }
     ensures { λ r. ⌜ CodesWithin (length (now (m .entry))) r × Found (Gone (now (m .entry)) at (typeLegs at (r .level) (r .service) (r .sequence) (r .listed))) (r .at) × ((0 < r .at) → Follows said first (r .level) (r .listed)) × Kept (now (m .entry)) (now (w .exit)) ⌝ }
 {
     let a = reference(m, at, w, 98);
     if said == 1 {
-        return no_type(m, a, w);
+        return no_type(m, a, t, w);
     }
-    let b = read_typed(m, a, first, w);
+    let b = read_typed(m, a, first, t, w);
     if b.at != 0 {
         return b;
     }
     if said == 2 {
         return no_codes();
     }
-    no_type(m, a, w)
+    no_type(m, a, t, w)
 }
 
 // Where ChrgBr and ReqdColltnDt begin, and the value of MndtId.
@@ -739,22 +783,16 @@ fn charged_again(m: &[u8], at: usize, w: &mut [usize; 101]) -> Charged
 }
 
 // ChrgBr and ReqdColltnDt from behind the amount, up to the value of MndtId.
-fn charged_anew(m: &[u8], at: usize, w: &mut [usize; 101]) -> Charged
-    requires { ⌜ (at ≤ length (now m)) × Kept (now m) (now w) ⌝ }
+fn charged_anew(m: &[u8], at: usize, t: &[u8], w: &mut [usize; 101]) -> Charged
+    requires { ⌜ (at ≤ length (now m)) × Texts (now t) × Kept (now m) (now w) ⌝ }
     ensures { λ r. ⌜ (r .at ≤ length (now (m .entry))) × (r .charge ≤ length (now (m .entry))) × (r .collected ≤ length (now (m .entry))) × Found (Gone (now (m .entry)) at (chargedLegs (r .charge) (r .collected))) (r .at) × Kept (now (m .entry)) (now (w .exit)) ⌝ }
 {
     let o = tag_at(m, at);
-    let b = run(m, o, b"</IntrBkSttlmAmt><ChrgBr>", w, 9);
+    let b = run(m, o, t, w, 9);
     let c = swift_values::code(Element::ChrgBr, m, b);
-    let d = run(m, c.at, b"</ChrgBr><ReqdColltnDt>", w, 10);
+    let d = run(m, c.at, t, w, 10);
     let e = swift_values::date(m, d);
-    let z = run(
-        m,
-        e,
-        b"</ReqdColltnDt><DrctDbtTx><MndtRltdInf><MndtId>",
-        w,
-        11,
-    );
+    let z = run(m, e, t, w, 11);
     Charged {
         at: z,
         charge: b,
@@ -774,15 +812,15 @@ fn keep_charged(m: &[u8], at: usize, r: Charged, w: &mut [usize; 101])
 }
 
 // ChrgBr and ReqdColltnDt: as an item before had them, or anew, and then they are kept.
-fn read_charged(m: &[u8], at: usize, w: &mut [usize; 101]) -> Charged
-    requires { ⌜ (at ≤ length (now m)) × Kept (now m) (now w) ⌝ }
+fn read_charged(m: &[u8], at: usize, t: &[u8], w: &mut [usize; 101]) -> Charged
+    requires { ⌜ (at ≤ length (now m)) × Texts (now t) × Kept (now m) (now w) ⌝ }
     ensures { λ r. ⌜ (r .at ≤ length (now (m .entry))) × (r .charge ≤ length (now (m .entry))) × (r .collected ≤ length (now (m .entry))) × Found (Gone (now (m .entry)) at (chargedLegs (r .charge) (r .collected))) (r .at) × Kept (now (m .entry)) (now (w .exit)) ⌝ }
 {
     let a = charged_again(m, at, w);
     if a.at != 0 {
         return a;
     }
-    let b = charged_anew(m, at, w);
+    let b = charged_anew(m, at, t, w);
     if b.at != 0 {
         keep_charged(m, at, b, w);
     }
@@ -798,12 +836,12 @@ struct Terms {
 }
 
 // From the amount to the value of MndtId.
-fn read_terms(m: &[u8], at: usize, w: &mut [usize; 101]) -> Terms
-    requires { ⌜ (at ≤ length (now m)) × Kept (now m) (now w) ⌝ }
+fn read_terms(m: &[u8], at: usize, t: &[u8], w: &mut [usize; 101]) -> Terms
+    requires { ⌜ (at ≤ length (now m)) × Texts (now t) × Kept (now m) (now w) ⌝ }
     ensures { λ r. ⌜ (r .at ≤ length (now (m .entry))) × (r .charge ≤ length (now (m .entry))) × (r .collected ≤ length (now (m .entry))) × (r .cents ≤ most Range.Item) × Found (Gone (now (m .entry)) at (termsLegs at (r .cents) (r .charge) (r .collected))) (r .at) × Kept (now (m .entry)) (now (w .exit)) ⌝ }
 {
     let a = swift_values::amount(m, at);
-    let b = read_charged(m, a.at, w);
+    let b = read_charged(m, a.at, t, w);
     Terms {
         at: b.at,
         cents: a.worth,
@@ -819,31 +857,25 @@ struct Two {
 }
 
 // The mandate, up to behind DtOfSgntr.
-fn mandate(m: &[u8], at: usize, w: &mut [usize; 101]) -> Two
-    requires { ⌜ (at ≤ length (now m)) × Kept (now m) (now w) ⌝ }
+fn mandate(m: &[u8], at: usize, t: &[u8], w: &mut [usize; 101]) -> Two
+    requires { ⌜ (at ≤ length (now m)) × Texts (now t) × Kept (now m) (now w) ⌝ }
     ensures { λ r. ⌜ (r .at ≤ length (now (m .entry))) × (r .noted ≤ length (now (m .entry))) × Found (Gone (now (m .entry)) at (mandateLegs at (r .noted))) (r .at) × Kept (now (m .entry)) (now (w .exit)) ⌝ }
 {
     let a = reference(m, at, w, 99);
-    let b = run(m, a, b"</MndtId><DtOfSgntr>", w, 12);
+    let b = run(m, a, t, w, 12);
     let z = swift_values::date(m, b);
     Two { at: z, noted: b }
 }
 
 // The creditor's identifier and its scheme, up to the creditor's name.
-fn scheme(m: &[u8], at: usize, w: &mut [usize; 101]) -> Two
-    requires { ⌜ (at ≤ length (now m)) × Kept (now m) (now w) ⌝ }
+fn scheme(m: &[u8], at: usize, t: &[u8], w: &mut [usize; 101]) -> Two
+    requires { ⌜ (at ≤ length (now m)) × Texts (now t) × Kept (now m) (now w) ⌝ }
     ensures { λ r. ⌜ (r .at ≤ length (now (m .entry))) × (r .noted ≤ length (now (m .entry))) × Found (Gone (now (m .entry)) at (schemeLegs at (r .noted))) (r .at) × Kept (now (m .entry)) (now (w .exit)) ⌝ }
 {
     let a = swift_values::identifier(m, at);
-    let b = run(m, a, b"</Id><SchmeNm><Prtry>", w, 14);
+    let b = run(m, a, t, w, 14);
     let c = swift_values::code(Element::Prtry, m, b);
-    let z = run(
-        m,
-        c.at,
-        b"</Prtry></SchmeNm></Othr></PrvtId></Id></CdtrSchmeId></DrctDbtTx><Cdtr><Nm>",
-        w,
-        15,
-    );
+    let z = run(m, c.at, t, w, 15);
     Two { at: z, noted: b }
 }
 
@@ -853,83 +885,46 @@ pub enum Side {
     Debtor,
 }
 
-// From a party's name to its account's number.
-fn to_iban(m: &[u8], at: usize, s: Side, w: &mut [usize; 101]) -> usize
-    requires { ⌜ (at ≤ length (now m)) × Kept (now m) (now w) ⌝ }
-    ensures { λ r. ⌜ (r ≤ length (now (m .entry))) × Found (Spelled (now (m .entry)) at (textAt (toIban s))) r × Kept (now (m .entry)) (now (w .exit)) ⌝ }
-{
-    match s {
-        Side::Creditor => run(m, at, b"</Nm></Cdtr><CdtrAcct><Id><IBAN>", w, 16),
-        Side::Debtor => run(m, at, b"</Nm></Dbtr><DbtrAcct><Id><IBAN>", w, 21),
-    }
-}
-
-// From the creditor's account's number to its agent's BIC.
-fn to_agent(m: &[u8], at: usize, v: Version, w: &mut [usize; 101]) -> usize
-    requires { ⌜ (at ≤ length (now m)) × Kept (now m) (now w) ⌝ }
-    ensures { λ r. ⌜ (r ≤ length (now (m .entry))) × Found (Spelled (now (m .entry)) at (textAt (toBic Side.Creditor v))) r × Kept (now (m .entry)) (now (w .exit)) ⌝ }
+// Of two runs that differ by the version, the one of a version: that of .08 comes next.
+fn by_version(j: usize, v: Version) -> usize
+    requires { ⌜ j < 28 ⌝ }
+    ensures { λ r. ⌜ (r ≡ byVersion j v) × (r < 29) ⌝ }
 {
     match v {
-        Version::V02 => run(
-            m,
-            at,
-            b"</IBAN></Id></CdtrAcct><CdtrAgt><FinInstnId><BIC>",
-            w,
-            17,
-        ),
-        Version::V08 => run(
-            m,
-            at,
-            b"</IBAN></Id></CdtrAcct><CdtrAgt><FinInstnId><BICFI>",
-            w,
-            18,
-        ),
+        Version::V02 => j,
+        Version::V08 => j + 1,
     }
 }
 
-// From the debtor's account's number to its agent's BIC.
-fn to_bank(m: &[u8], at: usize, v: Version, w: &mut [usize; 101]) -> usize
-    requires { ⌜ (at ≤ length (now m)) × Kept (now m) (now w) ⌝ }
-    ensures { λ r. ⌜ (r ≤ length (now (m .entry))) × Found (Spelled (now (m .entry)) at (textAt (toBic Side.Debtor v))) r × Kept (now (m .entry)) (now (w .exit)) ⌝ }
-{
-    match v {
-        Version::V02 => run(
-            m,
-            at,
-            b"</IBAN></Id></DbtrAcct><DbtrAgt><FinInstnId><BIC>",
-            w,
-            22,
-        ),
-        Version::V08 => run(
-            m,
-            at,
-            b"</IBAN></Id></DbtrAcct><DbtrAgt><FinInstnId><BICFI>",
-            w,
-            23,
-        ),
-    }
-}
-
-// From a party's account's number to its agent's BIC.
-fn to_bic(m: &[u8], at: usize, s: Side, v: Version, w: &mut [usize; 101]) -> usize
-    requires { ⌜ (at ≤ length (now m)) × Kept (now m) (now w) ⌝ }
-    ensures { λ r. ⌜ (r ≤ length (now (m .entry))) × Found (Spelled (now (m .entry)) at (textAt (toBic s v))) r × Kept (now (m .entry)) (now (w .exit)) ⌝ }
+// The run from a party's name to its account's number.
+fn to_iban(s: Side) -> usize
+    ensures { λ r. ⌜ (r ≡ toIban s) × (r < 29) ⌝ }
 {
     match s {
-        Side::Creditor => to_agent(m, at, v, w),
-        Side::Debtor => to_bank(m, at, v, w),
+        Side::Creditor => 16,
+        Side::Debtor => 21,
+    }
+}
+
+// The run from a party's account's number to its agent's BIC.
+fn to_bic(s: Side, v: Version) -> usize
+    ensures { λ r. ⌜ (r ≡ toBic s v) × (r < 29) ⌝ }
+{
+    match s {
+        Side::Creditor => by_version(17, v),
+        Side::Debtor => by_version(22, v),
     }
 }
 
 // A party's name and account, up to the value of its agent's BIC.
-fn party(m: &[u8], at: usize, s: Side, v: Version, w: &mut [usize; 101]) -> Two
-    requires { ⌜ (at ≤ length (now m)) × Kept (now m) (now w) ⌝ }
+fn party(m: &[u8], at: usize, s: Side, v: Version, t: &[u8], w: &mut [usize; 101]) -> Two
+    requires { ⌜ (at ≤ length (now m)) × Texts (now t) × Kept (now m) (now w) ⌝ }
     ensures { λ r. ⌜ (r .at ≤ length (now (m .entry))) × (r .noted ≤ length (now (m .entry))) × Found (Gone (now (m .entry)) at (partyLegs s v at (r .noted))) (r .at) × Kept (now (m .entry)) (now (w .exit)) ⌝ }
 {
     let a = swift_values::name(m, at);
-    let b = to_iban(m, a, s, w);
+    let b = run(m, a, t, w, to_iban(s));
     let c = swift_values::iban(m, b);
-    let z = to_bic(m, c, s, v, w);
+    let z = run(m, c, t, w, to_bic(s, v));
     Two { at: z, noted: b }
 }
 
@@ -943,24 +938,13 @@ fn bic(m: &[u8], at: usize, v: Version) -> usize
     }
 }
 
-// From the creditor's BIC to the debtor's name.
-fn to_debtor(m: &[u8], at: usize, v: Version, w: &mut [usize; 101]) -> usize
-    requires { ⌜ (at ≤ length (now m)) × Kept (now m) (now w) ⌝ }
-    ensures { λ r. ⌜ (r ≤ length (now (m .entry))) × Found (Spelled (now (m .entry)) at (textAt (toDebtor v))) r × Kept (now (m .entry)) (now (w .exit)) ⌝ }
-{
-    match v {
-        Version::V02 => run(m, at, b"</BIC></FinInstnId></CdtrAgt><Dbtr><Nm>", w, 19),
-        Version::V08 => run(m, at, b"</BICFI></FinInstnId></CdtrAgt><Dbtr><Nm>", w, 20),
-    }
-}
-
 // The creditor's BIC, up to the debtor's name.
-fn agent(m: &[u8], at: usize, v: Version, w: &mut [usize; 101]) -> usize
-    requires { ⌜ (at ≤ length (now m)) × Kept (now m) (now w) ⌝ }
+fn agent(m: &[u8], at: usize, v: Version, t: &[u8], w: &mut [usize; 101]) -> usize
+    requires { ⌜ (at ≤ length (now m)) × Texts (now t) × Kept (now m) (now w) ⌝ }
     ensures { λ r. ⌜ (r ≤ length (now (m .entry))) × Found (Gone (now (m .entry)) at (agentLegs v at)) r × Kept (now (m .entry)) (now (w .exit)) ⌝ }
 {
     let a = bic(m, at, v);
-    to_debtor(m, a, v, w)
+    run(m, a, t, w, by_version(19, v))
 }
 
 // Where the values of the creditor's side begin, and the debtor's name.
@@ -1012,21 +996,15 @@ fn creditor_again(m: &[u8], at: usize, v: Version, w: &mut [usize; 101]) -> Cred
 }
 
 // The creditor's side from behind DtOfSgntr, up to the debtor's name.
-fn creditor_anew(m: &[u8], at: usize, v: Version, w: &mut [usize; 101]) -> CreditorSide
-    requires { ⌜ (at ≤ length (now m)) × Kept (now m) (now w) ⌝ }
+fn creditor_anew(m: &[u8], at: usize, v: Version, t: &[u8], w: &mut [usize; 101]) -> CreditorSide
+    requires { ⌜ (at ≤ length (now m)) × Texts (now t) × Kept (now m) (now w) ⌝ }
     ensures { λ r. ⌜ SideWithin (length (now (m .entry))) r × Found (Gone (now (m .entry)) at (creditorLegs v (r .identifier) (r .scheme) (r .name) (r .account) (r .agent))) (r .at) × Kept (now (m .entry)) (now (w .exit)) ⌝ }
 {
     let o = tag_at(m, at);
-    let a = run(
-        m,
-        o,
-        b"</DtOfSgntr></MndtRltdInf><CdtrSchmeId><Id><PrvtId><Othr><Id>",
-        w,
-        13,
-    );
-    let b = scheme(m, a, w);
-    let c = party(m, b.at, Side::Creditor, v, w);
-    let z = agent(m, c.at, v, w);
+    let a = run(m, o, t, w, 13);
+    let b = scheme(m, a, t, w);
+    let c = party(m, b.at, Side::Creditor, v, t, w);
+    let z = agent(m, c.at, v, t, w);
     CreditorSide {
         at: z,
         identifier: a,
@@ -1053,80 +1031,38 @@ fn keep_creditor(m: &[u8], at: usize, v: Version, r: CreditorSide, w: &mut [usiz
 }
 
 // The creditor's side: as an item before had it, or anew, and then it is kept.
-fn read_creditor(m: &[u8], at: usize, v: Version, w: &mut [usize; 101]) -> CreditorSide
-    requires { ⌜ (at ≤ length (now m)) × Kept (now m) (now w) ⌝ }
+fn read_creditor(m: &[u8], at: usize, v: Version, t: &[u8], w: &mut [usize; 101]) -> CreditorSide
+    requires { ⌜ (at ≤ length (now m)) × Texts (now t) × Kept (now m) (now w) ⌝ }
     ensures { λ r. ⌜ SideWithin (length (now (m .entry))) r × Found (Gone (now (m .entry)) at (creditorLegs v (r .identifier) (r .scheme) (r .name) (r .account) (r .agent))) (r .at) × Kept (now (m .entry)) (now (w .exit)) ⌝ }
 {
     let a = creditor_again(m, at, v, w);
     if a.at != 0 {
         return a;
     }
-    let b = creditor_anew(m, at, v, w);
+    let b = creditor_anew(m, at, v, t, w);
     if b.at != 0 {
         keep_creditor(m, at, v, b, w);
     }
     b
 }
 
-// From the debtor's BIC to the remittance text.
-fn to_text(m: &[u8], at: usize, v: Version, w: &mut [usize; 101]) -> usize
-    requires { ⌜ (at ≤ length (now m)) × Kept (now m) (now w) ⌝ }
-    ensures { λ r. ⌜ (r ≤ length (now (m .entry))) × Found (Spelled (now (m .entry)) at (textAt (toText v))) r × Kept (now (m .entry)) (now (w .exit)) ⌝ }
-{
-    match v {
-        Version::V02 => run(
-            m,
-            at,
-            b"</BIC></FinInstnId></DbtrAgt><RmtInf><Ustrd>",
-            w,
-            24,
-        ),
-        Version::V08 => run(
-            m,
-            at,
-            b"</BICFI></FinInstnId></DbtrAgt><RmtInf><Ustrd>",
-            w,
-            25,
-        ),
-    }
-}
-
-// From the debtor's BIC to behind the item, where there is no remittance text.
-fn to_end(m: &[u8], at: usize, v: Version, w: &mut [usize; 101]) -> usize
-    requires { ⌜ (at ≤ length (now m)) × Kept (now m) (now w) ⌝ }
-    ensures { λ r. ⌜ (r ≤ length (now (m .entry))) × Found (Spelled (now (m .entry)) at (textAt (toEnd v))) r × Kept (now (m .entry)) (now (w .exit)) ⌝ }
-{
-    match v {
-        Version::V02 => run(
-            m,
-            at,
-            b"</BIC></FinInstnId></DbtrAgt></DrctDbtTxInf>",
-            w,
-            26,
-        ),
-        Version::V08 => run(
-            m,
-            at,
-            b"</BICFI></FinInstnId></DbtrAgt></DrctDbtTxInf>",
-            w,
-            27,
-        ),
-    }
-}
-
 // The debtor's BIC and the remittance text, where there is one, up to behind the item.
-fn last(m: &[u8], at: usize, v: Version, w: &mut [usize; 101]) -> Two
-    requires { ⌜ (at ≤ length (now m)) × Kept (now m) (now w) ⌝ }
+fn last(m: &[u8], at: usize, v: Version, t: &[u8], w: &mut [usize; 101]) -> Two
+    requires { ⌜ (at ≤ length (now m)) × Texts (now t) × Kept (now m) (now w) ⌝ }
     ensures { λ r. ⌜ (r .at ≤ length (now (m .entry))) × (r .noted ≤ length (now (m .entry))) × Found (Gone (now (m .entry)) at (lastLegs v at (r .noted))) (r .at) × Kept (now (m .entry)) (now (w .exit)) ⌝ }
 {
     let a = bic(m, at, v);
-    let b = to_text(m, a, v, w);
-    if b == 0 {
-        let e = to_end(m, a, v, w);
+    let e = as_before(m, a, w, by_version(26, v));
+    if e != 0 {
         return Two { at: e, noted: 0 };
     }
+    let b = run(m, a, t, w, by_version(24, v));
+    if b == 0 {
+        let z = anew(m, a, t, w, by_version(26, v));
+        return Two { at: z, noted: 0 };
+    }
     let c = remittance(m, b, w, 100);
-    let z = run(m, c, b"</Ustrd></RmtInf></DrctDbtTxInf>", w, 28);
+    let z = run(m, c, t, w, 28);
     Two { at: z, noted: b }
 }
 
@@ -1149,13 +1085,13 @@ pub struct Front {
 }
 
 // From behind an item's start tag to the value of MndtId.
-fn read_front(m: &[u8], at: usize, said: u8, first: u64, w: &mut [usize; 101]) -> Front
-    requires { ⌜ (at ≤ length (now m)) × Kept (now m) (now w) ⌝ }
+fn read_front(m: &[u8], at: usize, said: u8, first: u64, t: &[u8], w: &mut [usize; 101]) -> Front
+    requires { ⌜ (at ≤ length (now m)) × Texts (now t) × Kept (now m) (now w) ⌝ }
     ensures { λ r. ⌜ FrontWithin (length (now (m .entry))) r × Found (Gone (now (m .entry)) at (frontLegs r)) (r .at) × ((0 < r .at) → Followed said first r) × Kept (now (m .entry)) (now (w .exit)) ⌝ }
 {
-    let a = read_ids(m, at, w);
-    let b = kind(m, a.at, said, first, w);
-    let c = read_terms(m, b.at, w);
+    let a = read_ids(m, at, t, w);
+    let b = kind(m, a.at, said, first, t, w);
+    let c = read_terms(m, b.at, t, w);
     Front {
         at: c.at,
         first: a.first,
@@ -1188,14 +1124,14 @@ pub struct Back {
 }
 
 // From the value of MndtId to behind the item.
-fn read_back(m: &[u8], at: usize, v: Version, w: &mut [usize; 101]) -> Back
-    requires { ⌜ (at ≤ length (now m)) × Kept (now m) (now w) ⌝ }
+fn read_back(m: &[u8], at: usize, v: Version, t: &[u8], w: &mut [usize; 101]) -> Back
+    requires { ⌜ (at ≤ length (now m)) × Texts (now t) × Kept (now m) (now w) ⌝ }
     ensures { λ r. ⌜ BackWithin (length (now (m .entry))) r × Found (Gone (now (m .entry)) at (backLegs v at r)) (r .at) × Kept (now (m .entry)) (now (w .exit)) ⌝ }
 {
-    let a = mandate(m, at, w);
-    let c = read_creditor(m, a.at, v, w);
-    let e = party(m, c.at, Side::Debtor, v, w);
-    let f = last(m, e.at, v, w);
+    let a = mandate(m, at, t, w);
+    let c = read_creditor(m, a.at, v, t, w);
+    let e = party(m, c.at, Side::Debtor, v, t, w);
+    let f = last(m, e.at, v, t, w);
     Back {
         at: f.at,
         signed: a.noted,
@@ -1224,13 +1160,14 @@ pub fn read_item(
     v: Version,
     said: u8,
     first: u64,
+    t: &[u8],
     w: &mut [usize; 101],
 ) -> Item
-    requires { ⌜ (at ≤ length (now m)) × Kept (now m) (now w) ⌝ }
+    requires { ⌜ (at ≤ length (now m)) × Texts (now t) × Kept (now m) (now w) ⌝ }
     ensures { λ r. ⌜ FrontWithin (length (now (m .entry))) (r .front) × BackWithin (length (now (m .entry))) (r .back) × Found (Gone (now (m .entry)) at (itemLegs v r)) (r .back .at) × ((0 < r .back .at) → Followed said first (r .front)) × Kept (now (m .entry)) (now (w .exit)) ⌝ }
 {
-    let front = read_front(m, at, said, first, w);
-    let back = read_back(m, front.at, v, w);
+    let front = read_front(m, at, said, first, t, w);
+    let back = read_back(m, front.at, v, t, w);
     Item { front, back }
 }
 

@@ -20,7 +20,7 @@ use Rattle.check97.proofs.Told.{number-cons}
 use Rattle.swift_values.specs.Blocks.{All, AllAt, number}
 
 -- ---- the loop over a block
-or-none : (a b : ℕ) → bitOr a b ≡ 0 → (a ≡ 0) × (b ≡ 0)
+pub or-none : (a b : ℕ) → bitOr a b ≡ 0 → (a ≡ 0) × (b ≡ 0)
 or-none a b e = (omega (arith, or-add-and a b, and-le-r a b), omega (arith, or-add-and a b, and-le-l a b))
 
 module _ (f : ℕ → Bool) (s : List ℕ) (p : ℕ) where

@@ -19,13 +19,14 @@ then-open-requires c κs = search needs
 
 in-bulk-requires : tie.Need-in-bulk-requires
 in-bulk-requires c κs =
-    let the-args = c .before .before .before .before .before .args in
+    let the-args = c .before .before .before .before .before .before .args in
     let the-then-open = c .before .then-open in
-    let the-pre = c .before .before .before .before .before .pre in
+    let the-pre = c .before .before .before .before .before .before .pre in
     let m = the-args .m .now in (
       the-then-open .ensures .1,
       keeps-behind 0 (openOf (plainTag bulkName) m) (open-keeps m 0 (plainTag bulkName)) (stepped (the-args .before)) (stepped (the-then-open .result))
           (the-then-open .ensures .0) (the-pre .1),
+      the-pre .2,
     )
 
 slice-aggregate-then-close : tie.Need-slice-aggregate-then-close
@@ -39,7 +40,7 @@ same-length c = search needs
 
 returns : tie.Need-returns
 returns c =
-    let the-args = c .before .before .before .before .before .before .before .before .before .before .args in
+    let the-args = c .before .before .before .before .before .before .before .before .before .before .before .args in
     let the-then-open = c .before .before .before .before .before .before .then-open in
     let the-in-bulk = c .before .before .before .before .in-bulk in
     let m = the-args .m .now in

@@ -32,8 +32,8 @@ at-place-requires c κs = search needs
 one-item-requires : tie.Need-one-item-requires
 one-item-requires c κs =
     let s = c .before .before .before .before .before .seek in
-    let a = c .before .before .before .before .before .before .before .before .before .args in
-    let e = c .before .before .before .before .before .before .before .before .before .pre in
+    let a = c .before .before .before .before .before .before .before .before .before .before .args in
+    let e = c .before .before .before .before .before .before .before .before .before .before .pre in
     let m = a .m .now in
     let g = e .0 in
     let the-at-place = c .before .before .at-place in
@@ -46,6 +46,7 @@ one-item-requires c κs =
       omega (arith, i, w),
       rw j (e .1),
       e .2,
+      e .3,
     )
 
 enum-told-2 : tie.Need-enum-told-2
@@ -65,8 +66,8 @@ same-length c = search needs
 
 returns : tie.Need-returns
 returns c =
-    let a = c .before .before .before .before .before .before .before .before .before .before .before .before .args in
-    let e = c .before .before .before .before .before .before .before .before .before .before .before .before .pre in
+    let a = c .before .before .before .before .before .before .before .before .before .before .before .before .before .args in
+    let e = c .before .before .before .before .before .before .before .before .before .before .before .before .before .pre in
     let m = a .m .now in
     let g = e .0 in
     let s = c .before .before .before .before .before .before .before .before .seek in
@@ -81,27 +82,27 @@ returns c =
 
 returns-2 : tie.Need-returns-2
 returns-2 c =
-    let a = c .before .before .before .before .before .before .before .args in
-    let e = c .before .before .before .before .before .before .before .pre in
+    let a = c .before .before .before .before .before .before .before .before .args in
+    let e = c .before .before .before .before .before .before .before .before .pre in
     let m = a .m .now in
     let g = e .0 in
     let s = c .before .before .before .seek in
     let the-refuse = c .refuse in
     let y = by-cut m (a .st .at) (a .st .notes) g itemTag (s .result .at) (s .ensures .0) (s .ensures .1) (s .result .look) (s .ensures .2)
     (itemBody (a .v) m) (fault 4) (a .places .now) (c .before .enum-told2 .given .1) (stepped (the-refuse .result)) (the-refuse .ensures) in
-    ((y .0, later m 0 (a .st .at) (omega arith) (stepped (the-refuse .result)) (y .1), y .2), e .2)
+    ((y .0, later m 0 (a .st .at) (omega arith) (stepped (the-refuse .result)) (y .1), y .2), e .3)
 
 returns-3 : tie.Need-returns-3
 returns-3 c =
-    let a = c .before .before .before .before .before .before .before .args in
-    let e = c .before .before .before .before .before .before .before .pre in
+    let a = c .before .before .before .before .before .before .before .before .args in
+    let e = c .before .before .before .before .before .before .before .before .pre in
     let m = a .m .now in
     let g = e .0 in
     let s = c .before .before .before .seek in
     let the-refuse2 = c .refuse2 in
     let y = by-other m (a .st .at) (a .st .notes) g itemTag (s .result .at) (s .ensures .0) (s .ensures .1) (s .result .look) (s .ensures .2)
     (itemBody (a .v) m) (fault 4) (a .places .now) (c .before .enum-told3 .given .1) 0 (stepped (the-refuse2 .result)) _ (the-refuse2 .ensures, rw (the-refuse2 .ensures) (s .ensures .1), refl) in
-    (y, e .2)
+    (y, e .3)
 
 pub first-item-spec : {M : Type 1} → statement M
 first-item-spec =

@@ -20,7 +20,7 @@ read-on-requires c κs = search needs
 
 item-exact-requires : tie.Need-item-exact-requires
 item-exact-requires c κs =
-    let h = c .before .before .before .before .before .before .before .before .before .before .before .pre in
+    let h = c .before .before .before .before .before .before .before .before .before .before .before .before .pre in
     rw (c .before .read-on .ensures) ((h .0, omega arith), h .1)
 
 same-length : tie.Need-same-length
@@ -28,7 +28,7 @@ same-length c = search needs
 
 returns : tie.Need-returns
 returns c =
-    let a = c .before .before .before .before .before .before .before .before .before .before .before .before .before .before .args in
+    let a = c .before .before .before .before .before .before .before .before .before .before .before .before .before .before .before .args in
     let e = c .before .before .item-exact in (
       then-so (a .m .now) (trace (inItem (a .v)) (a .m .now)) (stated (a .st)) (stepped (c .before .before .before .before .read-on .result)) (a .places .now) (stepped (e .result)) _ (c .before .before .before .before .read-on .ensures) (e .ensures),
       c .before .before .before .before .before .before .before .before .before .read-item .ensures .4,
@@ -37,16 +37,16 @@ returns c =
 cast-file : tie.Need-cast-file
 cast-file c =
     let r = c .before .before .before .before .before .read-item in
-    omega (arith, r .ensures .0 .tx, c .before .before .before .before .before .before .before .before .before .before .pre .0 .small)
+    omega (arith, r .ensures .0 .tx, c .before .before .before .before .before .before .before .before .before .before .before .pre .0 .small)
 
 file-requires : tie.Need-file-requires
 file-requires c κs = search needs
 
 note-item-requires : tie.Need-note-item-requires
 note-item-requires c κs =
-    let h = c .before .before .before .before .before .before .before .before .before .before .before .before .before .before .pre in
+    let h = c .before .before .before .before .before .before .before .before .before .before .before .before .before .before .before .pre in
     let r = c .before .before .before .before .before .before .before .before .before .read-item in
-    let a = c .before .before .before .before .before .before .before .before .before .before .before .before .before .before .args in
+    let a = c .before .before .before .before .before .before .before .before .before .before .before .before .before .before .before .args in
     (front-within _ mostBytes _ (r .ensures .0) (h .0 .small), back-within _ mostBytes _ (r .ensures .1) (h .0 .small), cents-fit (a .m .now) (a .st .at) (a .st .notes) _ (h .0) (h .1) (r .ensures .0 .cents))
 
 read-on-requires-2 : tie.Need-read-on-requires-2
@@ -57,8 +57,8 @@ same-length-2 c = search needs
 
 returns-2 : tie.Need-returns-2
 returns-2 c =
-    let a = c .before .before .before .before .before .before .before .before .before .before .before .before .before .before .before .before .args in
-    let h = c .before .before .before .before .before .before .before .before .before .before .before .before .before .before .before .before .pre in
+    let a = c .before .before .before .before .before .before .before .before .before .before .before .before .before .before .before .before .before .args in
+    let h = c .before .before .before .before .before .before .before .before .before .before .before .before .before .before .before .before .before .pre in
     let r = c .before .before .before .before .before .before .before .before .before .before .before .read-item in
     let n = c .before .note-item in
     let f = c .before .before .before .before .file in (

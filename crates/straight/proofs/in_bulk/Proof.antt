@@ -24,30 +24,30 @@ header-exact-requires c κs = search needs
 
 then-first-requires : tie.Need-then-first-requires
 then-first-requires c κs =
-    let the-args = c .before .before .before .before .before .before .before .before .before .args in
+    let the-args = c .before .before .before .before .before .before .before .before .before .before .args in
     let the-then-open = c .before .before .before .before .before .then-open in
     let the-header-exact = c .before .before .before .header-exact in
-    let the-pre = c .before .before .before .before .before .before .before .before .before .pre in
+    let the-pre = c .before .before .before .before .before .before .before .before .before .before .pre in
     let m = the-args .m .now in
     let o = stepped (the-then-open .result) in
     let h = stepped (the-header-exact .result) in
     let i1 = keeps-behind 0 (openOf (plainTag headerName) m) (open-keeps m 0 (plainTag headerName)) (stepped (the-args .before)) o (the-then-open .ensures .0) (the-pre .1) in
     let i2 = keeps-behind 0 (trace (inHeader (the-args .v)) m) (header-keeps (the-args .v) m) o h (the-header-exact .ensures .0) i1 in
-    (the-header-exact .ensures .1, i2)
+    (the-header-exact .ensures .1, i2, the-pre .2)
 
 more-items-requires : tie.Need-more-items-requires
 more-items-requires c κs =
-    let the-args = c .before .before .before .before .before .before .before .before .before .before .before .before .before .args in
+    let the-args = c .before .before .before .before .before .before .before .before .before .before .before .before .before .before .args in
     let the-then-open = c .before .before .before .before .before .before .before .before .before .then-open in
     let the-header-exact = c .before .before .before .before .before .before .before .header-exact in
-    let the-pre = c .before .before .before .before .before .before .before .before .before .before .before .before .before .pre in
+    let the-pre = c .before .before .before .before .before .before .before .before .before .before .before .before .before .before .pre in
     let the-then-first = c .before .before .before .then-first in
     let m = the-args .m .now in
     let o = stepped (the-then-open .result) in
     let h = stepped (the-header-exact .result) in
     let i1 = keeps-behind 0 (openOf (plainTag headerName) m) (open-keeps m 0 (plainTag headerName)) (stepped (the-args .before)) o (the-then-open .ensures .0) (the-pre .1) in
     let i2 = keeps-behind 0 (trace (inHeader (the-args .v)) m) (header-keeps (the-args .v) m) o h (the-header-exact .ensures .0) i1 in
-    (the-then-first .ensures .1, keeps-behind 0 (dueItem (the-args .v) m) (first-keeps (the-args .v) m) h (stepped (the-then-first .result)) (the-then-first .ensures .0) i2)
+    (the-then-first .ensures .1, keeps-behind 0 (dueItem (the-args .v) m) (first-keeps (the-args .v) m) h (stepped (the-then-first .result)) (the-then-first .ensures .0) i2, the-pre .2)
 
 same-length : tie.Need-same-length
 same-length c =
@@ -57,7 +57,7 @@ same-length c =
 
 returns : tie.Need-returns
 returns c =
-    let the-args = c .before .before .before .before .before .before .before .before .before .before .before .before .before .before .before .before .args in
+    let the-args = c .before .before .before .before .before .before .before .before .before .before .before .before .before .before .before .before .before .args in
     let the-then-open = c .before .before .before .before .before .before .before .before .before .before .before .before .then-open in
     let the-header-exact = c .before .before .before .before .before .before .before .before .before .before .header-exact in
     let the-then-first = c .before .before .before .before .before .before .then-first in

@@ -41,19 +41,26 @@ cast-new c = search needs
 new-requires-3 : tie.Need-new-requires-3
 new-requires-3 c κs = search needs
 
+texts-requires : tie.Need-texts-requires
+texts-requires c κs = search needs
+
 read-on-requires : tie.Need-read-on-requires
 read-on-requires c κs = search needs
 
+slice-aggregate-bulk : tie.Need-slice-aggregate-bulk
+slice-aggregate-bulk c = search needs
+
 bulk-requires : tie.Need-bulk-requires
 bulk-requires c κs =
-    let the-read-on = c .before .read-on in
-    let the-args = c .before .before .before .before .before .before .before .args in
-    let the-if1 = c .before .before .before .before .if1 in
-    let the-if2 = c .before .before .before .if2 in
-    let the-new3 = c .before .before .new3 in
+    let the-read-on = c .before .before .read-on in
+    let the-args = c .before .before .before .before .before .before .before .before .before .args in
+    let the-if1 = c .before .before .before .before .before .before .if1 in
+    let the-if2 = c .before .before .before .before .before .if2 in
+    let the-new3 = c .before .before .before .before .new3 in
     let r = stepped (the-read-on .result) in (
       starts-fine (the-args .v) (the-args .m .now) (the-args .at) (the-if1 .left) (the-if2 .left) (stated (the-new3 .result)) (the-new3 .ensures) r (the-read-on .ensures),
       starts-behind (the-args .v) (the-args .m .now) (the-args .at) (the-if1 .left) (the-if2 .left) (stated (the-new3 .result)) (the-new3 .ensures) r (the-read-on .ensures),
+      c .before .before .before .texts .ensures,
     )
 
 same-length : tie.Need-same-length
@@ -61,11 +68,11 @@ same-length c = search needs
 
 returns-3 : tie.Need-returns-3
 returns-3 c =
-    let the-args = c .before .before .before .before .before .before .before .before .before .before .args in
-    let the-if1 = c .before .before .before .before .before .before .before .if1 in
-    let the-if2 = c .before .before .before .before .before .before .if2 in
-    let the-new3 = c .before .before .before .before .before .new3 in
-    let the-read-on = c .before .before .before .before .read-on in
+    let the-args = c .before .before .before .before .before .before .before .before .before .before .before .before .args in
+    let the-if1 = c .before .before .before .before .before .before .before .before .before .if1 in
+    let the-if2 = c .before .before .before .before .before .before .before .before .if2 in
+    let the-new3 = c .before .before .before .before .before .before .before .new3 in
+    let the-read-on = c .before .before .before .before .before .read-on in
     let the-bulk = c .before .before .bulk in
     message-makes (the-args .v) (the-args .m .now) (the-args .at) (the-if1 .left) (the-if2 .left) (stated (the-new3 .result)) (the-new3 .ensures) (stepped (the-read-on .result)) (the-read-on .ensures)
     (the-args .places .now) (stepped (the-bulk .result)) _ (the-bulk .ensures)
@@ -82,7 +89,9 @@ message-spec =
     returns-2
     cast-new
     new-requires-3
+    texts-requires
     read-on-requires
+    slice-aggregate-bulk
     bulk-requires
     same-length
     returns-3)

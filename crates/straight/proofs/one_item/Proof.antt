@@ -18,18 +18,19 @@ add-after : tie.Need-add-after
 add-after c = search needs
 
 after-requires : tie.Need-after-requires
-after-requires c κs = omega (arith, (c .before .before .before .before .pre) .1, (c .before .before .before .before .pre) .0 .small)
+after-requires c κs = omega (arith, (c .before .before .before .before .before .pre) .1, (c .before .before .before .before .before .pre) .0 .small)
 
 then-held-requires : tie.Need-then-held-requires
 then-held-requires c κs =
-    let the-pre = c .before .before .before .before .before .before .before .pre in
+    let the-pre = c .before .before .before .before .before .before .before .before .pre in
     let the-begin-item = c .before .before .before .before .begin-item in
-    let a = (c .before .before .before .before .before .before .before .args) in (
+    let a = (c .before .before .before .before .before .before .before .before .args) in (
       item-fine (a .m .now) (a .st .at) (a .st .notes) (stepped (the-begin-item .result)) (stepped ((c .before .before .after) .result)) (the-begin-item .ensures) (a .st .at + 14)
           ((c .before .before .after) .ensures) (the-pre .0) (the-pre .1),
       item-room (a .m .now) (a .st .at) (a .st .notes) (stepped (the-begin-item .result)) (stepped ((c .before .before .after) .result))
           (the-begin-item .ensures) (a .st .at + 14) ((c .before .before .after) .ensures) (the-pre .2),
       the-pre .3,
+      the-pre .4,
     )
 
 same-length : tie.Need-same-length
@@ -40,7 +41,7 @@ returns c =
     let the-begin-item = c .before .before .before .before .before .before .before .begin-item in
     let the-after = c .before .before .before .before .before .after in
     let the-then-held = c .before .before .then-held in
-    let a = (c .before .before .before .before .before .before .before .before .before .before .args) in (
+    let a = (c .before .before .before .before .before .before .before .before .before .before .before .args) in (
       item-makes (a .m .now) (a .st .at) (a .st .notes) (stepped (the-begin-item .result)) (stepped (the-after .result)) (the-begin-item .ensures) (a .st .at + 14) (the-after .ensures)
           (a .v) refl (a .places .now) (stepped (the-then-held .result)) _ (the-then-held .ensures .0),
       the-then-held .ensures .1,

@@ -15,20 +15,11 @@ returns c = search needs
 returns-2 : tie.Need-returns-2
 returns-2 c = search needs
 
+sub-if3 : tie.Need-sub-if3
+sub-if3 c = search needs
+
 returns-3 : tie.Need-returns-3
 returns-3 c = search needs
-
-sub-if4 : tie.Need-sub-if4
-sub-if4 c = search needs
-
-returns-4 : tie.Need-returns-4
-returns-4 c = search needs
-
-sub-if5 : tie.Need-sub-if5
-sub-if5 c = search needs
-
-returns-5 : tie.Need-returns-5
-returns-5 c = search needs
 
 same-wide-requires : tie.Need-same-wide-requires
 same-wide-requires c κs = search needs
@@ -36,17 +27,17 @@ same-wide-requires c κs = search needs
 add-result : tie.Need-add-result
 add-result c = search needs
 
-returns-6 : tie.Need-returns-6
-returns-6 c =
-    let a = c .before .before .before .before .before .before .before .before .args in
+returns-4 : tie.Need-returns-4
+returns-4 c =
+    let a = (c .before .before .before .before .before .before .args) in
     let m = a .m .now in (
       omega arith,
       (λ e. absurd (let z : ⊥ = omega arith in z)),
-      found (Past m (a .at) (part (a .q) (a .n) m)) (a .at + a .n) (past-here m (a .at) m (a .q) (a .n) (omega arith) (omega arith) (omega arith) (c .before .same-wide .ensures (c .if6 .taken))),
+      found (Past m (a .at) (part (a .q) (a .n) m)) (a .at + a .n) (past-here m (a .at) m (a .q) (a .n) (omega arith) (omega arith) (omega arith) ((c .before .same-wide) .ensures ((c .if4) .taken))),
     )
 
-returns-7 : tie.Need-returns-7
-returns-7 c = search needs
+returns-5 : tie.Need-returns-5
+returns-5 c = search needs
 
 pub again-wide-spec : {M : Type 1} → statement M
 again-wide-spec =
@@ -54,12 +45,9 @@ again-wide-spec =
     (tie.spec
     returns
     returns-2
+    sub-if3
     returns-3
-    sub-if4
-    returns-4
-    sub-if5
-    returns-5
     same-wide-requires
     add-result
-    returns-6
-    returns-7)
+    returns-4
+    returns-5)

@@ -12,46 +12,47 @@ use borrow.Author.Needs.{needs}
 use Rattle.straight.proofs.quick.begin.Statement.{statement}
 use Rattle.straight.proofs.quick.begin.Tie as tie
 
-slice-aggregate-run : tie.Need-slice-aggregate-run
-slice-aggregate-run c = search needs
+as-before-requires : tie.Need-as-before-requires
+as-before-requires c κs = search needs
+
+returns : tie.Need-returns
+unfolding textAt
+returns c =
+    let a = (c .before .before .before .before .before .args) in
+    let m = a .m .now in
+    let z = (c .before .as-before) in
+    (z .ensures .0, omega arith, gone-tags m (a .at) (tagsAt 1) (z .result) [] (z .result) refl (z .ensures .1) (gone-here m (z .result) (z .ensures .0)), z .ensures .2)
 
 run-requires : tie.Need-run-requires
 unfolding textAt
 run-requires c κs = search needs
 
-slice-aggregate-run-2 : tie.Need-slice-aggregate-run-2
-slice-aggregate-run-2 c = search needs
+anew-requires : tie.Need-anew-requires
+anew-requires c κs = search needs
 
-run-requires-2 : tie.Need-run-requires-2
+returns-2 : tie.Need-returns-2
 unfolding textAt
-run-requires-2 c κs = search needs
-
-returns : tie.Need-returns
-unfolding textAt
-returns c =
-    let a = c .before .before .before .before .before .before .before .before .args in
+returns-2 c =
+    let a = (c .before .before .before .before .before .before .before .before .before .before .args) in
     let m = a .m .now in
-    let z = c .run2 in
+    let z = (c .anew) in
     (z .ensures .0, omega arith, gone-tags m (a .at) (tagsAt 1) (z .result) [] (z .result) refl (z .ensures .1) (gone-here m (z .result) (z .ensures .0)), z .ensures .2)
 
 reference-requires : tie.Need-reference-requires
 reference-requires c κs = search needs
 
-slice-aggregate-run-3 : tie.Need-slice-aggregate-run-3
-slice-aggregate-run-3 c = search needs
-
-run-requires-3 : tie.Need-run-requires-3
+run-requires-2 : tie.Need-run-requires-2
 unfolding textAt
-run-requires-3 c κs = search needs
+run-requires-2 c κs = search needs
 
-returns-2 : tie.Need-returns-2
+returns-3 : tie.Need-returns-3
 unfolding textAt
-returns-2 c =
-    let a = c .before .before .before .before .before .before .before .before .before .before .args in
+returns-3 c =
+    let a = (c .before .before .before .before .before .before .before .before .before .before .before .before .args) in
     let m = a .m .now in
-    let r = c .before .before .before .before .before .before .run in
-    let v = c .before .before .before .reference in
-    let z = c .run3 in (
+    let r = (c .before .before .before .before .before .run) in
+    let v = (c .before .before .reference) in
+    let z = (c .run2) in (
       z .ensures .0,
       r .ensures .0,
       begun-with m (a .at) (r .result) (z .result) (omega arith)
@@ -65,12 +66,11 @@ pub begin-spec : {M : Type 1} → statement M
 begin-spec =
     tie.close
     (tie.spec
-    slice-aggregate-run
-    run-requires
-    slice-aggregate-run-2
-    run-requires-2
+    as-before-requires
     returns
+    run-requires
+    anew-requires
+    returns-2
     reference-requires
-    slice-aggregate-run-3
-    run-requires-3
-    returns-2)
+    run-requires-2
+    returns-3)

@@ -14,18 +14,12 @@ use Rattle.straight.proofs.quick.charged_anew.Tie as tie
 tag-at-requires : tie.Need-tag-at-requires
 tag-at-requires c κs = search needs
 
-slice-aggregate-run : tie.Need-slice-aggregate-run
-slice-aggregate-run c = search needs
-
 run-requires : tie.Need-run-requires
 unfolding textAt
 run-requires c κs = search needs
 
 code-requires : tie.Need-code-requires
 code-requires c κs = search needs
-
-slice-aggregate-run-2 : tie.Need-slice-aggregate-run-2
-slice-aggregate-run-2 c = search needs
 
 run-requires-2 : tie.Need-run-requires-2
 unfolding textAt
@@ -34,9 +28,6 @@ run-requires-2 c κs = search needs
 date-requires : tie.Need-date-requires
 date-requires c κs = search needs
 
-slice-aggregate-run-3 : tie.Need-slice-aggregate-run-3
-slice-aggregate-run-3 c = search needs
-
 run-requires-3 : tie.Need-run-requires-3
 unfolding textAt
 run-requires-3 c κs = search needs
@@ -44,13 +35,13 @@ run-requires-3 c κs = search needs
 returns : tie.Need-returns
 unfolding textAt
 returns c =
-    let a = c .before .before .before .before .before .before .before .before .before .before .before .before .before .args in
+    let a = c .before .before .before .before .before .before .before .before .before .before .before .args in
     let m = a .m .now in
-    let o = c .before .before .before .before .before .before .before .before .before .before .before .tag-at in
-    let r1 = c .before .before .before .before .before .before .before .before .run in
-    let v2 = c .before .before .before .before .before .before .before .code in
-    let r2 = c .before .before .before .before .run2 in
-    let v3 = c .before .before .before .date in
+    let o = c .before .before .before .before .before .before .before .before .tag-at in
+    let r1 = c .before .before .before .before .before .before .run in
+    let v2 = c .before .before .before .before .before .code in
+    let r2 = c .before .before .before .run2 in
+    let v3 = c .before .before .date in
     let z = c .run3 in (
       z .ensures .0,
       r1 .ensures .0,
@@ -67,12 +58,9 @@ charged-anew-spec =
     tie.close
     (tie.spec
     tag-at-requires
-    slice-aggregate-run
     run-requires
     code-requires
-    slice-aggregate-run-2
     run-requires-2
     date-requires
-    slice-aggregate-run-3
     run-requires-3
     returns)

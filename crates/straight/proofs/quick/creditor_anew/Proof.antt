@@ -11,9 +11,6 @@ use Rattle.straight.proofs.quick.creditor_anew.Tie as tie
 tag-at-requires : tie.Need-tag-at-requires
 tag-at-requires c κs = search needs
 
-slice-aggregate-run : tie.Need-slice-aggregate-run
-slice-aggregate-run c = search needs
-
 run-requires : tie.Need-run-requires
 unfolding textAt
 run-requires c κs = search needs
@@ -32,7 +29,7 @@ unfolding textAt
 returns c =
     let a = c .before .before .before .before .before .before .before .before .before .before .before .args in
     let m = a .m .now in
-    let o = c .before .before .before .before .before .before .before .before .before .tag-at in
+    let o = c .before .before .before .before .before .before .before .before .tag-at in
     let r = c .before .before .before .before .before .before .run in
     let s = c .before .before .before .before .scheme in
     let p = c .before .before .party in
@@ -50,7 +47,6 @@ creditor-anew-spec =
     tie.close
     (tie.spec
     tag-at-requires
-    slice-aggregate-run
     run-requires
     scheme-requires
     party-requires

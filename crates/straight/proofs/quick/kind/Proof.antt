@@ -13,7 +13,7 @@ no-type-requires c κs = search needs
 
 returns : tie.Need-returns
 returns c =
-    let a = c .before .before .before .before .before .before .args in
+    let a = c .before .before .before .before .before .before .before .args in
     let m = a .m .now in
     let v = c .before .before .before .reference in
     let z = c .no-type in
@@ -29,7 +29,7 @@ read-typed-requires c κs = search needs
 
 returns-2 : tie.Need-returns-2
 returns-2 c =
-    let a = c .before .before .before .before .before .before .before .before .args in
+    let a = c .before .before .before .before .before .before .before .before .before .args in
     let m = a .m .now in
     let v = c .before .before .before .before .before .reference in
     let z = c .before .before .read-typed in
@@ -53,7 +53,7 @@ no-type-requires-2 c κs = search needs
 
 returns-4 : tie.Need-returns-4
 returns-4 c =
-    let a = c .before .before .before .before .before .before .before .before .before .before .before .args in
+    let a = c .before .before .before .before .before .before .before .before .before .before .before .before .args in
     let m = a .m .now in
     let v = c .before .before .before .before .before .before .before .before .reference in
     let z = c .no-type2 in

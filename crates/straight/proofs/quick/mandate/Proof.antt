@@ -13,9 +13,6 @@ use Rattle.straight.proofs.quick.mandate.Tie as tie
 reference-requires : tie.Need-reference-requires
 reference-requires c κs = search needs
 
-slice-aggregate-run : tie.Need-slice-aggregate-run
-slice-aggregate-run c = search needs
-
 run-requires : tie.Need-run-requires
 unfolding textAt
 run-requires c κs = search needs
@@ -28,7 +25,7 @@ unfolding textAt
 returns c =
     let a = c .before .before .before .before .before .before .before .args in
     let m = a .m .now in
-    let v1 = c .before .before .before .before .reference in
+    let v1 = c .before .before .before .reference in
     let r1 = c .before .run in
     let z = c .date in (
       z .ensures .0,
@@ -40,4 +37,4 @@ returns c =
 
 pub mandate-spec : {M : Type 1} → statement M
 mandate-spec =
-    tie.close (tie.spec reference-requires slice-aggregate-run run-requires date-requires returns)
+    tie.close (tie.spec reference-requires run-requires date-requires returns)

@@ -4,9 +4,6 @@ use borrow.Author.Needs.{needs}
 use Rattle.straight.proofs.quick.no_type.Statement.{statement}
 use Rattle.straight.proofs.quick.no_type.Tie as tie
 
-slice-aggregate-run : tie.Need-slice-aggregate-run
-slice-aggregate-run c = search needs
-
 run-requires : tie.Need-run-requires
 unfolding textAt
 run-requires c κs = search needs
@@ -15,4 +12,5 @@ returns : tie.Need-returns
 returns c = search needs
 
 pub no-type-spec : {M : Type 1} → statement M
-no-type-spec = tie.close (tie.spec slice-aggregate-run run-requires returns)
+no-type-spec =
+    tie.close (tie.spec run-requires returns)

@@ -20,7 +20,7 @@ last-requires c κs = search needs
 
 returns : tie.Need-returns
 returns c =
-    let a = c .before .before .before .before .before .before .before .before .before .args in
+    let a = c .before .before .before .before .before .before .before .before .before .before .args in
     let m = a .m .now in
     let d = c .before .before .before .before .before .before .mandate in
     let k = c .before .before .before .before .read-creditor in
@@ -50,4 +50,9 @@ returns c =
 pub read-back-spec : {M : Type 1} → statement M
 read-back-spec =
     tie.close
-    (tie.spec mandate-requires read-creditor-requires party-requires last-requires returns)
+    (tie.spec
+    mandate-requires
+    read-creditor-requires
+    party-requires
+    last-requires
+    returns)

@@ -18,7 +18,7 @@ charged-anew-requires c κs = search needs
 
 keep-charged-requires : tie.Need-keep-charged-requires
 keep-charged-requires c κs =
-    let a = c .before .before .before .before .before .before .before .before .before .before .args in
+    let a = c .before .before .before .before .before .before .before .before .before .before .before .args in
     let b = c .before .before .before .charged-anew in
     let r = b .result in
     (b .ensures .4, found-at (Gone (a .m .now) (a .at) (chargedLegs (r .charge) (r .collected))) (r .at) (omega arith) (b .ensures .3))

@@ -18,7 +18,7 @@ creditor-anew-requires c κs = search needs
 
 keep-creditor-requires : tie.Need-keep-creditor-requires
 keep-creditor-requires c κs =
-    let a = c .before .before .before .before .before .before .before .before .before .before .args in
+    let a = c .before .before .before .before .before .before .before .before .before .before .before .args in
     let b = c .before .before .before .creditor-anew in
     let r = b .result in
     (b .ensures .2, found-at (Gone (a .m .now) (a .at) (creditorLegs (a .v) (r .identifier) (r .scheme) (r .name) (r .account) (r .agent))) (r .at) (omega arith) (b .ensures .1))

@@ -18,7 +18,7 @@ read-terms-requires c κs = search needs
 
 returns : tie.Need-returns
 returns c =
-    let a = c .before .before .before .before .before .before .before .args in
+    let a = c .before .before .before .before .before .before .before .before .args in
     let m = a .m .now in
     let i = c .before .before .before .before .read-ids in
     let k = c .before .before .kind in
@@ -46,4 +46,5 @@ returns c =
     )
 
 pub read-front-spec : {M : Type 1} → statement M
-read-front-spec = tie.close (tie.spec read-ids-requires kind-requires read-terms-requires returns)
+read-front-spec =
+    tie.close (tie.spec read-ids-requires kind-requires read-terms-requires returns)

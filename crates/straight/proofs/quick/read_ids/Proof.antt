@@ -17,9 +17,6 @@ begin-requires c κs = search needs
 end-to-end-requires : tie.Need-end-to-end-requires
 end-to-end-requires c κs = search needs
 
-slice-aggregate-run : tie.Need-slice-aggregate-run
-slice-aggregate-run c = search needs
-
 run-requires : tie.Need-run-requires
 unfolding textAt
 run-requires c κs = search needs
@@ -29,8 +26,8 @@ unfolding textAt
 returns c =
     let a = c .before .before .before .before .before .before .before .before .args in
     let m = a .m .now in
-    let e = c .before .before .before .before .before .begin in
-    let v = c .before .before .before .end-to-end in
+    let e = c .before .before .before .before .begin in
+    let v = c .before .before .end-to-end in
     let z = c .run in (
       z .ensures .0,
       e .ensures .1,
@@ -43,5 +40,4 @@ returns c =
 
 pub read-ids-spec : {M : Type 1} → statement M
 read-ids-spec =
-    tie.close
-    (tie.spec begin-requires end-to-end-requires slice-aggregate-run run-requires returns)
+    tie.close (tie.spec begin-requires end-to-end-requires run-requires returns)

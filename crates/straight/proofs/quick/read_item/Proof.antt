@@ -15,7 +15,7 @@ read-back-requires c κs = search needs
 
 returns : tie.Need-returns
 returns c =
-    let a = c .before .before .before .before .before .args in
+    let a = c .before .before .before .before .before .before .args in
     let m = a .m .now in
     let f = c .before .before .read-front in
     let z = c .read-back in
@@ -28,4 +28,5 @@ returns c =
     )
 
 pub read-item-spec : {M : Type 1} → statement M
-read-item-spec = tie.close (tie.spec read-front-requires read-back-requires returns)
+read-item-spec =
+    tie.close (tie.spec read-front-requires read-back-requires returns)

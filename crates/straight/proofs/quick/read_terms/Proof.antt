@@ -15,7 +15,7 @@ read-charged-requires c κs = search needs
 
 returns : tie.Need-returns
 returns c =
-    let a = c .before .before .before .before .args in
+    let a = c .before .before .before .before .before .args in
     let v = c .before .before .amount in
     let z = c .read-charged in (
       z .ensures .0,
@@ -27,4 +27,5 @@ returns c =
     )
 
 pub read-terms-spec : {M : Type 1} → statement M
-read-terms-spec = tie.close (tie.spec amount-requires read-charged-requires returns)
+read-terms-spec =
+    tie.close (tie.spec amount-requires read-charged-requires returns)

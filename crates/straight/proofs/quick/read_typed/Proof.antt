@@ -18,7 +18,7 @@ typed-anew-requires c κs = search needs
 
 keep-typed-requires : tie.Need-keep-typed-requires
 keep-typed-requires c κs =
-    let a = c .before .before .before .before .before .before .before .before .before .before .args in
+    let a = c .before .before .before .before .before .before .before .before .before .before .before .args in
     let b = c .before .before .before .typed-anew in
     let r = b .result in
     (b .ensures .3, b .ensures .0 .listed, found-at (Gone (a .m .now) (a .at) (typedLegs (r .level) (r .service) (r .sequence) (r .listed))) (r .at) (omega arith) (b .ensures .1))

@@ -40,7 +40,7 @@ loop-less : tie.Need-loop-less Inv-loop μ-loop
 loop-less c = search needs
 
 loop-again : tie.Need-loop-again Inv-loop μ-loop
-loop-again c = (omega arith, match-join _ _ _ _ (c .before .before .before .loop .i) (c .before .before .before .loop .i) 32 (c .before .before .before .loop .inv .1) (c .before .same-block .ensures (not-false _ (c .if1 .left))) (omega arith) _ (omega arith))
+loop-again c = (omega arith, match-join _ _ _ _ (c .before .before .before .loop .i) (c .before .before .before .loop .i) 64 (c .before .before .before .loop .inv .1) (c .before .same-block .ensures (not-false _ (c .if1 .left))) (omega arith) _ (omega arith))
 
 add-same-block-3 : tie.Need-add-same-block-3 Inv-loop μ-loop
 add-same-block-3 c = search needs
@@ -52,7 +52,7 @@ same-block-requires-2 : tie.Need-same-block-requires-2 Inv-loop μ-loop
 same-block-requires-2 c κs = search needs
 
 returns-2 : tie.Need-returns-2 Inv-loop μ-loop
-returns-2 c = λ e. match-join _ _ _ _ _ (c .before .before .loop .i) 32 (c .before .before .loop .inv .1) (c .same-block2 .ensures e) (omega arith) _ (omega arith)
+returns-2 c = λ e. match-join _ _ _ _ _ (c .before .before .loop .i) 64 (c .before .before .loop .inv .1) (c .same-block2 .ensures e) (omega arith) _ (omega arith)
 
 pub same-wide-spec : {M : Type 1} → statement M
 same-wide-spec =

@@ -14,18 +14,12 @@ use Rattle.straight.proofs.quick.scheme.Tie as tie
 identifier-requires : tie.Need-identifier-requires
 identifier-requires c κs = search needs
 
-slice-aggregate-run : tie.Need-slice-aggregate-run
-slice-aggregate-run c = search needs
-
 run-requires : tie.Need-run-requires
 unfolding textAt
 run-requires c κs = search needs
 
 code-requires : tie.Need-code-requires
 code-requires c κs = search needs
-
-slice-aggregate-run-2 : tie.Need-slice-aggregate-run-2
-slice-aggregate-run-2 c = search needs
 
 run-requires-2 : tie.Need-run-requires-2
 unfolding textAt
@@ -34,11 +28,11 @@ run-requires-2 c κs = search needs
 returns : tie.Need-returns
 unfolding textAt
 returns c =
-    let a = c .before .before .before .before .before .before .before .before .before .args in
+    let a = c .before .before .before .before .before .before .before .before .args in
     let m = a .m .now in
-    let v1 = c .before .before .before .before .before .before .before .identifier in
-    let r1 = c .before .before .before .before .run in
-    let v2 = c .before .before .before .code in
+    let v1 = c .before .before .before .before .before .identifier in
+    let r1 = c .before .before .before .run in
+    let v2 = c .before .before .code in
     let z = c .run2 in (
       z .ensures .0,
       r1 .ensures .0,
@@ -53,9 +47,7 @@ scheme-spec =
     tie.close
     (tie.spec
     identifier-requires
-    slice-aggregate-run
     run-requires
     code-requires
-    slice-aggregate-run-2
     run-requires-2
     returns)

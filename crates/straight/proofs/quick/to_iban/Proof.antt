@@ -1,5 +1,7 @@
 -- `straight::quick::to_iban` meets its contract.
 use Rattle.straight.specs.Runs.{textAt}
+use mathlib.Core.Path.{refl}
+use native.Mathlib.Omega.{arith}
 use borrow.Author.Needs.{needs}
 use Rattle.straight.proofs.quick.to_iban.Statement.{statement}
 use Rattle.straight.proofs.quick.to_iban.Tie as tie
@@ -7,38 +9,15 @@ use Rattle.straight.proofs.quick.to_iban.Tie as tie
 enum-told : tie.Need-enum-told
 enum-told c = search needs
 
-slice-aggregate-run : tie.Need-slice-aggregate-run
-slice-aggregate-run c = search needs
-
-run-requires : tie.Need-run-requires
-unfolding textAt
-run-requires c κs = search needs
-
 enum-told-2 : tie.Need-enum-told-2
 enum-told-2 c = search needs
 
-slice-aggregate-run-2 : tie.Need-slice-aggregate-run-2
-slice-aggregate-run-2 c = search needs
-
-run-requires-2 : tie.Need-run-requires-2
-unfolding textAt
-run-requires-2 c κs = search needs
-
 returns : tie.Need-returns
-returns c = rw (c .before .before .before .enum-told .given .1) (c .run .ensures)
+returns c = rw ((c .enum-told) .given .1) (refl, omega arith)
 
 returns-2 : tie.Need-returns-2
-returns-2 c = rw (c .before .before .before .enum-told2 .given .1) (c .run2 .ensures)
+returns-2 c = rw ((c .enum-told2) .given .1) (refl, omega arith)
 
 pub to-iban-spec : {M : Type 1} → statement M
 to-iban-spec =
-    tie.close
-    (tie.spec
-    enum-told
-    slice-aggregate-run
-    run-requires
-    enum-told-2
-    slice-aggregate-run-2
-    run-requires-2
-    returns
-    returns-2)
+    tie.close (tie.spec enum-told enum-told-2 returns returns-2)
