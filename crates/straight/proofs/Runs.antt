@@ -1,6 +1,6 @@
 -- The texts of the runs in their table; and what is kept of the runs: each way of spelling one.
 use mathlib.Core.Path.{_≡_, refl}
-use mathlib.Core.Bool.{Bool, true, false}
+use mathlib.Core.Bool.{Bool}
 use mathlib.Core.List.{List, [], _∷_}
 use Prim.Native.Nat.{ℕ, zero, suc, _+_, _-_, _*_, _≤_, _<_}
 use native.Mathlib.Omega.{arith}
@@ -10,7 +10,7 @@ use lib.ListN.{length, take, drop, getD, length-drop}
 use lib.Seq.{length-take-le}
 use Rattle.text.specs.Truth.{both, part}
 use Rattle.text.specs.Quoted.{alike}
-use Rattle.text.specs.Below.{below, below-at, both-left, both-right}
+use Rattle.text.specs.Below.{below, passed, below-at, both-left, both-right}
 use Rattle.swift_values.specs.Stands.{Found}
 use Rattle.straight.specs.Due.{Past}
 use Rattle.straight.specs.Spelled.{Spelled}
@@ -19,10 +19,6 @@ use Rattle.straight.specs.Kept.{Kept}
 use Rattle.straight.proofs.Spelled.{spelled-again}
 
 -- ---- the texts: one computed test of each row
-passed : (b : Bool) → T b → b ≡ true
-passed true t = refl
-passed false t = absurd t
-
 alike-same : (t s : List ℕ) → T (alike t s) → t ≡ s
 alike-same [] [] h = refl
 alike-same [] (c ∷ s) h = absurd h

@@ -271,13 +271,6 @@ fn same_tag(m: &[u8], at: usize, t: &[u8], k: usize, n: usize) -> bool
     same(m, at, t, k, n)
 }
 
-// Whether c is white space, without a branch.
-fn is_white(c: u8) -> bool
-    ensures { λ r. ⌜ r ≡ white c ⌝ }
-{
-    (c == 32) | (c == 9) | (c == 13) | (c == 10)
-}
-
 // 1 for what is so, else 0.
 fn one(b: bool) -> usize
     ensures { λ r. ⌜ (r ≤ 1) × (0 < r → b ≡ true) ⌝ }
@@ -290,13 +283,13 @@ fn blanks(m: &[u8], p: usize) -> usize
     requires { ⌜ p + 19 ≤ length (now m) ⌝ }
     ensures { λ r. ⌜ (r ≤ 19) × (every white (part p r (now (m .entry))) ≡ true) ⌝ }
 {
-    if !is_white(m[p]) {
+    if !tags::is_white(m[p]) {
         return 0;
     }
-    if !is_white(m[p + 1]) {
+    if !tags::is_white(m[p + 1]) {
         return 1;
     }
-    if !is_white(m[p + 2]) {
+    if !tags::is_white(m[p + 2]) {
         return 2;
     }
     3 + alike_to(m, p + 2, m, p + 3, 16)
@@ -310,7 +303,7 @@ fn blanks_before(m: &[u8], p: usize, c: u8) -> usize
     if c != 60 {
         return 0;
     }
-    let w = one(is_white(m[p]));
+    let w = one(tags::is_white(m[p]));
     if m[p + w] == 60 {
         return w;
     }

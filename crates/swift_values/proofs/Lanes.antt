@@ -5,19 +5,13 @@ use mathlib.Core.List.{List}
 use Prim.Native.Nat.{ℕ, _+_, _-_, _≤_, _<_}
 use native.Mathlib.Omega.{arith}
 use native.Mathlib.Decide.{decLt}
-use lib.Dec.{T}
 use lib.ListN.{getD}
 use Rattle.text.proofs.Truths.{never}
-use Rattle.text.specs.Below.{below, below-at, same, same-eq}
 use Rattle.swift_values.specs.Lanes.{Run}
 
 -- a test that failed did not pass
 pub unlike : {A : Type 0} → false ≡ true → A
 unlike e = never (cc)
-
--- two tests that agree at every byte: one computed test
-pub by-bytes : (f g : ℕ → Bool) → T (below 256 (λ c. same (f c) (g c))) → (c : ℕ) → c < 256 → f c ≡ g c
-by-bytes f g t c h = same-eq (f c) (g c) (below-at 256 (λ x. same (f x) (g x)) t c h)
 
 -- every lane before i that the minimum leaves has passed
 pub record Seen (f : ℕ → ℕ → Bool) (s : List ℕ) (p i r : ℕ) : Type 0 where

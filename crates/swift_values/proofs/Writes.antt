@@ -19,7 +19,7 @@ use Rattle.check97.proofs.Modulo.{same-behind}
 use Rattle.check97.proofs.Told.{number-cons, number-append}
 use Rattle.swift_values.specs.Lanes.{refOne, capOne, Run}
 use Rattle.swift_values.specs.Blocks.{All, number, Writes}
-use Rattle.swift_values.proofs.Lanes.{by-bytes}
+use Rattle.text.specs.Below.{by-bytes}
 use Rattle.swift_values.proofs.Parts.{and-split, part-listed, part-two}
 
 pub run-refs : (s : List ℕ) (p k : ℕ) → Run refOne s p k → All referenceSet s p k

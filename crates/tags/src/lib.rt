@@ -15,23 +15,11 @@ pub enum Look {
     Other,
 }
 
-// Whether c is white space.
-fn is_white(c: u8) -> bool
+// Whether c is white space, without a branch.
+pub fn is_white(c: u8) -> bool
     ensures { λ r. ⌜ r ≡ white c ⌝ }
 {
-    if c == 32 {
-        return true;
-    }
-    if c == 9 {
-        return true;
-    }
-    if c == 13 {
-        return true;
-    }
-    if c == 10 {
-        return true;
-    }
-    false
+    (c == 32) | (c == 9) | (c == 13) | (c == 10)
 }
 
 // How many bytes of white space stand first.

@@ -4,7 +4,7 @@ use mathlib.Core.Bool.{_&&_, _||_}
 use lib.Dec.{leb}
 use Rattle.text.specs.Quoted.{among}
 use Rattle.text.specs.Classes.{capitalOrDigit}
-use Rattle.swift_values.proofs.Lanes.{by-bytes}
+use Rattle.text.specs.Below.{by-bytes}
 use Rattle.swift_values.proofs.in_cap.Statement.{statement}
 use Rattle.swift_values.proofs.in_cap.Tie as tie
 

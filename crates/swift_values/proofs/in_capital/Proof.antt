@@ -4,7 +4,7 @@ use mathlib.Core.Bool.{_&&_}
 use lib.Dec.{leb}
 use Rattle.text.specs.Quoted.{among}
 use Rattle.text.specs.Classes.{capital}
-use Rattle.swift_values.proofs.Lanes.{by-bytes}
+use Rattle.text.specs.Below.{by-bytes}
 use Rattle.swift_values.proofs.in_capital.Statement.{statement}
 use Rattle.swift_values.proofs.in_capital.Tie as tie
 

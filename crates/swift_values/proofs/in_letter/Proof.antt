@@ -5,7 +5,7 @@ use lib.Bits.{bitOr}
 use lib.Dec.{leb}
 use Rattle.text.specs.Quoted.{among}
 use Rattle.text.specs.Classes.{capital, small}
-use Rattle.swift_values.proofs.Lanes.{by-bytes}
+use Rattle.text.specs.Below.{by-bytes}
 use Rattle.swift_values.proofs.in_letter.Statement.{statement}
 use Rattle.swift_values.proofs.in_letter.Tie as tie
 

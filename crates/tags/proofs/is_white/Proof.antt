@@ -1,28 +1,19 @@
--- `profile::is_white` meets its contract: one test for each byte of the list.
-use Rattle.text.proofs.Truths.{tests}
+-- `tags::is_white` meets its contract: tried on all bytes.
+use native.Mathlib.Omega.{arith}
+use Prim.Native.Nat.{ℕ}
+use mathlib.Core.Bool.{Bool, _||_}
+use lib.Dec.{eqb}
+use Rattle.text.specs.Below.{by-bytes}
 use Rattle.tags.specs.Tags.{white}
 use Rattle.tags.proofs.is_white.Statement.{statement}
 use Rattle.tags.proofs.is_white.Tie as tie
 
+abbrev one-of-four : ℕ → Bool
+one-of-four c = ((eqb c 32 || eqb c 9) || eqb c 13) || eqb c 10
+
 returns : tie.Need-returns
 unfolding white
-returns c = search tests
-
-returns-2 : tie.Need-returns-2
-unfolding white
-returns-2 c = search tests
-
-returns-3 : tie.Need-returns-3
-unfolding white
-returns-3 c = search tests
-
-returns-4 : tie.Need-returns-4
-unfolding white
-returns-4 c = search tests
-
-returns-5 : tie.Need-returns-5
-unfolding white
-returns-5 c = search tests
+returns c = by-bytes one-of-four white tt (c .args .c) (omega arith)
 
 pub is-white-spec : {M : Type 1} → statement M
-is-white-spec = tie.close (tie.spec returns returns-2 returns-3 returns-4 returns-5)
+is-white-spec = tie.close (tie.spec returns)
