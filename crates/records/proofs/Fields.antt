@@ -8,10 +8,11 @@ use native.Mathlib.Nat.{add-zero}
 use native.Mathlib.Omega.{arith}
 use borrow.Author.Tests.{eq-eqb, ne-eqb, ltb-true, ltb-false}
 use lib.Dec.{eqb, ltb}
-use lib.ListN.{length, take, drop, getD, set, replicate, length-append, length-take, length-replicate, take-append-drop, drop-of-length-le, replicate-append-replicate}
-use lib.Seq.{paste, paste-suc, take-all, take-length, take-nil, take-take, take-at, drop-at, set-at, drop-drop}
+use lib.ListN.{length, take, drop, getD, set, replicate, length-append, length-take, length-drop, length-set, length-replicate, take-append-drop, drop-of-length-le, replicate-append-replicate}
+use lib.Seq.{paste, paste-suc, set-at, drop-drop, getD-take, getD-drop, length-take-le}
+use lib.Seq.{take-all, take-length, take-nil, take-take, take-add, take-at, drop-at, take-append-le, take-append-add, drop-append-add}
 use Rattle.text.specs.Truth.{either, pick, lead, part}
-use Rattle.text.proofs.Scan.{rest-of, lead-le}
+use Rattle.text.proofs.Scan.{rest-of, lead-le, copy-more, copy-end}
 use Rattle.text.proofs.Truths.{never}
 use Rattle.tags.specs.Values.{inValue, valueAt}
 use Rattle.profile.specs.declared.Field.{Field}
@@ -40,6 +41,55 @@ module _ (rec : List ℕ) (at : ℕ) (v : List ℕ) where
   lay-end out i h g e =
       let z : i ≡ length v = omega arith in
       e ∙ rw (z, take-length v, append-assoc)
+
+-- ---- n bytes of a text as the first w of them and the last w
+-- bytes from a place on, copied into r, of which i are done
+abbrev pub Copied : List ℕ → ℕ → ℕ → List ℕ → ℕ → Type 0
+Copied v from n r i = (take i r ≡ take i (part from n v)) × (i ≤ n) × (length r ≡ n)
+
+module _ (v : List ℕ) (from n : ℕ) (h : from + n ≤ length v) where
+  part-long : length (part from n v) ≡ n
+  part-long = length-take-le n (drop from v) (omega (arith, length-drop from v))
+
+  pub copied-more : (r : List ℕ) (i : ℕ) → i < n → Copied v from n r i → Copied v from n (set r i (getD v (from + i) 0)) (i + 1)
+  copied-more r i g c =
+      let z : getD (part from n v) i 0 ≡ getD v (from + i) 0 = getD-take n (drop from v) i 0 g ∙ getD-drop from v i 0 in
+      (rw z at (copy-more r (part from n v) i (c .0) (omega (arith, c .2)) (omega (arith, part-long))), omega arith, length-set r i (getD v (from + i) 0) ∙ c .2)
+
+  pub copied-all : (r : List ℕ) (i : ℕ) → n ≤ i → Copied v from n r i → r ≡ part from n v
+  copied-all r i g c = copy-end r (part from n v) i (c .0) (omega (arith, c .2)) (omega (arith, part-long))
+
+pub laid-twice : (at w : ℕ) (v r r1 r2 : List ℕ) → at + length v ≤ length r → w ≤ length v → length v ≤ w + w
+    → r1 ≡ laid at (part 0 w v) r → r2 ≡ laid (at + (length v - w)) (part (length v - w) w v) r1 → r2 ≡ laid at v r
+unfolding laid
+laid-twice at w v r r1 r2 fits g k e f =
+    let j = length v - w in
+    let d = take at r in
+    let a = take w v in
+    let p = part j w v in
+    let t = drop (at + w) r in
+    let ld : length d ≡ at = length-take-le at r (omega arith) in
+    let la : length a ≡ w = length-take-le w v g in
+    let lp : length p ≡ w = part-long v j w (omega arith) in
+    let x : r1 ≡ d ++ (a ++ t) = e ∙ rw la in
+    let y : take (at + j) (d ++ (a ++ t)) ≡ d ++ take j v =
+    ap (λ (q : ℕ). take (q + j) (d ++ (a ++ t))) (sym ld)
+    ∙ take-append-add d (a ++ t) j
+    ∙ ap (λ (l : List ℕ). d ++ l) (take-append-le j a t (omega arith) ∙ take-take j w v (omega arith)) in
+    let i : at + j + w ≡ length d + (length a + j) = omega arith in
+    let o : at + w + j ≡ at + length v = omega arith in
+    let z : drop (at + j + w) (d ++ (a ++ t)) ≡ drop (at + length v) r =
+    ap (λ (q : ℕ). drop q (d ++ (a ++ t))) i
+    ∙ drop-append-add d (a ++ t) (length a + j)
+    ∙ drop-append-add a t j
+    ∙ drop-drop j (at + w) r
+    ∙ ap (λ (q : ℕ). drop q r) o in
+    let b : j + w ≡ length v = omega arith in
+    let c : take j v ++ p ≡ v = sym (take-add j w v) ∙ ap (λ (q : ℕ). take q v) b ∙ take-length v in
+    f
+    ∙ ap (λ (l : List ℕ). take (at + j) l ++ (p ++ drop (at + j + length p) l)) x
+    ∙ rw (lp, y, z) (append-assoc d (take j v) (p ++ drop (at + length v) r))
+    ∙ ap (λ (l : List ℕ). d ++ l) (sym (append-assoc (take j v) p (drop (at + length v) r)) ∙ ap (λ (l : List ℕ). l ++ drop (at + length v) r) c)
 
 -- nothing laid
 pub laid-none : (at : ℕ) (rec : List ℕ) → rec ≡ laid at [] rec

@@ -25,8 +25,8 @@ pub const LENGTH: usize = 320;
 // How many items are read in one call, at most.
 const MOST: usize = 128;
 
-// A value's bytes, laid into the record from an offset on.
-fn lay(rec: &mut [u8; LENGTH], at: usize, v: &[u8])
+// A value's bytes, laid into the record from an offset on, one by one.
+fn lay_bytes(rec: &mut [u8; LENGTH], at: usize, v: &[u8])
     requires { ⌜ (length (now rec) ≡ recordLength) × (at + length (now v) ≤ recordLength) ⌝ }
     ensures { λ _. ⌜ (now (rec .exit) ≡ laid at (now (v .entry)) (now (rec .entry))) × (length (now (rec .exit)) ≡ recordLength) ⌝ }
 {
@@ -35,6 +35,97 @@ fn lay(rec: &mut [u8; LENGTH], at: usize, v: &[u8])
         rec[at + i] = v[i];
         i += 1;
     }
+}
+
+// Sixteen bytes of a text, from a place on.
+fn sixteen(v: &[u8], from: usize) -> [u8; 16]
+    requires { ⌜ from + 16 ≤ length (now v) ⌝ }
+    ensures { λ r. ⌜ r ≡ take 16 (drop from (now (v .entry))) ⌝ }
+{
+    let mut r = [0; 16];
+    for i in 0..16 {
+        r[i] = v[from + i];
+    }
+    r
+}
+
+// Eight bytes, likewise.
+fn eight(v: &[u8], from: usize) -> [u8; 8]
+    requires { ⌜ from + 8 ≤ length (now v) ⌝ }
+    ensures { λ r. ⌜ r ≡ take 8 (drop from (now (v .entry))) ⌝ }
+{
+    let mut r = [0; 8];
+    for i in 0..8 {
+        r[i] = v[from + i];
+    }
+    r
+}
+
+// Four bytes, likewise.
+fn four(v: &[u8], from: usize) -> [u8; 4]
+    requires { ⌜ from + 4 ≤ length (now v) ⌝ }
+    ensures { λ r. ⌜ r ≡ take 4 (drop from (now (v .entry))) ⌝ }
+{
+    let mut r = [0; 4];
+    for i in 0..4 {
+        r[i] = v[from + i];
+    }
+    r
+}
+
+// A value of 16 to 32 bytes: its first sixteen, and its last.
+fn lay_sixteens(rec: &mut [u8; LENGTH], at: usize, v: &[u8])
+    requires { ⌜ (length (now rec) ≡ recordLength) × (at + length (now v) ≤ recordLength) × (16 ≤ length (now v)) × (length (now v) ≤ 32) ⌝ }
+    ensures { λ _. ⌜ (now (rec .exit) ≡ laid at (now (v .entry)) (now (rec .entry))) × (length (now (rec .exit)) ≡ recordLength) ⌝ }
+{
+    let last = v.len() - 16;
+    lay_bytes(rec, at, &sixteen(v, 0));
+    lay_bytes(rec, at + last, &sixteen(v, last))
+}
+
+// One of 8 to 16 bytes: its first eight, and its last.
+fn lay_eights(rec: &mut [u8; LENGTH], at: usize, v: &[u8])
+    requires { ⌜ (length (now rec) ≡ recordLength) × (at + length (now v) ≤ recordLength) × (8 ≤ length (now v)) × (length (now v) ≤ 16) ⌝ }
+    ensures { λ _. ⌜ (now (rec .exit) ≡ laid at (now (v .entry)) (now (rec .entry))) × (length (now (rec .exit)) ≡ recordLength) ⌝ }
+{
+    let last = v.len() - 8;
+    lay_bytes(rec, at, &eight(v, 0));
+    lay_bytes(rec, at + last, &eight(v, last))
+}
+
+// One of 4 to 8 bytes: its first four, and its last.
+fn lay_fours(rec: &mut [u8; LENGTH], at: usize, v: &[u8])
+    requires { ⌜ (length (now rec) ≡ recordLength) × (at + length (now v) ≤ recordLength) × (4 ≤ length (now v)) × (length (now v) ≤ 8) ⌝ }
+    ensures { λ _. ⌜ (now (rec .exit) ≡ laid at (now (v .entry)) (now (rec .entry))) × (length (now (rec .exit)) ≡ recordLength) ⌝ }
+{
+    let last = v.len() - 4;
+    lay_bytes(rec, at, &four(v, 0));
+    lay_bytes(rec, at + last, &four(v, last))
+}
+
+// A value's bytes, laid into the record from an offset on.
+fn lay(rec: &mut [u8; LENGTH], at: usize, v: &[u8])
+    requires { ⌜ (length (now rec) ≡ recordLength) × (at + length (now v) ≤ recordLength) ⌝ }
+    ensures { λ _. ⌜ (now (rec .exit) ≡ laid at (now (v .entry)) (now (rec .entry))) × (length (now (rec .exit)) ≡ recordLength) ⌝ }
+{
+    let n = v.len();
+    if n < 4 {
+        lay_bytes(rec, at, v);
+        return;
+    }
+    if n < 8 {
+        lay_fours(rec, at, v);
+        return;
+    }
+    if n < 16 {
+        lay_eights(rec, at, v);
+        return;
+    }
+    if n <= 32 {
+        lay_sixteens(rec, at, v);
+        return;
+    }
+    lay_bytes(rec, at, v)
 }
 
 // Where the last value of a field begins.
@@ -151,10 +242,22 @@ fn put_cents(rec: &mut [u8; LENGTH], cents: u64)
     }
 }
 
-// The record of an item, from its row and what was noted above it: all spaces, then each field at its offset.
-fn make_record(m: &[u8], row: &[u64], above: [u32; profile::FIELDS]) -> [u8; LENGTH]
-    requires { ⌜ length (now row) ≡ rowLength ⌝ }
-    ensures { λ r. ⌜ r ≡ recordOf (now (m .entry)) (now (row .entry)) above ⌝ }
+// One record, written into its part of the area.
+fn write(part: &mut [u8], rec: &[u8; LENGTH])
+    requires { ⌜ (length (now part) ≡ recordLength) × (length (now rec) ≡ recordLength) ⌝ }
+    ensures { λ _. ⌜ now (part .exit) ≡ now (rec .entry) ⌝ }
+{
+    let mut i = 0;
+    while i < LENGTH {
+        part[i] = rec[i];
+        i += 1;
+    }
+}
+
+// The record of an item, from its row and what was noted above it: all spaces, then each field at its offset; and written into its part of the area.
+fn make_record(part: &mut [u8], m: &[u8], row: &[u64], above: [u32; profile::FIELDS])
+    requires { ⌜ (length (now row) ≡ rowLength) × (length (now part) ≡ recordLength) ⌝ }
+    ensures { λ _. ⌜ now (part .exit) ≡ recordOf (now (m .entry)) (now (row .entry)) above ⌝ }
 {
     let sequence = or_above(row_start(row, Field::SeqTp), above, Field::SeqTp);
     let instrument = or_above(row_start(row, Field::LclInstrm), above, Field::LclInstrm);
@@ -174,19 +277,7 @@ fn make_record(m: &[u8], row: &[u64], above: [u32; profile::FIELDS]) -> [u8; LEN
     put_at(&mut rec, 290, 4, m, instrument);
     put(&mut rec, 294, 10, m, row, Field::DtOfSgntr);
     rec[319] = 10;
-    rec
-}
-
-// One record, written into its part of the area.
-fn write(part: &mut [u8], rec: [u8; LENGTH])
-    requires { ⌜ length (now part) ≡ recordLength ⌝ }
-    ensures { λ _. ⌜ now (part .exit) ≡ rec ⌝ }
-{
-    let mut i = 0;
-    while i < LENGTH {
-        part[i] = rec[i];
-        i += 1;
-    }
+    write(part, &rec)
 }
 
 // The records of so many rows, one behind the other.
@@ -200,10 +291,7 @@ fn lay_rows(m: &[u8], rows: &[u64], n: usize, above: [u32; profile::FIELDS], are
         let to = from + LENGTH;
         let first = engine::ROW * i;
         let behind = first + engine::ROW;
-        write(
-            &mut area[from..to],
-            make_record(m, &rows[first..behind], above),
-        );
+        make_record(&mut area[from..to], m, &rows[first..behind], above);
         i += 1;
     }
 }

@@ -1,6 +1,5 @@
 -- `records::lay_rows` meets its contract. The loop's invariant: the records of the first i rows stand in the area. The measure is how many rows are left.
 use borrow.Author.Needs.{needs}
-use mathlib.Core.Path.{_∙_}
 use native.Mathlib.Omega.{arith}
 use Prim.Native.Nat.{_-_}
 use Rattle.records.proofs.Areas.{Laying, lay-begins, lay-ends, row-fits, row-long, record-fits, record-long, lay-on}
@@ -46,22 +45,22 @@ add-behind c =
     let s = t .before .before .before .before .before in
     omega (arith, row-fits (s .pre) (l .inv) (t .loop-test .taken), l .inv .long, s .good .1 .0 .1)
 
-sub-write : tie.Need-sub-write Inv-loop μ-loop
-sub-write c =
+sub-make-record : tie.Need-sub-make-record Inv-loop μ-loop
+sub-make-record c =
     let t = c in
     let l = t .before .loop in
     let s = t .before .before .before .before .before in
     omega (arith, record-fits (s .pre) (l .inv) (t .loop-test .taken), l .inv .long, s .good .1 .1 .1 .1 .0 .0)
 
-part-write-start : tie.Need-part-write-start Inv-loop μ-loop
-part-write-start c =
+part-make-record-start : tie.Need-part-make-record-start Inv-loop μ-loop
+part-make-record-start c =
     let t = c in
     let l = t .before .loop in
     let s = t .before .before .before .before .before in
     omega (arith, record-fits (s .pre) (l .inv) (t .loop-test .taken), l .inv .long, s .good .1 .1 .1 .1 .0 .0)
 
-part-write-end : tie.Need-part-write-end Inv-loop μ-loop
-part-write-end c =
+part-make-record-end : tie.Need-part-make-record-end Inv-loop μ-loop
+part-make-record-end c =
     let t = c in
     let l = t .before .loop in
     let s = t .before .before .before .before .before in
@@ -74,22 +73,22 @@ mul-make-record c =
     let s = t .before .before .before .before .before in
     omega (arith, row-fits (s .pre) (l .inv) (t .loop-test .taken), l .inv .long, s .good .1 .0 .1)
 
-sub-make-record : tie.Need-sub-make-record Inv-loop μ-loop
-sub-make-record c =
+sub-make-record-2 : tie.Need-sub-make-record-2 Inv-loop μ-loop
+sub-make-record-2 c =
     let t = c .before in
     let l = t .before .loop in
     let s = t .before .before .before .before .before in
     omega (arith, row-fits (s .pre) (l .inv) (t .loop-test .taken), l .inv .long, s .good .1 .0 .1)
 
-part-make-record-start : tie.Need-part-make-record-start Inv-loop μ-loop
-part-make-record-start c =
+part-make-record-start-2 : tie.Need-part-make-record-start-2 Inv-loop μ-loop
+part-make-record-start-2 c =
     let t = c .before in
     let l = t .before .loop in
     let s = t .before .before .before .before .before in
     omega (arith, row-fits (s .pre) (l .inv) (t .loop-test .taken), l .inv .long, s .good .1 .0 .1)
 
-part-make-record-end : tie.Need-part-make-record-end Inv-loop μ-loop
-part-make-record-end c =
+part-make-record-end-2 : tie.Need-part-make-record-end-2 Inv-loop μ-loop
+part-make-record-end-2 c =
     let t = c .before in
     let l = t .before .loop in
     let s = t .before .before .before .before .before in
@@ -100,14 +99,7 @@ make-record-requires c κs =
     let t = c .before .before in
     let l = t .before .loop in
     let s = t .before .before .before .before .before in
-    row-long (s .pre) (l .inv) (t .loop-test .taken)
-
-write-requires : tie.Need-write-requires Inv-loop μ-loop
-write-requires c κs =
-    let t = c .before .before .before in
-    let l = t .before .loop in
-    let s = t .before .before .before .before .before in
-    record-long (s .pre) (l .inv) (t .loop-test .taken)
+    (row-long (s .pre) (l .inv) (t .loop-test .taken), record-long (s .pre) (l .inv) (t .loop-test .taken))
 
 add-i : tie.Need-add-i Inv-loop μ-loop
 add-i c = search needs
@@ -117,11 +109,11 @@ loop-less c = search needs
 
 loop-again : tie.Need-loop-again Inv-loop μ-loop
 loop-again c =
-    let t = c .before .before .before .before .before .before in
+    let t = c .before .before .before .before .before in
     let l = t .before .loop in
     let s = t .before .before .before .before .before in
-    let w = c .before .before .write in
-    lay-on (s .pre) (l .inv) (t .loop-test .taken) (w .last .0) (w .ensures ∙ c .before .before .before .make-record .ensures) (w .kept .0)
+    let w = c .before .before .make-record in
+    lay-on (s .pre) (l .inv) (t .loop-test .taken) (w .last .0) (w .ensures) (w .kept .0)
 
 same-length : tie.Need-same-length Inv-loop μ-loop
 same-length c = c .before .loop .inv .long
@@ -141,15 +133,14 @@ lay-rows-spec =
     add-to
     mul-first
     add-behind
-    sub-write
-    part-write-start
-    part-write-end
-    mul-make-record
     sub-make-record
     part-make-record-start
     part-make-record-end
+    mul-make-record
+    sub-make-record-2
+    part-make-record-start-2
+    part-make-record-end-2
     make-record-requires
-    write-requires
     add-i
     loop-less
     loop-again

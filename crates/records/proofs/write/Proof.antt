@@ -16,10 +16,10 @@ abbrev μ-loop : tie.MeasureT-loop
 μ-loop part₀ rec i₀ part i = recordLength - i
 
 loop-holds : tie.Need-loop-holds Inv-loop μ-loop
-loop-holds c = (refl, search needs, c .pre)
+loop-holds c = (refl, search needs, c .pre .0)
 
-array-read-part : tie.Need-array-read-part Inv-loop μ-loop
-array-read-part c = search needs
+element-copy-out-part : tie.Need-element-copy-out-part Inv-loop μ-loop
+element-copy-out-part c = search needs
 
 slice-write-part : tie.Need-slice-write-part Inv-loop μ-loop
 slice-write-part c = search needs
@@ -32,9 +32,9 @@ loop-less c = search needs
 
 loop-again : tie.Need-loop-again Inv-loop μ-loop
 loop-again c =
-    let s = c .before .before in
-    let l = c .before .loop in
-    (copy-more (l .part) (s .args .t2) (l .i) (l .inv .0) (omega arith) (omega (arith, s .good .1 .0 .1 .0 .1)), search needs, search needs)
+    let s = c .before .before .before in
+    let l = c .before .before .loop in
+    (copy-more (l .part) (s .args .rec .now) (l .i) (l .inv .0) (omega arith) (omega (arith, s .pre .1)), search needs, search needs)
 
 same-length : tie.Need-same-length Inv-loop μ-loop
 same-length c = search needs
@@ -43,7 +43,7 @@ returns : tie.Need-returns Inv-loop μ-loop
 returns c =
     let s = c .before .before in
     let l = c .before .loop in
-    copy-end (l .part) (s .args .t2) (l .i) (l .inv .0) (omega arith) (omega (arith, s .good .1 .0 .1 .0 .1))
+    copy-end (l .part) (s .args .rec .now) (l .i) (l .inv .0) (omega arith) (omega (arith, s .pre .1))
 
 pub write-spec : {M : Type 1} → statement M
 write-spec =
@@ -52,7 +52,7 @@ write-spec =
     Inv-loop
     μ-loop
     loop-holds
-    array-read-part
+    element-copy-out-part
     slice-write-part
     add-i
     loop-less

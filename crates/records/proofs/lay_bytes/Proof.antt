@@ -1,4 +1,4 @@
--- `records::lay` meets its contract. The loop's invariant: the first i bytes of the value are laid. The measure is what is left of the value.
+-- `records::lay_bytes` meets its contract. The loop's invariant: the first i bytes of the value are laid. The measure is what is left of the value.
 use borrow.Author.Needs.{needs}
 use mathlib.Core.Path.{_≡_}
 use Prim.Native.Nat.{_≤_, _-_}
@@ -6,8 +6,8 @@ use lib.ListN.{length}
 use lib.Seq.{paste, paste-zero}
 use Rattle.postings.specs.Record.{recordLength}
 use Rattle.records.proofs.Fields.{lay-more, lay-end}
-use Rattle.records.proofs.lay.Statement.{statement}
-use Rattle.records.proofs.lay.Tie as tie
+use Rattle.records.proofs.lay_bytes.Statement.{statement}
+use Rattle.records.proofs.lay_bytes.Tie as tie
 
 abbrev Inv-loop : tie.InvT-loop
 Inv-loop rec₀ at v i₀ rec i = (i ≤ length v) × (rec ≡ paste rec₀ at v i) × (length rec ≡ recordLength)
@@ -45,8 +45,8 @@ returns c =
     let l = c .before .loop in
     (lay-end (a .rec .now) (a .at) (a .v .now) (l .rec) (l .i) (l .inv .0) (c .loop-test .left) (l .inv .1), l .inv .2)
 
-pub lay-spec : {M : Type 1} → statement M
-lay-spec =
+pub lay-bytes-spec : {M : Type 1} → statement M
+lay-bytes-spec =
     tie.close
     (tie.spec
     Inv-loop
