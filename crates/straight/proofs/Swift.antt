@@ -1,5 +1,5 @@
 -- An item that the quick reader tells: it begins, there is room for its amount, and it is the first, or one more of those that come. And an item told in a row.
-use mathlib.Core.Path.{_≡_, refl, sym, ap, _∙_}
+use mathlib.Core.Path.{_≡_, refl, sym, _∙_}
 use mathlib.Core.Bool.{Bool, true, false}
 use mathlib.Core.List.{List}
 use Prim.Native.Nat.{ℕ, _+_, _-_, _*_, _/_, _≤_, _<_}
@@ -29,47 +29,61 @@ use Rattle.straight.proofs.Again.{loop-next}
 abbrev Going : Type 0
 Going = Reading (Ended Notes)
 
--- behind u an item's start tag stands, up to at; it begins at b, by the step a, and is counted in y
+-- behind u an item's start tag stands, up to at, and the item is counted in y: reading goes on at its end, with room for its amount; what it holds makes it whole
+pub record Begun (v : Version) (m : List ℕ) (u : Ended Notes) (at : ℕ) (y : Ended Notes) : Type 0 where
+  pub begins : ItemBegins m (u .at) at
+  pub within : at ≤ length m
+  pub was : Good m u
+  pub good : Good m (here at (y .notes))
+  pub room : Room 1 (y .notes)
+  pub whole : (l : List ℕ) (z : Ended Notes) (f : List ℕ) → Makes m 0 (trace (inItem v) m at) (y .notes) l (on z) f → Makes m 0 (itemBody v m (skipped m (u .at))) (u .notes) l (on z) f
+
+-- so it is where it begins at b, by a step a that goes on
 module _ (v : Version) (m : List ℕ) (u : Ended Notes) (good : Good m u) (room : Room 0 (u .notes)) (at : ℕ) (i : ItemBegins m (u .at) at) (within : at ≤ length m)
     (b : Ended Notes) (d : b ≡ here (at - 14) (u .notes)) (a : Going) (e : a ≡ staying (b .at) (itemNoted (b .at) (b .notes))) (y : Ended Notes) (w : on y ≡ a) where
+  abbrev place : ℕ
+  place = skipped m (u .at)
+
+  abbrev inner : Going
+  inner = on (here at (y .notes))
+
+  starts : a ≡ staying place (itemNoted place (u .notes))
+  starts = let z : at - 14 ≡ place = omega (arith, i .behind) in e ∙ rw (d, z) refl
+
+  goes : inner ≡ onward a (λ s. on (here at (s .notes)))
+  goes = rw (← w) refl
+
+  pub begun : Begun v m u at y
+  begun = record {
+    begins = i;
+    within = within;
+    was = good;
+    good = item-fine m place (u .notes) a inner starts at goes (good-at m u place good (omega (arith, i .behind))) within .0;
+    room = item-room m place (u .notes) a inner starts at goes room;
+    whole = λ l z f j. item-makes m place (u .notes) a inner starts at goes v (i .behind) l (on z) f j;
+  }
+
+module _ {v : Version} {m : List ℕ} {u : Ended Notes} {at : ℕ} {y : Ended Notes} (x : Begun v m u at y) (l : List ℕ) (z : Ended Notes) (f : List ℕ)
+    (j : Makes m 0 (trace (inItem v) m at) (y .notes) l (on z) f) where
   abbrev q : ℕ
   q = skipped m (u .at)
 
-  place : at - 14 ≡ q
-  place = omega (arith, i .behind)
-
   near : q ≤ length m
-  near = omega (arith, i .behind)
+  near = omega (arith, x .begins .behind, x .within)
 
-  starts : a ≡ staying q (itemNoted q (u .notes))
-  starts = e ∙ rw (d, place) refl
+  -- one more of those that come
+  pub swift-next : (n : ℕ) (r₀ : Going) (l₀ : List ℕ) (left : ℕ) → Onward v m n r₀ l₀ left (on u) l → 1 < left → length f ≡ length l → Onward v m n r₀ l₀ (left - 1) (on z) f
+  swift-next n r₀ l₀ left k some h =
+      loop-next v m n r₀ l₀ left (on u) l k u refl (omega arith) (x .was) q refl near Whole (sym (x .begins .whole)) refl (here q (u .notes)) refl (on z) f (x .whole l z f j) h
 
-  goes : on (here at (y .notes)) ≡ onward a (λ s. on (here at (s .notes)))
-  goes = rw (← w) refl
-
-  pub begun-good : Good m (here at (y .notes))
-  begun-good = item-fine m q (u .notes) a (on (here at (y .notes))) starts at goes (good-at m u q good near) within .0
-
-  pub begun-room : Room 1 (y .notes)
-  begun-room = item-room m q (u .notes) a (on (here at (y .notes))) starts at goes room
-
-  module _ (l : List ℕ) (z : Ended Notes) (f : List ℕ) (j : Makes m 0 (trace (inItem v) m at) (y .notes) l (on z) f) where
-    whole : Makes m 0 (itemBody v m q) (u .notes) l (on z) f
-    whole = item-makes m q (u .notes) a (on (here at (y .notes))) starts at goes v (i .behind) l (on z) f j
-
-    -- one more of those that come
-    pub swift-next : (n : ℕ) (r₀ : Going) (l₀ : List ℕ) (left : ℕ) → Onward v m n r₀ l₀ left (on u) l → 1 < left → length f ≡ length l → Onward v m n r₀ l₀ (left - 1) (on z) f
-    swift-next n r₀ l₀ left k some h =
-        loop-next v m n r₀ l₀ left (on u) l k u refl (omega arith) good q refl near Whole (sym (i .whole)) refl (here q (u .notes)) refl (on z) f whole h
-
-    -- the first, which is due
-    pub swift-first : Makes m 0 (dueItem v m (u .at)) (u .notes) l (on z) f
-    swift-first = by-whole m (u .at) (u .notes) good itemTag q refl near Whole (sym (i .whole)) (itemBody v m) (fault 4) l refl 0 (on z) f whole
+  -- the first, which is due
+  pub swift-first : Makes m 0 (dueItem v m (u .at)) (u .notes) l (on z) f
+  swift-first = by-whole m (u .at) (u .notes) (x .was) itemTag q refl near Whole (sym (x .begins .whole)) (itemBody v m) (fault 4) l refl 0 (on z) f (x .whole l z f j)
 
 -- ---- rows
 module _ (v : Version) (m : List ℕ) (p : ℕ) (row : List ℕ) where
-  pub row-told : (after : List ℕ) (x : Going) → x ≡ itemAt v m p → (z : Ended Notes) → x ≡ on z → (r : ℕ) → r ≡ z .at → r ≤ length m → after ≡ toldIn (z .notes) row → ItemTold v m p row r after
-  row-told after x e z h r i g t = record { notes = z .notes; is = sym e ∙ (h ∙ ap (λ (k : ℕ). on (here k (z .notes))) (sym i)); within = g; told = t }
+  pub row-told : (after : List ℕ) (z : Ended Notes) → itemAt v m p ≡ on z → z .at ≤ length m → after ≡ toldIn (z .notes) row → ItemTold v m p row (z .at) after
+  row-told after z e g t = record { notes = z .notes; is = e; within = g; told = t }
 
   pub row-left : (x : Going) → x ≡ itemAt v m p → (n q : ℕ) → x ≡ stop n q → ItemLeft v m p row row
   row-left x e n q h = record { number = n; place = q; is = sym e ∙ h; left = refl }

@@ -13,6 +13,7 @@ use tags::Look;
 mod quick;
 
 ghost use mathlib.Core.Path.{_≡_};
+ghost use mathlib.Core.Bool.{true};
 ghost use mathlib.Core.List.{_++_};
 ghost use Prim.Native.Nat.{_+_, _≤_, _<_};
 ghost use lib.ListN.{length, drop};
@@ -26,11 +27,10 @@ ghost use Rattle.items.specs.Alone.{itemBody};
 ghost use Rattle.notes.specs.Steps.{stated, stepped, reads, Good, Room, Fine};
 ghost use Rattle.engine.specs.Engine.{closedBy, valuedBy, messageAt, placesAt, itemAt};
 ghost use Rattle.engine.specs.Several.{Tells};
-ghost use Rattle.swift_values.specs.Stands.{Found};
 ghost use Rattle.straight.specs.Runs.{Texts};
 ghost use Rattle.straight.specs.Kept.{Kept};
 ghost use Rattle.straight.specs.Pieces.{pmtId};
-ghost use Rattle.straight.specs.Exact.{leafOf, endOf, openOf, enterOf, oneOf, twoOf, insideOf, mayOf, inTypeOf, typeOf, amountOf, mandateOf, otherOf, privateOf, ownOf, schemeOf, debitOf, agentOf, headOf, partiesOf, lastOf, moreOf, firstOf, dueItem, inBulk, Makes, MakesThen, Behind as After, Onward, ItemTold, RowRead};
+ghost use Rattle.straight.specs.Exact.{leafOf, endOf, openOf, enterOf, oneOf, twoOf, insideOf, mayOf, inTypeOf, typeOf, amountOf, mandateOf, otherOf, privateOf, ownOf, schemeOf, debitOf, agentOf, headOf, partiesOf, lastOf, moreOf, firstOf, dueItem, inBulk, Makes, MakesThen, Behind as After, Onward, RowRead};
 
 // ---- The exact readers, for all that the quick ones do not tell.
 
@@ -937,58 +937,7 @@ fn header_exact(m: &[u8], v: Version, before: Step, places: &mut [u32]) -> Step
     then_close(m, b"</GrpHdr>", d)
 }
 
-// What an item holds, up to behind its end tag: by the quick reader, or by the exact one where that does not tell. How an item was spelled is kept in w.
-fn held(m: &[u8], v: Version, st: State, places: &mut [u32], t: &[u8], w: &mut [usize; 101]) -> Step
-    requires { ⌜ Good (now m) (stated st) × Room 1 (st .notes) × Texts (now t) × Kept (now m) (now w) ⌝ }
-    ensures { λ s. ⌜ Makes (now (m .entry)) 0 (trace (inItem v) (now (m .entry)) (st .at)) (st .notes) (now (places .entry)) (stepped s) (now (places .exit)) × Kept (now (m .entry)) (now (w .exit)) ⌝ }
-{
-    let r = quick::read_item(m, st.at as usize, v, st.notes.typed, st.notes.service, t, w);
-    let front = r.front;
-    let back = r.back;
-    if back.at == 0 {
-        return item_exact(m, v, st.read_on(), places);
-    }
-    engine::file(Field::TxId, front.tx as u32, places);
-    quick::note_item(st, r).read_on()
-}
-
-// The same after a step.
-fn then_held(
-    m: &[u8],
-    v: Version,
-    before: Step,
-    places: &mut [u32],
-    t: &[u8],
-    w: &mut [usize; 101],
-) -> Step
-    requires { ⌜ Fine (now m) 0 (stepped before) × After (stepped before) (Room 1) × Texts (now t) × Kept (now m) (now w) ⌝ }
-    ensures { λ s. ⌜ MakesThen (now (m .entry)) (trace (inItem v) (now (m .entry))) (stepped before) (now (places .entry)) (stepped s) (now (places .exit)) × Kept (now (m .entry)) (now (w .exit)) ⌝ }
-{
-    let met = before.met;
-    let st = before.state;
-    match met {
-        Met::Stopped(number, place) => st.refuse(number, place),
-        Met::On => held(m, v, st, places, t, w),
-    }
-}
-
-// An item from the `<` of its start tag, which lies whole at the state's place, to behind its end tag.
-fn one_item(
-    m: &[u8],
-    v: Version,
-    st: State,
-    places: &mut [u32],
-    t: &[u8],
-    w: &mut [usize; 101],
-) -> Step
-    requires { ⌜ Good (now m) (stated st) × (st .at + 14 ≤ length (now m)) × Room 0 (st .notes) × Texts (now t) × Kept (now m) (now w) ⌝ }
-    ensures { λ s. ⌜ Makes (now (m .entry)) 0 (itemBody v (now (m .entry)) (st .at)) (st .notes) (now (places .entry)) (stepped s) (now (places .exit)) × Kept (now (m .entry)) (now (w .exit)) ⌝ }
-{
-    let b = after(st.begin_item(), st.at as usize + 14);
-    then_held(m, v, b, places, t, w)
-}
-
-// An item from the `<` of its start tag, which lies whole at the state's place, to behind its end tag, by the exact reader alone.
+// An item from the `<` of its start tag, which lies whole at the state's place, to behind its end tag, by the exact reader.
 fn exact_item(m: &[u8], v: Version, st: State, places: &mut [u32]) -> Step
     requires { ⌜ Good (now m) (stated st) × (st .at + 14 ≤ length (now m)) × Room 0 (st .notes) ⌝ }
     ensures { λ s. ⌜ Makes (now (m .entry)) 0 (itemBody v (now (m .entry)) (st .at)) (st .notes) (now (places .entry)) (stepped s) (now (places .exit)) ⌝ }
@@ -1072,39 +1021,31 @@ fn more_items(m: &[u8], v: Version, before: Step, places: &mut [u32], t: &[u8]) 
 
 // ---- The whole message
 
-// The first item, which is due after white space.
-fn first_item(
-    m: &[u8],
-    v: Version,
-    st: State,
-    places: &mut [u32],
-    t: &[u8],
-    w: &mut [usize; 101],
-) -> Step
-    requires { ⌜ Good (now m) (stated st) × Room 0 (st .notes) × Texts (now t) × Kept (now m) (now w) ⌝ }
-    ensures { λ s. ⌜ Makes (now (m .entry)) 0 (dueItem v (now (m .entry)) (st .at)) (st .notes) (now (places .entry)) (stepped s) (now (places .exit)) × Kept (now (m .entry)) (now (w .exit)) ⌝ }
+// The first item, which is due after white space, by the exact reader.
+fn first_item(m: &[u8], v: Version, st: State, places: &mut [u32]) -> Step
+    requires { ⌜ Good (now m) (stated st) × Room 0 (st .notes) ⌝ }
+    ensures { λ s. ⌜ Makes (now (m .entry)) 0 (dueItem v (now (m .entry)) (st .at)) (st .notes) (now (places .entry)) (stepped s) (now (places .exit)) ⌝ }
 {
     let s = seek(m, b"<DrctDbtTxInf>", st);
     let look = s.look;
     let at = s.at;
     match look {
-        Look::Whole => one_item(m, v, st.at_place(at as u32), places, t, w),
+        Look::Whole => exact_item(m, v, st.at_place(at as u32), places),
         Look::Cut => st.refuse(3, m.len()),
         Look::Other => st.refuse(4, at),
     }
 }
 
 // The same after a step.
-fn then_first(m: &[u8], v: Version, before: Step, places: &mut [u32], t: &[u8]) -> Step
-    requires { ⌜ Fine (now m) 0 (stepped before) × After (stepped before) (Room 0) × Texts (now t) ⌝ }
+fn then_first(m: &[u8], v: Version, before: Step, places: &mut [u32]) -> Step
+    requires { ⌜ Fine (now m) 0 (stepped before) × After (stepped before) (Room 0) ⌝ }
     ensures { λ s. ⌜ MakesThen (now (m .entry)) (dueItem v (now (m .entry))) (stepped before) (now (places .entry)) (stepped s) (now (places .exit)) ⌝ }
 {
     let met = before.met;
     let st = before.state;
-    let mut w = [0; 101];
     match met {
         Met::Stopped(number, place) => st.refuse(number, place),
-        Met::On => first_item(m, v, st, places, t, &mut w),
+        Met::On => first_item(m, v, st, places),
     }
 }
 
@@ -1115,7 +1056,7 @@ fn in_bulk(m: &[u8], v: Version, before: Step, places: &mut [u32], t: &[u8]) -> 
 {
     let a = then_open(m, b"<GrpHdr>", before);
     let b = header_exact(m, v, a, places);
-    let c = then_first(m, v, b, places, t);
+    let c = then_first(m, v, b, places);
     more_items(m, v, c, places, t)
 }
 
@@ -1144,6 +1085,47 @@ pub fn message(m: &[u8], at: usize, v: Version, places: &mut [u32]) -> Step
     bulk(m, v, st.read_on(), places, &t)
 }
 
+// Whether the quick reader told an item, and the state behind it.
+struct Known {
+    told: bool,
+    state: State,
+}
+
+// The item that stands at a place, after white space, with nothing noted before it, as far as the quick reader tells it.
+fn swift_item(m: &[u8], p: usize, v: Version, t: &[u8], w: &mut [usize; 101]) -> Known
+    requires { ⌜ (length (now m) ≤ mostBytes) × (p ≤ length (now m)) × Texts (now t) × Kept (now m) (now w) ⌝ }
+    ensures { λ r. ⌜ (r .told ≡ true → (itemAt v (now (m .entry)) p ≡ on (stated (r .state))) × Good (now (m .entry)) (stated (r .state))) × Kept (now (m .entry)) (now (w .exit)) ⌝ }
+{
+    let st = State::new(p as u32);
+    let at = quick::item_tag(m, p);
+    if at == 0 {
+        return Known {
+            told: false,
+            state: st,
+        };
+    }
+    let b = st.at_place((at - 14) as u32).begin_item();
+    if engine::is_stopped(b) {
+        return Known {
+            told: false,
+            state: st,
+        };
+    }
+    let begun = b.state;
+    let r = quick::read_item(m, at, v, begun.notes.typed, begun.notes.service, t, w);
+    let back = r.back;
+    if back.at == 0 {
+        return Known {
+            told: false,
+            state: st,
+        };
+    }
+    Known {
+        told: true,
+        state: quick::note_item(begun, r),
+    }
+}
+
 // The item that stands at a place, after white space, with nothing noted before it.
 pub fn item(m: &[u8], at: usize, v: Version) -> Step
     ensures { λ s. ⌜ (stepped s ≡ itemAt v (now (m .entry)) at) × Fine (now (m .entry)) 0 (stepped s) ⌝ }
@@ -1154,11 +1136,14 @@ pub fn item(m: &[u8], at: usize, v: Version) -> Step
     if m.len() < at {
         return State::new(0).refuse(1, 0);
     }
-    let st = State::new(at as u32);
-    let mut none = [0; 1];
-    let mut w = [0; 101];
     let t = quick::texts();
-    first_item(m, v, st, &mut none, &t, &mut w)
+    let mut w = [0; 101];
+    let k = swift_item(m, at, v, &t, &mut w);
+    if k.told {
+        return k.state.read_on();
+    }
+    let mut none = [0; 1];
+    first_item(m, v, State::new(at as u32), &mut none)
 }
 
 // Whether an item was read, and the place behind it.
@@ -1167,51 +1152,13 @@ struct ReadRow {
     at: usize,
 }
 
-// The item that stands at a place, after white space, with nothing noted before it, told in a row by the quick reader: the place behind it, or 0 where that does not tell.
-fn swift_row(
-    m: &[u8],
-    p: usize,
-    v: Version,
-    row: &mut [u64],
-    t: &[u8],
-    w: &mut [usize; 101],
-) -> usize
-    requires { ⌜ (length (now m) ≤ mostBytes) × (p ≤ length (now m)) × Texts (now t) × Kept (now m) (now w) ⌝ }
-    ensures { λ r. ⌜ Found (λ e. ItemTold v (now (m .entry)) p (now (row .entry)) e (now (row .exit))) r × (r ≡ 0 → now (row .exit) ≡ now (row .entry)) × Kept (now (m .entry)) (now (w .exit)) ⌝ }
-{
-    let at = quick::item_tag(m, p);
-    if at == 0 {
-        return 0;
-    }
-    let b = State::new((at - 14) as u32).begin_item();
-    if engine::is_stopped(b) {
-        return 0;
-    }
-    let begun = b.state;
-    let r = quick::read_item(m, at, v, begun.notes.typed, begun.notes.service, t, w);
-    let back = r.back;
-    if back.at == 0 {
-        return 0;
-    }
-    let s = quick::note_item(begun, r);
-    engine::tell(row, s.notes);
-    back.at
-}
-
-// The same by either reader.
-fn any_row(
-    m: &[u8],
-    p: usize,
-    v: Version,
-    row: &mut [u64],
-    t: &[u8],
-    w: &mut [usize; 101],
-) -> ReadRow
-    requires { ⌜ (length (now m) ≤ mostBytes) × (p ≤ length (now m)) × Texts (now t) × Kept (now m) (now w) ⌝ }
-    ensures { λ r. ⌜ RowRead (r .read) v (now (m .entry)) p (now (row .entry)) (r .at) (now (row .exit)) × Kept (now (m .entry)) (now (w .exit)) ⌝ }
+// The item that stands at a place, with nothing noted before it, told in a row by the exact reader.
+fn exact_row(m: &[u8], p: usize, v: Version, row: &mut [u64]) -> ReadRow
+    requires { ⌜ (length (now m) ≤ mostBytes) × (p ≤ length (now m)) ⌝ }
+    ensures { λ r. ⌜ RowRead (r .read) v (now (m .entry)) p (now (row .entry)) (r .at) (now (row .exit)) ⌝ }
 {
     let mut none = [0; 1];
-    let s = first_item(m, v, State::new(p as u32), &mut none, t, w);
+    let s = first_item(m, v, State::new(p as u32), &mut none);
     let met = s.met;
     let st = s.state;
     match met {
@@ -1226,7 +1173,7 @@ fn any_row(
     }
 }
 
-// The same by the quick reader, or else by either.
+// The same by the quick reader, or by the exact one where that does not tell.
 fn one_row(
     m: &[u8],
     p: usize,
@@ -1238,11 +1185,16 @@ fn one_row(
     requires { ⌜ (length (now m) ≤ mostBytes) × (p ≤ length (now m)) × Texts (now t) × Kept (now m) (now w) ⌝ }
     ensures { λ r. ⌜ RowRead (r .read) v (now (m .entry)) p (now (row .entry)) (r .at) (now (row .exit)) × Kept (now (m .entry)) (now (w .exit)) ⌝ }
 {
-    let e = swift_row(m, p, v, row, t, w);
-    if e != 0 {
-        return ReadRow { read: true, at: e };
+    let k = swift_item(m, p, v, t, w);
+    if !k.told {
+        return exact_row(m, p, v, row);
     }
-    any_row(m, p, v, row, t, w)
+    let st = k.state;
+    engine::tell(row, st.notes);
+    ReadRow {
+        read: true,
+        at: st.at as usize,
+    }
 }
 
 // As many items as rows have room for, from a place on, one behind the other; what was kept of those before helps to read the next. None where rule 1 or the place forbids it.

@@ -29,24 +29,22 @@ cast-at-place c = search needs
 at-place-requires : tie.Need-at-place-requires
 at-place-requires c κs = search needs
 
-one-item-requires : tie.Need-one-item-requires
-one-item-requires c κs =
-    let s = c .before .before .before .before .before .seek in
-    let a = c .before .before .before .before .before .before .before .before .before .before .args in
-    let e = c .before .before .before .before .before .before .before .before .before .before .pre in
+exact-item-requires : tie.Need-exact-item-requires
+exact-item-requires c κs =
+    let c8 = c .before .before .before .before .before .before .before .before in
+    let s = c .before .before .before .before .seek in
+    let a = c8 .args in
+    let e = c8 .pre in
     let m = a .m .now in
-    let g = e .0 in
-    let the-at-place = c .before .before .at-place in
-    let w : s .result .at + 14 ≤ length m = tag-within m (a .st .at) (a .st .notes) g itemTag (s .result .at) (s .ensures .0) (s .ensures .1) (s .result .look) (s .ensures .2)
-    (c .before .before .before .enum-told .given .1) in
-    let i = ap (λ (z : Ended Notes). z .at) (the-at-place .ensures) in
-    let j = ap (λ (z : Ended Notes). z .notes) (the-at-place .ensures) in (
-      good-there m (a .st .at) (a .st .notes) g itemTag (s .result .at) (s .ensures .0) (s .ensures .1) (s .result .look) (s .ensures .2) (s .result .at) (s .ensures .1)
-          (stated (the-at-place .result)) (the-at-place .ensures),
+    let p = c .before .at-place in
+    let w : s .result .at + 14 ≤ length m = tag-within m (a .st .at) (a .st .notes) (e .0) itemTag (s .result .at) (s .ensures .0) (s .ensures .1) (s .result .look) (s .ensures .2)
+    (c .before .before .enum-told .given .1) in
+    let i = ap (λ (z : Ended Notes). z .at) (p .ensures) in
+    let j = ap (λ (z : Ended Notes). z .notes) (p .ensures) in (
+      good-there m (a .st .at) (a .st .notes) (e .0) itemTag (s .result .at) (s .ensures .0) (s .ensures .1) (s .result .look) (s .ensures .2) (s .result .at) (s .ensures .1)
+          (stated (p .result)) (p .ensures),
       omega (arith, i, w),
       rw j (e .1),
-      e .2,
-      e .3,
     )
 
 enum-told-2 : tie.Need-enum-told-2
@@ -66,43 +64,34 @@ same-length c = search needs
 
 returns : tie.Need-returns
 returns c =
-    let a = c .before .before .before .before .before .before .before .before .before .before .before .before .before .args in
-    let e = c .before .before .before .before .before .before .before .before .before .before .before .before .before .pre in
+    let c8 = c .before .before .before .before .before .before .before .before in
+    let a = c8 .before .before .before .args in
     let m = a .m .now in
-    let g = e .0 in
-    let s = c .before .before .before .before .before .before .before .before .seek in
-    let the-enum-told = c .before .before .before .before .before .before .enum-told in
-    let the-one-item = c .before .before .one-item in
-    let the-at-place = c .before .before .before .before .before .at-place in
-    let y = by-whole m (a .st .at) (a .st .notes) g itemTag (s .result .at) (s .ensures .0) (s .ensures .1) (s .result .look) (s .ensures .2)
-    (itemBody (a .v) m) (fault 4) (a .places .now) (the-enum-told .given .1) 0 (stepped (the-one-item .result)) _
-    (makes-at m 0 (itemBody (a .v) m) (stated (the-at-place .result)) (s .result .at) (a .st .notes) (the-at-place .ensures)
-    (a .places .now) (stepped (the-one-item .result)) _ (the-one-item .ensures .0)) in
-    (y, the-one-item .ensures .1)
+    let s = c .before .before .before .before .before .before .before .seek in
+    let p = c .before .before .before .before .at-place in
+    let x = c .before .before .exact-item in
+    by-whole m (a .st .at) (a .st .notes) (c8 .before .before .before .pre .0) itemTag (s .result .at) (s .ensures .0) (s .ensures .1) (s .result .look) (s .ensures .2)
+    (itemBody (a .v) m) (fault 4) (a .places .now) (c .before .before .before .before .before .enum-told .given .1) 0 (stepped (x .result)) _
+    (makes-at m 0 (itemBody (a .v) m) (stated (p .result)) (s .result .at) (a .st .notes) (p .ensures) (a .places .now) (stepped (x .result)) _ (x .ensures))
 
 returns-2 : tie.Need-returns-2
 returns-2 c =
-    let a = c .before .before .before .before .before .before .before .before .args in
-    let e = c .before .before .before .before .before .before .before .before .pre in
+    let a = c .before .before .before .before .before .before .before .args in
     let m = a .m .now in
-    let g = e .0 in
     let s = c .before .before .before .seek in
-    let the-refuse = c .refuse in
-    let y = by-cut m (a .st .at) (a .st .notes) g itemTag (s .result .at) (s .ensures .0) (s .ensures .1) (s .result .look) (s .ensures .2)
-    (itemBody (a .v) m) (fault 4) (a .places .now) (c .before .enum-told2 .given .1) (stepped (the-refuse .result)) (the-refuse .ensures) in
-    ((y .0, later m 0 (a .st .at) (omega arith) (stepped (the-refuse .result)) (y .1), y .2), e .3)
+    let r = c .refuse in
+    let y = by-cut m (a .st .at) (a .st .notes) (c .before .before .before .before .before .before .before .pre .0) itemTag (s .result .at) (s .ensures .0) (s .ensures .1) (s .result .look) (s .ensures .2)
+    (itemBody (a .v) m) (fault 4) (a .places .now) (c .before .enum-told2 .given .1) (stepped (r .result)) (r .ensures) in
+    (y .0, later m 0 (a .st .at) (omega arith) (stepped (r .result)) (y .1), y .2)
 
 returns-3 : tie.Need-returns-3
 returns-3 c =
-    let a = c .before .before .before .before .before .before .before .before .args in
-    let e = c .before .before .before .before .before .before .before .before .pre in
+    let a = c .before .before .before .before .before .before .before .args in
     let m = a .m .now in
-    let g = e .0 in
     let s = c .before .before .before .seek in
-    let the-refuse2 = c .refuse2 in
-    let y = by-other m (a .st .at) (a .st .notes) g itemTag (s .result .at) (s .ensures .0) (s .ensures .1) (s .result .look) (s .ensures .2)
-    (itemBody (a .v) m) (fault 4) (a .places .now) (c .before .enum-told3 .given .1) 0 (stepped (the-refuse2 .result)) _ (the-refuse2 .ensures, rw (the-refuse2 .ensures) (s .ensures .1), refl) in
-    (y, e .3)
+    let r = c .refuse2 in
+    by-other m (a .st .at) (a .st .notes) (c .before .before .before .before .before .before .before .pre .0) itemTag (s .result .at) (s .ensures .0) (s .ensures .1) (s .result .look) (s .ensures .2)
+    (itemBody (a .v) m) (fault 4) (a .places .now) (c .before .enum-told3 .given .1) 0 (stepped (r .result)) _ (r .ensures, rw (r .ensures) (s .ensures .1), refl)
 
 pub first-item-spec : {M : Type 1} → statement M
 first-item-spec =
@@ -113,7 +102,7 @@ first-item-spec =
     enum-told
     cast-at-place
     at-place-requires
-    one-item-requires
+    exact-item-requires
     enum-told-2
     refuse-requires
     enum-told-3

@@ -33,7 +33,7 @@ then-first-requires c κs =
     let h = stepped (the-header-exact .result) in
     let i1 = keeps-behind 0 (openOf (plainTag headerName) m) (open-keeps m 0 (plainTag headerName)) (stepped (the-args .before)) o (the-then-open .ensures .0) (the-pre .1) in
     let i2 = keeps-behind 0 (trace (inHeader (the-args .v)) m) (header-keeps (the-args .v) m) o h (the-header-exact .ensures .0) i1 in
-    (the-header-exact .ensures .1, i2, the-pre .2)
+    (the-header-exact .ensures .1, i2)
 
 more-items-requires : tie.Need-more-items-requires
 more-items-requires c κs =

@@ -1,8 +1,10 @@
 -- `straight::item` meets its contract.
+use mathlib.Core.Path.{sym, _∙_}
+use native.Mathlib.Omega.{arith}
 use Rattle.notes.specs.Steps.{stated, stepped}
 use Rattle.engine.proofs.Whole.{item-long, item-far}
-use Rattle.straight.proofs.Kept.{kept-none}
 use Rattle.straight.proofs.Frame.{starts-good, starts-room, item-makes}
+use Rattle.straight.proofs.Kept.{kept-none}
 use borrow.Author.Needs.{needs}
 use Rattle.straight.proofs.item.Statement.{statement}
 use Rattle.straight.proofs.item.Tie as tie
@@ -15,9 +17,8 @@ refuse-requires c κs = search needs
 
 returns : tie.Need-returns
 returns c =
-    let the-args = c .before .before .before .before .args in
-    let the-refuse = c .refuse in
-    item-long (the-args .v) (the-args .m .now) (the-args .at) (c .before .before .if1 .taken) (stepped (the-refuse .result)) (the-refuse .ensures)
+    let a = c .before .before .before .before .args in
+    item-long (a .v) (a .m .now) (a .at) (c .before .before .if1 .taken) (stepped (c .refuse .result)) (c .refuse .ensures)
 
 new-requires-2 : tie.Need-new-requires-2
 new-requires-2 c κs = search needs
@@ -27,9 +28,26 @@ refuse-requires-2 c κs = search needs
 
 returns-2 : tie.Need-returns-2
 returns-2 c =
-    let the-args = c .before .before .before .before .before .args in
-    let the-refuse2 = c .refuse2 in
-    item-far (the-args .v) (the-args .m .now) (the-args .at) (c .before .before .before .if1 .left) (c .before .before .if2 .taken) (stepped (the-refuse2 .result)) (the-refuse2 .ensures)
+    let a = c .before .before .before .before .before .args in
+    item-far (a .v) (a .m .now) (a .at) (c .before .before .before .if1 .left) (c .before .before .if2 .taken) (stepped (c .refuse2 .result)) (c .refuse2 .ensures)
+
+texts-requires : tie.Need-texts-requires
+texts-requires c κs = search needs
+
+slice-aggregate-swift-item : tie.Need-slice-aggregate-swift-item
+slice-aggregate-swift-item c = search needs
+
+swift-item-requires : tie.Need-swift-item-requires
+swift-item-requires c κs = (c .before .before .before .before .if1 .left, c .before .before .before .if2 .left, c .before .before .texts .ensures, kept-none _)
+
+read-on-requires : tie.Need-read-on-requires
+read-on-requires c κs = search needs
+
+returns-3 : tie.Need-returns-3
+returns-3 c =
+    let k = c .before .before .swift-item .ensures .0 (c .before .if3 .taken) in
+    let r = c .read-on .ensures in
+    (r ∙ sym (k .0), rw r (k .1, omega arith))
 
 cast-new : tie.Need-cast-new
 cast-new c = search needs
@@ -37,35 +55,25 @@ cast-new c = search needs
 new-requires-3 : tie.Need-new-requires-3
 new-requires-3 c κs = search needs
 
-texts-requires : tie.Need-texts-requires
-texts-requires c κs = search needs
-
 slice-aggregate-first-item : tie.Need-slice-aggregate-first-item
 slice-aggregate-first-item c = search needs
 
-slice-aggregate-first-item-2 : tie.Need-slice-aggregate-first-item-2
-slice-aggregate-first-item-2 c = search needs
-
 first-item-requires : tie.Need-first-item-requires
 first-item-requires c κs =
-    let the-args = c .before .before .before .before .before .before .before .before .args in
-    let the-if1 = c .before .before .before .before .before .before .if1 in
-    let the-if2 = c .before .before .before .before .before .if2 in
-    let the-new3 = c .before .before .before .before .new3 in (
-      starts-good (the-args .v) (the-args .m .now) (the-args .at) (the-if1 .left) (the-if2 .left) (stated (the-new3 .result)) (the-new3 .ensures),
-      starts-room (the-args .v) (the-args .m .now) (the-args .at) (the-if1 .left) (the-if2 .left) (stated (the-new3 .result)) (the-new3 .ensures),
-      c .before .before .before .texts .ensures,
-      kept-none (the-args .m .now),
+    let c8 = c .before .before .before .before .before .before .before .before in
+    let a = c8 .before .before .args in
+    let n = c .before .new3 in (
+      starts-good (a .v) (a .m .now) (a .at) (c8 .if1 .left) (c .before .before .before .before .before .before .before .if2 .left) (stated (n .result)) (n .ensures),
+      starts-room (a .v) (a .m .now) (a .at) (c8 .if1 .left) (c .before .before .before .before .before .before .before .if2 .left) (stated (n .result)) (n .ensures),
     )
 
-returns-3 : tie.Need-returns-3
-returns-3 c =
-    let the-args = c .before .before .before .before .before .before .before .before .before .before .args in
-    let the-if1 = c .before .before .before .before .before .before .before .before .if1 in
-    let the-new3 = c .before .before .before .before .before .before .new3 in
-    let the-first-item = c .before .first-item in
-    item-makes (the-args .v) (the-args .m .now) (the-args .at) (the-if1 .left) (c .before .before .before .before .before .before .before .if2 .left) (stated (the-new3 .result)) (the-new3 .ensures) _
-    (stepped (the-first-item .result)) _ (the-first-item .ensures .0)
+returns-4 : tie.Need-returns-4
+returns-4 c =
+    let c8 = c .before .before .before .before .before .before .before .before in
+    let a = c8 .before .before .before .before .args in
+    let n = c .before .before .before .new3 in
+    let f = c .before .first-item in
+    item-makes (a .v) (a .m .now) (a .at) (c8 .before .before .if1 .left) (c8 .before .if2 .left) (stated (n .result)) (n .ensures) _ (stepped (f .result)) _ (f .ensures)
 
 pub item-spec : {M : Type 1} → statement M
 item-spec =
@@ -77,10 +85,13 @@ item-spec =
     new-requires-2
     refuse-requires-2
     returns-2
+    texts-requires
+    slice-aggregate-swift-item
+    swift-item-requires
+    read-on-requires
+    returns-3
     cast-new
     new-requires-3
-    texts-requires
     slice-aggregate-first-item
-    slice-aggregate-first-item-2
     first-item-requires
-    returns-3)
+    returns-4)

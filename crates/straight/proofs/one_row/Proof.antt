@@ -1,43 +1,52 @@
 -- `straight::one_row` meets its contract.
-use mathlib.Core.Path.{_≡_}
 use native.Mathlib.Omega.{arith}
-use Rattle.swift_values.proofs.Values.{found-at}
-use Rattle.straight.specs.Exact.{ItemTold}
+use borrow.Author.Tests.{not-false}
+use Rattle.notes.specs.Steps.{stated}
+use Rattle.straight.proofs.Swift.{row-told}
 use borrow.Author.Needs.{needs}
 use Rattle.straight.proofs.one_row.Statement.{statement}
 use Rattle.straight.proofs.one_row.Tie as tie
 
-swift-row-requires : tie.Need-swift-row-requires
-swift-row-requires c κs = search needs
+swift-item-requires : tie.Need-swift-item-requires
+swift-item-requires c κs = search needs
+
+exact-row-requires : tie.Need-exact-row-requires
+exact-row-requires c κs =
+    let c8 = c .before .before .before .before .before .before .before .before in
+    (c8 .pre .0, c8 .pre .1)
 
 same-length : tie.Need-same-length
 same-length c = search needs
 
 returns : tie.Need-returns
-returns c =
-    let a = (c .before .before .before .before .before .before .before .before .before .args) in
-    let s = (c .before .before .before .swift-row) in
-    (found-at (λ e. ItemTold (a .v) (a .m .now) (a .p) (a .row .now) e _) (s .result) (omega arith) (s .ensures .0), s .ensures .2)
+returns c = (c .before .before .exact-row .ensures, c .before .before .before .before .before .before .swift-item .ensures .1)
 
-any-row-requires : tie.Need-any-row-requires
-any-row-requires c κs = search needs
+tell-requires : tie.Need-tell-requires
+tell-requires c κs = search needs
+
+cast-t16 : tie.Need-cast-t16
+cast-t16 c = search needs
 
 same-length-2 : tie.Need-same-length-2
 same-length-2 c = search needs
 
 returns-2 : tie.Need-returns-2
 returns-2 c =
-    let s = (c .before .before .before .before .before .before .before .before .swift-row) in
-    let z : s .result ≡ 0 = omega arith in
-    (rw (s .ensures .1 z) at ((c .before .before .any-row) .ensures .0), (c .before .before .any-row) .ensures .1)
+    let c8 = c .before .before .before .before .before .before .before .before in
+    let a = c8 .before .before .before .before .before .args in
+    let s = c8 .swift-item in
+    let k = s .ensures .0 (not-false _ (c .before .before .before .before .before .before .if1 .left)) in
+    (row-told (a .v) (a .m .now) (a .p) (a .row .now) _ (stated (s .result .state)) (k .0) (k .1 .within) (c .before .before .before .tell .ensures), s .ensures .1)
 
 pub one-row-spec : {M : Type 1} → statement M
 one-row-spec =
     tie.close
     (tie.spec
-    swift-row-requires
+    swift-item-requires
+    exact-row-requires
     same-length
     returns
-    any-row-requires
+    tell-requires
+    cast-t16
     same-length-2
     returns-2)

@@ -20,57 +20,66 @@ size-requires c κs = search needs
 
 add-spell : tie.Need-add-spell
 add-spell c =
-    let a = (c .before .before .before .before .args) in
-    let x = (c .before .before .before .before .pre) .2 in
-    omega (arith, row-within (a .t .now) x (a .j) ((c .size) .result) ((c .before .before .before .before .pre) .1) ((c .size) .ensures .0), size-short (a .t .now) x (a .j) ((c .size) .result) ((c .before .before .before .before .pre) .1) ((c .size) .ensures .0))
+    let a = c .before .before .before .before .args in
+    let h = c .before .before .before .before .pre in
+    let s = c .size in
+    omega (arith, row-within (a .t .now) (h .2) (a .j) (s .result) (h .1) (s .ensures .0), size-short (a .t .now) (h .2) (a .j) (s .result) (h .1) (s .ensures .0))
 
 sub-spell : tie.Need-sub-spell
 sub-spell c =
-    let a = (c .before .before .before .before .args) in
-    let x = (c .before .before .before .before .pre) .2 in
-    omega (arith, row-within (a .t .now) x (a .j) ((c .size) .result) ((c .before .before .before .before .pre) .1) ((c .size) .ensures .0), size-short (a .t .now) x (a .j) ((c .size) .result) ((c .before .before .before .before .pre) .1) ((c .size) .ensures .0))
+    let a = c .before .before .before .before .args in
+    let h = c .before .before .before .before .pre in
+    let s = c .size in
+    omega (arith, row-within (a .t .now) (h .2) (a .j) (s .result) (h .1) (s .ensures .0), size-short (a .t .now) (h .2) (a .j) (s .result) (h .1) (s .ensures .0))
 
 part-spell-start : tie.Need-part-spell-start
 part-spell-start c =
-    let a = (c .before .before .before .before .args) in
-    let x = (c .before .before .before .before .pre) .2 in
-    omega (arith, row-within (a .t .now) x (a .j) ((c .size) .result) ((c .before .before .before .before .pre) .1) ((c .size) .ensures .0), size-short (a .t .now) x (a .j) ((c .size) .result) ((c .before .before .before .before .pre) .1) ((c .size) .ensures .0))
+    let a = c .before .before .before .before .args in
+    let h = c .before .before .before .before .pre in
+    let s = c .size in
+    omega (arith, row-within (a .t .now) (h .2) (a .j) (s .result) (h .1) (s .ensures .0), size-short (a .t .now) (h .2) (a .j) (s .result) (h .1) (s .ensures .0))
 
 part-spell-end : tie.Need-part-spell-end
 part-spell-end c =
-    let a = (c .before .before .before .before .args) in
-    let x = (c .before .before .before .before .pre) .2 in
-    omega (arith, row-within (a .t .now) x (a .j) ((c .size) .result) ((c .before .before .before .before .pre) .1) ((c .size) .ensures .0), size-short (a .t .now) x (a .j) ((c .size) .result) ((c .before .before .before .before .pre) .1) ((c .size) .ensures .0))
+    let a = c .before .before .before .before .args in
+    let h = c .before .before .before .before .pre in
+    let s = c .size in
+    omega (arith, row-within (a .t .now) (h .2) (a .j) (s .result) (h .1) (s .ensures .0), size-short (a .t .now) (h .2) (a .j) (s .result) (h .1) (s .ensures .0))
 
 add-spell-2 : tie.Need-add-spell-2
 add-spell-2 c =
-    let a = (c .before .before .before .before .before .args) in
-    let x = (c .before .before .before .before .before .pre) .2 in
-    omega (arith, row-within (a .t .now) x (a .j) ((c .before .size) .result) ((c .before .before .before .before .before .pre) .1) ((c .before .size) .ensures .0), size-short (a .t .now) x (a .j) ((c .before .size) .result) ((c .before .before .before .before .before .pre) .1) ((c .before .size) .ensures .0))
+    let a = c .before .before .before .before .before .args in
+    let h = c .before .before .before .before .before .pre in
+    let s = c .before .size in
+    omega (arith, row-within (a .t .now) (h .2) (a .j) (s .result) (h .1) (s .ensures .0), size-short (a .t .now) (h .2) (a .j) (s .result) (h .1) (s .ensures .0))
 
 add-spell-3 : tie.Need-add-spell-3
 add-spell-3 c =
-    let a = (c .before .before .before .before .before .args) in
-    let x = (c .before .before .before .before .before .pre) .2 in
-    omega (arith, row-within (a .t .now) x (a .j) ((c .before .size) .result) ((c .before .before .before .before .before .pre) .1) ((c .before .size) .ensures .0), size-short (a .t .now) x (a .j) ((c .before .size) .result) ((c .before .before .before .before .before .pre) .1) ((c .before .size) .ensures .0))
+    let a = c .before .before .before .before .before .args in
+    let h = c .before .before .before .before .before .pre in
+    let s = c .before .size in
+    omega (arith, row-within (a .t .now) (h .2) (a .j) (s .result) (h .1) (s .ensures .0), size-short (a .t .now) (h .2) (a .j) (s .result) (h .1) (s .ensures .0))
 
 sub-spell-2 : tie.Need-sub-spell-2
 sub-spell-2 c =
-    let a = (c .before .before .before .before .before .args) in
-    let x = (c .before .before .before .before .before .pre) .2 in
-    omega (arith, row-within (a .t .now) x (a .j) ((c .before .size) .result) ((c .before .before .before .before .before .pre) .1) ((c .before .size) .ensures .0), size-short (a .t .now) x (a .j) ((c .before .size) .result) ((c .before .before .before .before .before .pre) .1) ((c .before .size) .ensures .0))
+    let a = c .before .before .before .before .before .args in
+    let h = c .before .before .before .before .before .pre in
+    let s = c .before .size in
+    omega (arith, row-within (a .t .now) (h .2) (a .j) (s .result) (h .1) (s .ensures .0), size-short (a .t .now) (h .2) (a .j) (s .result) (h .1) (s .ensures .0))
 
 part-spell-start-2 : tie.Need-part-spell-start-2
 part-spell-start-2 c =
-    let a = (c .before .before .before .before .before .args) in
-    let x = (c .before .before .before .before .before .pre) .2 in
-    omega (arith, row-within (a .t .now) x (a .j) ((c .before .size) .result) ((c .before .before .before .before .before .pre) .1) ((c .before .size) .ensures .0), size-short (a .t .now) x (a .j) ((c .before .size) .result) ((c .before .before .before .before .before .pre) .1) ((c .before .size) .ensures .0))
+    let a = c .before .before .before .before .before .args in
+    let h = c .before .before .before .before .before .pre in
+    let s = c .before .size in
+    omega (arith, row-within (a .t .now) (h .2) (a .j) (s .result) (h .1) (s .ensures .0), size-short (a .t .now) (h .2) (a .j) (s .result) (h .1) (s .ensures .0))
 
 part-spell-end-2 : tie.Need-part-spell-end-2
 part-spell-end-2 c =
-    let a = (c .before .before .before .before .before .args) in
-    let x = (c .before .before .before .before .before .pre) .2 in
-    omega (arith, row-within (a .t .now) x (a .j) ((c .before .size) .result) ((c .before .before .before .before .before .pre) .1) ((c .before .size) .ensures .0), size-short (a .t .now) x (a .j) ((c .before .size) .result) ((c .before .before .before .before .before .pre) .1) ((c .before .size) .ensures .0))
+    let a = c .before .before .before .before .before .args in
+    let h = c .before .before .before .before .before .pre in
+    let s = c .before .size in
+    omega (arith, row-within (a .t .now) (h .2) (a .j) (s .result) (h .1) (s .ensures .0), size-short (a .t .now) (h .2) (a .j) (s .result) (h .1) (s .ensures .0))
 
 spell-requires : tie.Need-spell-requires
 spell-requires c κs =
