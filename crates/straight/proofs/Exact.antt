@@ -2,7 +2,7 @@
 use mathlib.Core.Path.{_≡_, refl, sym, ap, _∙_}
 use mathlib.Core.Bool.{Bool, true, false}
 use mathlib.Core.List.{List}
-use Prim.Native.Nat.{ℕ, zero, suc, _+_, _-_, _≤_}
+use Prim.Native.Nat.{ℕ, _+_, _-_, _≤_}
 use Prim.Native.String.{String}
 use native.Mathlib.Omega.{arith}
 use lib.ListN.{length, take, drop, length-drop}
@@ -35,12 +35,10 @@ use Rattle.engine.specs.Engine.{closedBy, valuedBy, orElse, placed}
 use Rattle.engine.proofs.Steps.{fine-stop, spaces-fit}
 use Rattle.engine.proofs.Placed.{then-placed, closed-placed}
 use Rattle.engine.proofs.Steps.{closed-by}
-use Rattle.swift_values.specs.Stands.{Found}
 use Rattle.straight.specs.Due.{run, done, inside, Made, made}
 use Rattle.straight.specs.Exact.{leafOf, endOf, Makes, MakesThen}
 use Rattle.straight.specs.Pieces.{pmtId, endToEndId, txId}
 use Rattle.straight.proofs.Made.{made-met, made-same, Alike, once-ends, may-ends}
-use Rattle.swift_values.proofs.Values.{found-at}
 
 abbrev Going : Type 0
 Going = Reading (Ended Notes)

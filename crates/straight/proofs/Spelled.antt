@@ -43,11 +43,6 @@ blanks (c ∷ b) s t w h =
     let z = both-true (white c) (every white b) w in
     blank-byte c (b ++ s) t (z .0) (blanks b s t (z .1) h)
 
--- a text spells itself
-itself : (t : List ℕ) → spells t t ≡ true
-itself [] = refl
-itself (c ∷ t) = same-byte c t t (itself t)
-
 -- ---- the first tag of a run that is spelled: what stands before it, and what follows
 pub record Split (u rest s : List ℕ) : Type 0 where
   pub blank : List ℕ

@@ -1,8 +1,8 @@
 -- A way that was gone once is gone again where the same bytes stand.
-use mathlib.Core.Path.{_≡_, refl, sym, ap, _∙_}
+use mathlib.Core.Path.{_≡_, sym, ap, _∙_}
 use mathlib.Core.Bool.{Bool, true, false}
 use mathlib.Core.List.{List, [], _∷_, _++_}
-use Prim.Native.Nat.{ℕ, zero, suc, _+_, _-_, _≤_, _<_}
+use Prim.Native.Nat.{ℕ, _+_, _-_, _≤_, _<_}
 use native.Mathlib.Omega.{arith}
 use native.Mathlib.Nat.{add-zero, add-assoc}
 use borrow.Author.Tests.{eqb-true}
@@ -16,12 +16,12 @@ use Rattle.answers.specs.Given.{Given}
 use Rattle.tags.specs.Values.{inValue}
 use Rattle.profile.specs.declared.Kind.{Kind}
 use Rattle.kinds.specs.Given.{kindGiven}
-use Rattle.swift_values.specs.Stands.{Found, StandsFor}
-use Rattle.swift_values.proofs.Values.{found-at, value-ends}
+use Rattle.swift_values.specs.Stands.{StandsFor}
+use Rattle.swift_values.proofs.Values.{value-ends}
 use Rattle.straight.specs.Due.{Token, tight, spaced, flat}
 use Rattle.straight.specs.Words.{Match}
-use Rattle.straight.specs.Spelled.{spells, Spelled}
-use Rattle.straight.specs.Ways.{Leg, tags, holds, told, Opens, Passed, Held, Then, Way, Gone, lifted}
+use Rattle.straight.specs.Spelled.{spells}
+use Rattle.straight.specs.Ways.{Leg, tags, holds, told, Opens, Passed, Held, Way, lifted}
 use Rattle.straight.proofs.Words.{match-stands}
 use Rattle.straight.proofs.Ways.{lt-behind}
 

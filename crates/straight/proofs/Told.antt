@@ -1,17 +1,16 @@
 -- An item that the quick reader told is what the definition makes of it.
-use mathlib.Core.Path.{_≡_, refl, sym, ap, _∙_}
+use mathlib.Core.Path.{_≡_, refl, ap, _∙_}
 use mathlib.Core.List.{List}
-use Prim.Native.Nat.{ℕ, _+_, _*_, _≤_, _<_}
+use Prim.Native.Nat.{ℕ, _+_, _≤_, _<_}
 use native.Mathlib.Omega.{arith}
 use lib.ListN.{length}
 use Rattle.money.specs.declared.Range.the-variants as range
 use Rattle.money.specs.Amount.{most}
 use Rattle.profile.specs.declared.Field.the-variants.{TxId}
 use Rattle.profile.specs.declared.Version.{Version}
-use Rattle.profile.specs.Limits.{mostBytes, mostItems}
 use Rattle.profile.specs.Profile.{inItem}
 use Rattle.items.specs.Sums.{mostSum}
-use Rattle.reading.specs.Trace.{Trace, trace}
+use Rattle.reading.specs.Trace.{trace}
 use Rattle.reading.specs.Noted.{Reading, on, Ended}
 use Rattle.notes.specs.declared.Notes.{Notes}
 use Rattle.notes.specs.Steps.{Good, Room}
@@ -22,7 +21,7 @@ use Rattle.swift_values.proofs.Values.{found-at}
 use Rattle.straight.specs.declared.quick.Front.{Front}
 use Rattle.straight.specs.declared.quick.Back.{Back}
 use Rattle.straight.specs.declared.quick.Item.{Item}
-use Rattle.straight.specs.Exact.{Makes, MakesThen}
+use Rattle.straight.specs.Exact.{Makes}
 use Rattle.straight.specs.Ways.{Gone}
 use Rattle.straight.specs.Legs.{itemLegs, FrontWithin, BackWithin, Followed, itemNoted}
 use Rattle.straight.proofs.Exact.{made-makes}
@@ -30,10 +29,6 @@ use Rattle.straight.proofs.WholeItem.{item-made}
 
 abbrev Going : Type 0
 Going = Reading (Ended Notes)
-
--- behind a reading that goes on, what is made is what is made from there
-pub then-so : (m : List ℕ) (t : ℕ → Trace) (s : Ended Notes) (r : Going) (l : List ℕ) (x : Going) (y : List ℕ) → r ≡ on s → MakesThen m t r l x y → Makes m 0 (t (s .at)) (s .notes) l x y
-then-so m t s r l x y e i = rw e at i
 
 -- there is room for an item's cents
 pub cents-fit : (m : List ℕ) (p : ℕ) (x : Notes) (c : ℕ) → Good m (here p x) → Room 1 x → c ≤ most range.Item → x .sum + c ≤ mostSum

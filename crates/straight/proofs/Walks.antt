@@ -5,7 +5,6 @@ use mathlib.Core.List.{List, [], _∷_, _++_, append-assoc}
 use Prim.Native.Nat.{ℕ, _+_, _-_, _≤_, _<_}
 use Prim.Native.String.{String}
 use native.Mathlib.Omega.{arith}
-use native.Mathlib.Nat.{add-zero}
 use borrow.Author.Tests.{eqb-true, lt-ltb}
 use lib.ListN.{length, drop, length-append}
 use lib.Seq.{drop-drop, drop-append-seam}
@@ -29,7 +28,7 @@ use Rattle.reading.specs.Noted.{on, stop}
 use Rattle.notes.specs.declared.Notes.{Notes}
 use Rattle.notes.specs.Notes.{typeNumber, typeRefusal, withType, typeNoted, inNotes}
 use Rattle.engine.specs.Engine.{filedBy}
-use Rattle.straight.specs.Due.{Due, done, inside, value, close, run, made, Token, tight, spaced, textOf, flat, Walked, lost, to, onto, isOther, opening, unsaid, saidBy, allowed, heard, step, stepBy, walk, Leads}
+use Rattle.straight.specs.Due.{Due, done, inside, value, close, run, made, Token, tight, spaced, Walked, lost, to, onto, isOther, opening, unsaid, saidBy, allowed, heard, step, stepBy, walk, Leads}
 use Rattle.straight.proofs.Made.{made-met, once-ends, may-ends, unwrapped}
 
 -- ---- what fits is what it says

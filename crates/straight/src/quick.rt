@@ -22,7 +22,7 @@ ghost use Rattle.straight.specs.Spelled.{Spelled, Onto};
 ghost use Rattle.straight.specs.Runs.{textAt, Texts};
 ghost use Rattle.straight.specs.Ways.{told, mayFollow, Gone, lifted};
 ghost use Rattle.straight.specs.Exact.{ItemBegins};
-ghost use Rattle.straight.specs.Kept.{stretchLegs, sideOf, slotOf, offsets, Kept};
+ghost use Rattle.straight.specs.Kept.{stretchLegs, sideOf, offsets, Kept};
 ghost use Rattle.straight.specs.Legs.{stood, begunLegs, idsLegs, typedLegs, typeLegs, chargedLegs, termsLegs, mandateLegs, schemeLegs, creditorLegs, byVersion, toIban, toBic, partyLegs, agentLegs, lastLegs, frontLegs, backLegs, itemLegs, CodesWithin, SideWithin, FrontWithin, BackWithin, Follows, Followed, typeFrom, serviceFrom, frontFrom, backFrom, itemNoted};
 
 // A byte as a number of 64 bits.

@@ -1,5 +1,5 @@
 -- `straight::exact_row` meets its contract.
-use mathlib.Core.Path.{refl, sym, ap}
+use mathlib.Core.Path.{sym, ap}
 use native.Mathlib.Omega.{arith}
 use Rattle.notes.specs.Steps.{stated, metIn, stepped}
 use Rattle.engine.proofs.Steps.{fine-on}

@@ -1,6 +1,5 @@
 -- `straight::items` meets its contract. The loop's invariant: the rows of the items that are read stand before what was lent;
 -- the next item is within the message; what is kept of those before is spelled in it.
-use mathlib.Core.Path.{_≡_, refl, sym, _∙_}
 use Prim.Native.Nat.{_-_, _≤_}
 use native.Mathlib.Omega.{arith}
 use borrow.Author.Tests.{not-true, not-false}

@@ -2,7 +2,6 @@
 use mathlib.Core.Path.{refl, sym, _∙_}
 use Prim.Native.Nat.{_≤_, _<_}
 use native.Mathlib.Omega.{arith}
-use lib.ListN.{length}
 use Rattle.profile.specs.Limits.{mostBytes}
 use Rattle.reading.specs.Noted.{on}
 use Rattle.notes.specs.Steps.{stated, stepped}

@@ -1,5 +1,4 @@
 -- `straight::quick::anew` meets its contract.
-use mathlib.Core.Path.{refl}
 use native.Mathlib.Omega.{arith}
 use Rattle.straight.proofs.Runs.{row-within, size-short, text-is, text-some}
 use borrow.Author.Needs.{needs}

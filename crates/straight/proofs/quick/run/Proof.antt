@@ -1,10 +1,4 @@
 -- `straight::quick::run` meets its contract.
-use Rattle.straight.proofs.Runs.{run-again}
-use Rattle.straight.proofs.Kept.{kept-more}
-use Rattle.straight.specs.Runs.{textAt}
-use Rattle.straight.specs.Spelled.{Spelled}
-use Rattle.swift_values.proofs.Values.{found-at}
-use Rattle.swift_values.specs.Stands.{Found}
 use native.Mathlib.Omega.{arith}
 use borrow.Author.Needs.{needs}
 use Rattle.straight.proofs.quick.run.Statement.{statement}

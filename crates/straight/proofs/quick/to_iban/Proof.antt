@@ -1,5 +1,4 @@
 -- `straight::quick::to_iban` meets its contract.
-use Rattle.straight.specs.Runs.{textAt}
 use mathlib.Core.Path.{refl}
 use native.Mathlib.Omega.{arith}
 use borrow.Author.Needs.{needs}
