@@ -48,8 +48,10 @@ type Give<'a> = &'a mut dyn FnMut(Case);
 /// there.
 pub fn message(seed: u64, base: u64) -> (Message, Random) {
     let mut random = Random::new(seed ^ 0x1A70, base);
-    let items = match random.below(6) {
-        0 => random.between(5, 12),
+    // Some so long that a run of tags of which nothing was kept for eight items is kept again.
+    let items = match random.below(12) {
+        0 => random.between(13, 24),
+        1 | 2 => random.between(5, 12),
         _ => random.between(3, 4),
     };
     let few = random.between(1, 4);
