@@ -19,6 +19,8 @@ pub const NUMBERS: u64 = 100_000;
 pub const GATE: u64 = 120;
 /// Of every so many messages one is damaged at every place of the item, the others here and there.
 pub const FULL: u64 = 16;
+/// Of every so many messages one has 13 to 24 items.
+const LONG: u64 = 12;
 /// So many cases of a message for each damage that is not made place by place.
 const EACH: usize = 16;
 
@@ -48,12 +50,12 @@ type Give<'a> = &'a mut dyn FnMut(Case);
 /// there.
 pub fn message(seed: u64, base: u64) -> (Message, Random) {
     let mut random = Random::new(seed ^ 0x1A70, base);
-    // Some so long that a run of tags of which nothing was kept for eight items is kept again.
-    let items = match random.below(12) {
-        0 => random.between(13, 24),
-        1 | 2 => random.between(5, 12),
+    let usual = match random.below(6) {
+        0 => random.between(5, 12),
         _ => random.between(3, 4),
     };
+    // Some so long that a run of tags of which nothing was kept for eight items is kept again.
+    let items = if base % LONG == 7 { 13 + (base / LONG) as usize % 12 } else { usual };
     let few = random.between(1, 4);
     let layouts: Vec<Spacing> = (0..few).map(|_| LAYOUTS[random.below(LAYOUTS.len())]).collect();
     let plan = Plan {

@@ -76,8 +76,8 @@ fn every_guess_of_every_run() {
     }
 }
 
-/// The messages have 3 to 12 items, both versions, and the payment type in either place; optional elements
-/// in each combination.
+/// The messages have 3 to 12 items, and some more; both versions, and the payment type in either place;
+/// optional elements in each combination.
 #[test]
 fn every_sort_of_message() {
     let (mut sorts, mut counts) = (BTreeSet::new(), BTreeSet::new());
@@ -90,7 +90,8 @@ fn every_sort_of_message() {
         }
     }
     assert_eq!(sorts.len(), 16);
-    assert_eq!(counts, (3..=12).collect());
+    assert!((3..=12).all(|count| counts.contains(&count)), "{counts:?}");
+    assert!(counts.iter().filter(|count| **count > 18).count() > 2, "{counts:?}");
 }
 
 /// The elements whose length is at an edge.
