@@ -173,9 +173,9 @@ module _ (v : Version) (k : ℕ) (r : Row) where
   inner-deep (group o n inner rest) t e z = ap deep (t .first)
 
 -- where an element's start tag lies whole, it lies within the message
-pub within : (v : Version) (k : ℕ) (r : Row) (names : List ℕ) → names ≡ tags v → (m : List ℕ) (rs : List (List ℕ)) → rs ≡ table v → r ≡ rowIn rs k → (p : ℕ) → p ≤ length m
+pub within : (v : Version) (k : ℕ) (r : Row) (names : List ℕ) → names ≡ tags v → (m : List ℕ) (rs : List ℕ) → rs ≡ table v → r ≡ rowIn rs k → (p : ℕ) → p ≤ length m
     → Tells v k (due v k) r → Whole ≡ look (opensBy names r) (drop p m) → p + width (rowIn (table v) k) ≤ length m
 within v k r names e m rs f h p g t c =
-    let w : width (rowIn (table v) k) ≡ width r = ap width (sym (h ∙ ap (λ (l : List (List ℕ)). rowIn l k) f)) in
+    let w : width (rowIn (table v) k) ≡ width r = ap width (sym (h ∙ ap (λ (l : List ℕ). rowIn l k) f)) in
     let l : length (opensBy names r) ≡ width r = rw e (ap length (t .start) ∙ sym (t .width)) in
     omega (arith, w, l, enter-fits (opensBy names r) m p g c)

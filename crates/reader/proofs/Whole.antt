@@ -37,7 +37,7 @@ module _ (v : Version) (m : List ℕ) (p : ℕ) (n : Notes) where
   item-read k is x e = e ∙ (ap (λ (i : ℕ). reads (elementIn (due v i) m p) n) is ∙ ap (λ (sh : Shape). reads (elementIn sh m p) n) (due-item v))
 
 -- ---- the item's row: it may be entered where its start tag lies whole
-module _ (v : Version) (names : List ℕ) (rs : List (List ℕ)) (r : Row) (k : ℕ) (e : names ≡ tags v) (f : rs ≡ table v) (is : k ≡ itemRow v) (h : r ≡ rowIn rs k) where
+module _ (v : Version) (names : List ℕ) (rs : List ℕ) (r : Row) (k : ℕ) (e : names ≡ tags v) (f : rs ≡ table v) (is : k ≡ itemRow v) (h : r ≡ rowIn rs k) where
   row-is : r ≡ rowIn rs (itemRow v)
   row-is = h ∙ ap (rowIn rs) is
 
@@ -53,6 +53,6 @@ module _ (v : Version) (names : List ℕ) (rs : List (List ℕ)) (r : Row) (k : 
   pub item-within : (m : List ℕ) (p : ℕ) → p ≤ length m → Whole ≡ look (opensBy names r) (drop p m) → p + width (rowIn (table v) k) ≤ length m
   item-within m p g c =
       let t : Tied v (itemRow v) (group many itemName (inItem v) (end bulkName)) r = rw (due-item v) at (row-tied v rs (itemRow v) r row-is f (item-row v) .0) in
-      let w : width (rowIn (table v) k) ≡ width r = ap width (sym (h ∙ ap (λ (l : List (List ℕ)). rowIn l k) f)) in
+      let w : width (rowIn (table v) k) ≡ width r = ap width (sym (h ∙ ap (λ (l : List ℕ). rowIn l k) f)) in
       let l : length (opensBy names r) ≡ width r = ap length item-start ∙ (exactly-length (plainTag itemName) ∙ sym (t .width)) in
       omega (arith, w, l, enter-fits (opensBy names r) m p g c)

@@ -168,7 +168,7 @@ fn due_now(seen: bool, occ: u16) -> u16
 fn group(
     m: &[u8],
     names: &[u8],
-    rows: &[[u16; table::COLUMNS]],
+    rows: &[u64],
     first: usize,
     start: State,
     v: Version,
@@ -218,7 +218,7 @@ fn group(
 fn element(
     m: &[u8],
     names: &[u8],
-    rows: &[[u16; table::COLUMNS]],
+    rows: &[u64],
     k: usize,
     st: State,
     v: Version,

@@ -1,13 +1,13 @@
 -- The law of the table, over every tree: each row is tied to the shape that is due there, and keeps within the table.
 use mathlib.Core.Path.{_≡_, refl, sym, ap, _∙_}
 use mathlib.Core.Bool.{Bool, true, false}
-use mathlib.Core.List.{List, [], _∷_, _++_, append-nil, append-assoc}
+use mathlib.Core.List.{List, [], _∷_, _++_, map, append-nil, append-assoc}
 use Prim.Native.Nat.{ℕ, zero, suc, _+_, _-_, _<_}
 use Prim.Native.String.{String}
 use native.Mathlib.Numerals.{add-one}
 use native.Mathlib.Nat.{le-of-suc-le-suc}
 use native.Mathlib.Omega.{arith}
-use lib.ListN.{length, take, drop, getD, replicate, length-append}
+use lib.ListN.{length, take, drop, getD, replicate, length-append, List·getD-map}
 use lib.Seq.{drop-drop, take-append-seam, drop-append-seam}
 use Rattle.text.specs.Truth.{part}
 use Rattle.text.specs.Quoted.{byte}
@@ -18,7 +18,7 @@ use Rattle.profile.specs.declared.Version.{Version}
 use Rattle.profile.specs.declared.Version.the-variants.{V02, V08}
 use Rattle.profile.specs.Kinds.{isAmount}
 use Rattle.profile.specs.Tree.{Shape, end, leaf, group, many}
-use Rattle.profile.specs.Profile.{bulkName, itemName, inHeader, inItem, profile}
+use Rattle.profile.specs.Profile.{bulkName, itemName, inHeader, inItem, isType, profile}
 use Rattle.table.specs.declared.Row.{Row}
 use Rattle.table.specs.Table.{rowsOf, startText, tagsOf, numbersAt, numbersOf, rowOf, rowIn, opensBy, closesBy, room, tags, table, due, manyRows, itemRow, Element}
 use Rattle.table.proofs.Numbers.{occ-of, name-of, kind-numbers, field-of}
@@ -26,19 +26,19 @@ use Rattle.table.proofs.Opens.{opens-by, width-by}
 use Rattle.table.proofs.Tied.{TiedBy, KeptBy, Tied, RowKept}
 
 -- ---- a fact of every row, the first of which is row k
-abbrev All : (ℕ → List ℕ → Type 0) → ℕ → List (List ℕ) → Type 0
+abbrev All : (ℕ → Row → Type 0) → ℕ → List Row → Type 0
 All P k [] = Unit {0}
 All P k (r ∷ l) = P k r × All P (suc k) l
 
-module _ (P : ℕ → List ℕ → Type 0) where
-  all-append : (a b : List (List ℕ)) (k m : ℕ) → m ≡ k + length a → All P k a → All P m b → All P k (a ++ b)
+module _ (P : ℕ → Row → Type 0) where
+  all-append : (a b : List Row) (k m : ℕ) → m ≡ k + length a → All P k a → All P m b → All P k (a ++ b)
   all-append [] b k m e x y = let z : m ≡ k = omega arith in rw z at y
   all-append (r ∷ a) b k m e x y = (x .0, all-append a b (suc k) m (omega arith) (x .1) y)
 
-  all-at : (l : List (List ℕ)) (k j m : ℕ) → m ≡ k + j → All P k l → j < length l → P m (getD l j [])
-  all-at [] k j m e x h = never (omega arith)
-  all-at (r ∷ l) k zero m e x h = let z : m ≡ k = omega arith in rw z (x .0)
-  all-at (r ∷ l) k (suc j) m e x h = all-at l (suc k) j m (omega arith) (x .1) (le-of-suc-le-suc h)
+  all-at : (l : List Row) (k j m : ℕ) (d : Row) → m ≡ k + j → All P k l → j < length l → P m (getD l j d)
+  all-at [] k j m d e x h = never (omega arith)
+  all-at (r ∷ l) k zero m d e x h = let z : m ≡ k = omega arith in rw z (x .0)
+  all-at (r ∷ l) k (suc j) m d e x h = all-at l (suc k) j m d (omega arith) (x .1) (le-of-suc-le-suc h)
 
 -- ---- how many rows a tree has, and that it stands in its own first row
 same-length : {A B : Type 0} (a b : List A) (x y : List B) → length a ≡ length x → length b ≡ length y → length (a ++ b) ≡ length (x ++ y)
@@ -109,9 +109,8 @@ module _ (S : Shape) (more : List ℕ) where
   abbrev dueIn : ℕ → Shape
   dueIn k = getD (rowsOf S) k (end "")
 
-  abbrev Right : ℕ → List ℕ → Type 0
-  Right k r =
-      TiedBy (text) dueIn (length (rowsOf S)) k (dueIn k) (rowOf r) × KeptBy (text) dueIn (length (rowsOf S)) (rowOf r)
+  abbrev Right : ℕ → Row → Type 0
+  Right k r = TiedBy (text) dueIn (length (rowsOf S)) k (dueIn k) r × KeptBy (text) dueIn (length (rowsOf S)) r
 
   -- sh is due from row k on, and its tags stand from p on
   record Due (k p : ℕ) (sh : Shape) : Type 0 where
@@ -150,7 +149,7 @@ module _ (S : Shape) (more : List ℕ) where
       let d : Due (suc k) q rest = record { after = h .after; rows = s .next; behind = h .behind; wording = t .on } in
       let y = standing (suc k) q rest d in
       let x = kind-numbers kd in
-      let r = rowOf (numbersAt k p (leaf o n kd f rest)) in (
+      let r = numbersAt k p (leaf o n kd f rest) in (
         (
           rw (s .here)
               (record {
@@ -192,7 +191,7 @@ module _ (S : Shape) (more : List ℕ) where
       } in
       let x = standing (suc k) q inner i in
       let y = standing m (q + length (tagsOf inner)) rest d in
-      let r = rowOf (numbersAt k p (group o n inner rest)) in (
+      let r = numbersAt k p (group o n inner rest) in (
         (
           rw (s .here)
               (record {
@@ -215,15 +214,25 @@ module _ (S : Shape) (more : List ℕ) where
       )
 
 -- ---- the table of a version
+-- each row is had again from its number
+had-again : (v : Version) → map rowOf (table v) ≡ numbersOf 0 0 (profile v)
+unfolding table profile isType
+had-again V02 = refl
+had-again V08 = refl
+
+row-in : (v : Version) (k : ℕ) → rowIn (table v) k ≡ getD (numbersOf 0 0 (profile v)) k (rowOf 0)
+row-in v k = sym (List·getD-map rowOf (table v) k 0) ∙ ap (λ (l : List Row). getD l k (rowOf 0)) (had-again v)
+
 pub rows : (v : Version) (k : ℕ) → k < manyRows v → Tied v k (due v k) (rowIn (table v) k) × RowKept v (rowIn (table v) k)
-unfolding manyRows due table tags
+unfolding manyRows due tags
 rows v k h =
     let more = replicate (room - length (tagsOf (profile v))) (byte " ") in
-    all-at (Right (profile v) more) (numbersOf 0 0 (profile v)) 0 k k (omega arith)
-    (law (profile v) more (profile v) 0 0 (whole (profile v) more)) (rw (many-numbers (profile v) 0 0) h)
+    rw (row-in v k)
+    (all-at (Right (profile v) more) (numbersOf 0 0 (profile v)) 0 k k (rowOf 0) (omega arith)
+    (law (profile v) more (profile v) 0 0 (whole (profile v) more)) (rw (many-numbers (profile v) 0 0) h))
 
 -- as the code reads it from rows that are lent
-pub row-tied : (v : Version) (rs : List (List ℕ)) (k : ℕ) (r : Row) → r ≡ rowIn rs k → rs ≡ table v → k < manyRows v → Tied v k (due v k) r × RowKept v r
+pub row-tied : (v : Version) (rs : List ℕ) (k : ℕ) (r : Row) → r ≡ rowIn rs k → rs ≡ table v → k < manyRows v → Tied v k (due v k) r × RowKept v r
 row-tied v rs k r e f h = rw (e, f) (rows v k h)
 
 -- what is due first is the whole profile
@@ -249,7 +258,7 @@ unfolding itemRow manyRows profile inHeader
 item-row V02 = omega arith
 item-row V08 = omega arith
 
-pub item-tag : (v : Version) (names : List ℕ) (rs : List (List ℕ)) (r : Row) → names ≡ tags v → rs ≡ table v → r ≡ rowIn rs (itemRow v)
+pub item-tag : (v : Version) (names : List ℕ) (rs : List ℕ) (r : Row) → names ≡ tags v → rs ≡ table v → r ≡ rowIn rs (itemRow v)
     → opensBy names r ≡ exactly (plainTag itemName)
 item-tag v names rs r e f h =
     let t : Tied v (itemRow v) (group many itemName (inItem v) (end bulkName)) r = rw (due-item v) at (row-tied v rs (itemRow v) r h f (item-row v) .0) in

@@ -1,9 +1,9 @@
 -- The table that the code goes by, computed from the tree: a row for each element in the order of the profile, and one for each group's end.
-use Prim.Native.Nat.{ℕ, zero, suc, _+_, _-_}
+use Prim.Native.Nat.{ℕ, zero, suc, _+_, _-_, _*_, _/_, _%_, _^_}
 use Prim.Native.String.{String}
 use mathlib.Core.Path.{_≡_}
 use mathlib.Core.Bool.{Bool}
-use mathlib.Core.List.{List, [], _∷_, _++_}
+use mathlib.Core.List.{List, [], _∷_, _++_, map}
 use lib.ListN.{length, getD, replicate}
 use lib.Dec.{eqb}
 use Rattle.text.specs.Truth.{either, pick, part}
@@ -125,15 +125,33 @@ tagsOf (group o n inner rest) = plainTag n ++ (tagsOf inner ++ tagsOf rest)
 
 -- the numbers of row k, whose tags stand from p on: where they stand; how many bytes its start tag has there, and its end tag behind it; 0 for an end, 1 for a group, else the kind;
 -- how often it may come; the row of what is due after it (a group's first child is the row below); a value's field; the mark of its name
-abbrev pub numbersAt : ℕ → ℕ → Shape → List ℕ
-numbersAt k p (end n) = p ∷ 0 ∷ length (endTag n) ∷ 0 ∷ 0 ∷ 0 ∷ 0 ∷ 0 ∷ []
+abbrev pub numbersAt : ℕ → ℕ → Shape → Row
+numbersAt k p (end n) = record { tag = p; start = 0; finish = length (endTag n); kind = 0; occ = 0; next = 0; field = 0; mark = 0 }
 numbersAt k p (leaf o n kd f rest) =
-    p ∷ length (startText (isAmount kd) n) ∷ length (endTag n) ∷ kindInTable kd ∷ occNumber o ∷ suc k ∷ fieldNumber f ∷ nameMark n ∷ []
+    record {
+      tag = p;
+      start = length (startText (isAmount kd) n);
+      finish = length (endTag n);
+      kind = kindInTable kd;
+      occ = occNumber o;
+      next = suc k;
+      field = fieldNumber f;
+      mark = nameMark n;
+    }
 numbersAt k p (group o n inner rest) =
-    p ∷ length (plainTag n) ∷ 0 ∷ 1 ∷ occNumber o ∷ (suc k + length (rowsOf inner)) ∷ 0 ∷ nameMark n ∷ []
+    record {
+      tag = p;
+      start = length (plainTag n);
+      finish = 0;
+      kind = 1;
+      occ = occNumber o;
+      next = suc k + length (rowsOf inner);
+      field = 0;
+      mark = nameMark n;
+    }
 
 -- the numbers of all rows, of which the first is row k
-abbrev pub numbersOf : ℕ → ℕ → Shape → List (List ℕ)
+abbrev pub numbersOf : ℕ → ℕ → Shape → List Row
 numbersOf k p (end n) = numbersAt k p (end n) ∷ []
 numbersOf k p (leaf o n kd f rest) =
     numbersAt k p (leaf o n kd f rest) ∷ numbersOf (suc k) (p + length (startText (isAmount kd) n) + length (endTag n)) rest
@@ -141,6 +159,24 @@ numbersOf k p (group o n inner rest) =
     numbersAt k p (group o n inner rest)
     ∷ (numbersOf (suc k) (p + length (plainTag n)) inner
     ++ numbersOf (suc k + length (rowsOf inner)) (p + length (plainTag n) + length (tagsOf inner)) rest)
+
+-- ---- a row as one number: its own numbers one behind the other, the first in four digits to the base 16, how often it may come and the mark in one, each other in two
+abbrev pub asNumber : Row → ℕ
+asNumber r =
+    r .tag * 16 ^ 12 + r .start * 16 ^ 10 + r .finish * 16 ^ 8 + r .kind * 16 ^ 6 + r .occ * 16 ^ 5 + r .next * 16 ^ 3 + r .field * 16 + r .mark
+
+abbrev pub rowOf : ℕ → Row
+rowOf n =
+    record {
+      tag = n / 16 ^ 12 % 65536;
+      start = n / 16 ^ 10 % 256;
+      finish = n / 16 ^ 8 % 256;
+      kind = n / 16 ^ 6 % 256;
+      occ = n / 16 ^ 5 % 16;
+      next = n / 16 ^ 3 % 256;
+      field = n / 16 % 256;
+      mark = n / 1 % 16;
+    }
 
 -- ---- of a version
 -- its tags, with spaces behind them: as much room in every version
@@ -150,8 +186,8 @@ room = 1152
 unfoldable pub tags : Version → List ℕ
 tags v = tagsOf (profile v) ++ replicate (room - length (tagsOf (profile v))) (byte " ")
 
-unfoldable pub table : Version → List (List ℕ)
-table v = numbersOf 0 0 (profile v)
+unfoldable pub table : Version → List ℕ
+table v = map asNumber (numbersOf 0 0 (profile v))
 
 unfoldable pub manyRows : Version → ℕ
 manyRows v = length (rowsOf (profile v))
@@ -169,21 +205,8 @@ abbrev pub ItemsRow : ℕ → Type 0
 ItemsRow k = (v : Version) → k ≡ itemRow v
 
 -- ---- row k of a table
-abbrev pub rowOf : List ℕ → Row
-rowOf r =
-    record {
-      tag = getD r 0 0;
-      start = getD r 1 0;
-      finish = getD r 2 0;
-      kind = getD r 3 0;
-      occ = getD r 4 0;
-      next = getD r 5 0;
-      field = getD r 6 0;
-      mark = getD r 7 0;
-    }
-
-abbrev pub rowIn : List (List ℕ) → ℕ → Row
-rowIn t k = rowOf (getD t k [])
+abbrev pub rowIn : List ℕ → ℕ → Row
+rowIn t k = rowOf (getD t k 0)
 
 -- the tests of a row's tags, by all tags
 unfoldable pub opensBy : List ℕ → Row → List (ℕ → Bool)

@@ -101,7 +101,7 @@ element-row-at-requires n c κs = search needs
 
 element-enter-requires : (t : ℕ) → element-lts.Need-enter-requires (element-calls t) (element-at t) element.Post
 element-enter-requires n c κs =
-    let a = c .before .before .before .before in
+    let a = c .before .before .before .before .before in
     let r = c .row-at in
     let w = row-tied (a .args .v) (a .args .rows .now) (a .args .k) (r .result) (r .ensures) (a .pre .1 .5) (a .pre .1 .1) in
     (a .pre .1 .0, rw (r .ensures, a .pre .1 .5) (a .pre .1 .3), some-start (a .args .v) (a .args .k) (r .result) (due (a .args .v) (a .args .k)) (w .0) (a .pre .1 .2))
@@ -117,7 +117,7 @@ element-enum-told n c = search needs
 
 element-add-group : (t : ℕ) → element-lts.Need-add-group (element-calls t) (element-at t) element.Post
 element-add-group n c =
-    let a = c .before .before .before .before .before .before .before .before .before .before in
+    let a = c .before .before .before .before .before .before .before .before .before .before .before in
     let r = c .before .before .before .before .before .before .row-at in
     let w = row-tied (a .args .v) (a .args .rows .now) (a .args .k) (r .result) (r .ensures) (a .pre .1 .5) (a .pre .1 .1) in
     omega (arith, a .pre .1 .1, few-rows (a .args .v))
@@ -126,7 +126,7 @@ element-group-requires : (t : ℕ) → element-lts.Need-group-requires (element-
 element-group-requires n c κs =
     let r = c .before .before .before .before .before .before .before .row-at in
     let e = c .before .before .before .before .before .before .enter in
-    let a = c .before .before .before .before .before .before .before .before .before .before .before in
+    let a = c .before .before .before .before .before .before .before .before .before .before .before .before in
     let w = row-tied (a .args .v) (a .args .rows .now) (a .args .k) (r .result) (r .ensures) (a .pre .1 .5) (a .pre .1 .1) in
     let q = ap (λ x. metIn x (e .result .state)) (sym (c .before .before .before .enum-told .given .1)) in
     let g = fine-on (a .args .m .now) (a .args .st .at + 1) (stepped (e .result)) (stated (e .result .state)) q (e .ensures .1) in (
@@ -148,7 +148,7 @@ element-returns : (t : ℕ) → element-lts.Need-returns (element-calls t) (elem
 element-returns n c =
     let r = c .before .before .before .before .before .before .before .before .before .before .row-at in
     let e = c .before .before .before .before .before .before .before .before .before .enter in
-    let a = c .before .before .before .before .before .before .before .before .before .before .before .before .before .before in
+    let a = c .before .before .before .before .before .before .before .before .before .before .before .before .before .before .before in
     let w = row-tied (a .args .v) (a .args .rows .now) (a .args .k) (r .result) (r .ensures) (a .pre .1 .5) (a .pre .1 .1) in
     let q = ap (λ x. metIn x (e .result .state)) (sym (c .before .before .before .before .before .before .enum-told .given .1)) in
     let g = fine-on (a .args .m .now) (a .args .st .at + 1) (stepped (e .result)) (stated (e .result .state)) q (e .ensures .1) in (
@@ -161,7 +161,7 @@ element-returns n c =
 
 element-value-requires : (t : ℕ) → element-lts.Need-value-requires (element-calls t) (element-at t) element.Post
 element-value-requires n c κs =
-    let a = c .before .before .before .before .before .before .before .before .before .before .before in
+    let a = c .before .before .before .before .before .before .before .before .before .before .before .before in
     let r = c .before .before .before .before .before .before .before .row-at in
     let w = row-tied (a .args .v) (a .args .rows .now) (a .args .k) (r .result) (r .ensures) (a .pre .1 .5) (a .pre .1 .1) in
     let e = c .before .before .before .before .before .before .enter in
@@ -175,7 +175,7 @@ element-value-requires n c κs =
 
 element-returns-2 : (t : ℕ) → element-lts.Need-returns-2 (element-calls t) (element-at t) element.Post
 element-returns-2 n c =
-    let a = c .before .before .before .before .before .before .before .before .before .before in
+    let a = c .before .before .before .before .before .before .before .before .before .before .before in
     let r = c .before .before .before .before .before .before .row-at in
     let w = row-tied (a .args .v) (a .args .rows .now) (a .args .k) (r .result) (r .ensures) (a .pre .1 .5) (a .pre .1 .1) in
     let e = c .before .before .before .before .before .enter in
@@ -193,7 +193,7 @@ element-returns-3 : (t : ℕ) → element-lts.Need-returns-3 (element-calls t) (
 element-returns-3 n c =
     let r = c .before .before .before .before .before .before .before .before .before .before .row-at in
     let e = c .before .before .before .before .before .before .before .before .before .enter in
-    let a = c .before .before .before .before .before .before .before .before .before .before .before .before .before .before in
+    let a = c .before .before .before .before .before .before .before .before .before .before .before .before .before .before .before in
     let w = row-tied (a .args .v) (a .args .rows .now) (a .args .k) (r .result) (r .ensures) (a .pre .1 .5) (a .pre .1 .1) in
     let q = ap (λ x. metIn x (e .result .state)) (sym (c .before .before .before .before .before .before .enum-told .given .1)) in
     let g = fine-on (a .args .m .now) (a .args .st .at + 1) (stepped (e .result)) (stated (e .result .state)) q (e .ensures .1) in (
@@ -212,7 +212,7 @@ group-μ-loop m names rows first v places₀ k₀ seen₀ st₀ places k seen st
 
 group-loop-holds : (t : ℕ) → group-lts.Need-loop-holds (group-calls t) (group-at t) group.Post group-Inv-loop group-μ-loop
 group-loop-holds n c =
-    let a = c .before .before .before in
+    let a = c .before .before .before .before in
     begin (a .args .v) (a .args .m .now) (a .args .first) (stated (a .args .start)) (a .args .places .now) (a .pre .1 .0) (a .pre .1 .1) (a .pre .1 .4)
 
 group-row-at-requires : (t : ℕ) → group-lts.Need-row-at-requires (group-calls t) (group-at t) group.Post group-Inv-loop group-μ-loop
@@ -223,7 +223,7 @@ group-skip-requires n c κs = c .before .loop .inv .good
 
 group-close-requires : (t : ℕ) → group-lts.Need-close-requires (group-calls t) (group-at t) group.Post group-Inv-loop group-μ-loop
 group-close-requires n c κs =
-    let a = c .before .before .before .before .before .before .before .before in
+    let a = c .before .before .before .before .before .before .before .before .before in
     let l = c .before .before .before .before .loop in
     let r = c .before .before .before .row-at in
     let s = c .before .before .skip in
@@ -235,7 +235,7 @@ group-same-length n c = c .before .before .before .before .before .loop .inv .lo
 
 group-returns : (t : ℕ) → group-lts.Need-returns (group-calls t) (group-at t) group.Post group-Inv-loop group-μ-loop
 group-returns n c =
-    let a = c .before .before .before .before .before .before .before .before .before in
+    let a = c .before .before .before .before .before .before .before .before .before .before in
     let l = c .before .before .before .before .before .loop in
     let r = c .before .before .before .before .row-at in
     let s = c .before .before .before .skip in
@@ -273,7 +273,7 @@ group-returns-2 n c =
     let the-if1 = c .before .before .before .before .before .before .if1 in
     let the-due-now = c .before .before .before .before .before .due-now in
     let the-start-at = c .before .before .before .start-at in
-    let a = c .before .before .before .before .before .before .before .before .before .before .before .before .before .before in
+    let a = c .before .before .before .before .before .before .before .before .before .before .before .before .before .before .before in
     let w = row-tied (a .args .v) (a .args .rows .now) (l .k) (r .result) (r .ensures) (a .pre .1 .3) (l .inv .row) in
     let t = tells (a .args .v) (l .k) (r .result) (due (a .args .v) (l .k)) (w .0) (the-if1 .left) in
     loop-cut (a .args .v) (a .args .m .now) (a .args .first) (stated (a .args .start)) (a .args .places .now) (l .k) (l .seen) (stated (l .st)) (l .places) (l .inv) (stated (s .result)) (s .ensures .0)
@@ -301,7 +301,7 @@ group-returns-3 n c =
     let the-due-now = c .before .before .before .before .before .before .before .due-now in
     let the-start-at = c .before .before .before .before .before .start-at in
     let the-pass = c .before .before .pass in
-    let a = c .before .before .before .before .before .before .before .before .before .before .before .before .before .before .before .before in
+    let a = c .before .before .before .before .before .before .before .before .before .before .before .before .before .before .before .before .before in
     let w = row-tied (a .args .v) (a .args .rows .now) (l .k) (r .result) (r .ensures) (a .pre .1 .3) (l .inv .row) in
     let t = tells (a .args .v) (l .k) (r .result) (due (a .args .v) (l .k)) (w .0) (the-if1 .left) in
     loop-miss (a .args .v) (a .args .m .now) (a .args .first) (stated (a .args .start)) (a .args .places .now) (l .k) (l .seen) (stated (l .st)) (l .places) (l .inv) (stated (s .result)) (s .ensures .0)
@@ -320,7 +320,7 @@ group-loop-less n c =
     let the-if1 = c .before .before .before .before .before .before .before .before .before .before .if1 in
     let the-due-now = c .before .before .before .before .before .before .before .before .before .due-now in
     let the-pass = c .before .before .before .before .pass in
-    let a = c .before .before .before .before .before .before .before .before .before .before .before .before .before .before .before .before .before .before in
+    let a = c .before .before .before .before .before .before .before .before .before .before .before .before .before .before .before .before .before .before .before in
     let w = row-tied (a .args .v) (a .args .rows .now) (l .k) (r .result) (r .ensures) (a .pre .1 .3) (l .inv .row) in
     let t = tells (a .args .v) (l .k) (r .result) (due (a .args .v) (l .k)) (w .0) (the-if1 .left) in
     let q = went-on (the-pass .result .met) (the-pass .result .state) (sym (c .before .before .before .is-stopped .ensures) ∙ c .before .before .if2 .left) in
@@ -337,7 +337,7 @@ group-loop-again n c =
     let the-due-now = c .before .before .before .before .before .before .before .before .before .due-now in
     let the-start-at = c .before .before .before .before .before .before .before .start-at in
     let the-pass = c .before .before .before .before .pass in
-    let a = c .before .before .before .before .before .before .before .before .before .before .before .before .before .before .before .before .before .before in
+    let a = c .before .before .before .before .before .before .before .before .before .before .before .before .before .before .before .before .before .before .before in
     let w = row-tied (a .args .v) (a .args .rows .now) (l .k) (r .result) (r .ensures) (a .pre .1 .3) (l .inv .row) in
     let t = tells (a .args .v) (l .k) (r .result) (due (a .args .v) (l .k)) (w .0) (the-if1 .left) in
     let q = went-on (the-pass .result .met) (the-pass .result .state) (sym (c .before .before .before .is-stopped .ensures) ∙ c .before .before .if2 .left) in
@@ -356,7 +356,7 @@ group-element-requires n c κs =
     let s = c .before .before .before .before .before .before .before .before .skip in
     let the-if1 = c .before .before .before .before .before .before .if1 in
     let the-start-at = c .before .before .before .start-at in
-    let a = c .before .before .before .before .before .before .before .before .before .before .before .before .before .before in
+    let a = c .before .before .before .before .before .before .before .before .before .before .before .before .before .before .before in
     let w = row-tied (a .args .v) (a .args .rows .now) (l .k) (r .result) (r .ensures) (a .pre .1 .3) (l .inv .row) in
     let t = tells (a .args .v) (l .k) (r .result) (due (a .args .v) (l .k)) (w .0) (the-if1 .left) in (
       omega (arith, a .pre .0, l .inv .on, s .ensures .2, element-deep (due (a .args .v) (l .k)), l .inv .depth),
@@ -388,7 +388,7 @@ group-returns-4 n c =
     let the-due-now = c .before .before .before .before .before .before .before .before .before .before .due-now in
     let the-start-at = c .before .before .before .before .before .before .before .before .start-at in
     let the-element = c .before .before .before .before .element in
-    let a = c .before .before .before .before .before .before .before .before .before .before .before .before .before .before .before .before .before .before .before in
+    let a = c .before .before .before .before .before .before .before .before .before .before .before .before .before .before .before .before .before .before .before .before in
     let w = row-tied (a .args .v) (a .args .rows .now) (l .k) (r .result) (r .ensures) (a .pre .1 .3) (l .inv .row) in
     let t = tells (a .args .v) (l .k) (r .result) (due (a .args .v) (l .k)) (w .0) (the-if1 .left) in
     loop-fail (a .args .v) (a .args .m .now) (a .args .first) (stated (a .args .start)) (a .args .places .now) (l .k) (l .seen) (stated (l .st)) (l .places) (l .inv) (stated (s .result)) (s .ensures .0)
@@ -404,7 +404,7 @@ group-loop-less-2 n c =
     let l = c .before .before .before .before .before .before .before .before .before .before .before .before .before .before .before .before .before .before .loop in
     let s = c .before .before .before .before .before .before .before .before .before .before .before .before .before .before .before .before .skip in
     let the-element = c .before .before .before .before .before .before .before .element in
-    let a = c .before .before .before .before .before .before .before .before .before .before .before .before .before .before .before .before .before .before .before .before .before .before in
+    let a = c .before .before .before .before .before .before .before .before .before .before .before .before .before .before .before .before .before .before .before .before .before .before .before in
     let q = went-on (the-element .result .met) (the-element .result .state) (sym (c .before .before .before .before .is-stopped2 .ensures) ∙ c .before .before .before .if3 .left) in
     let g = fine-on (a .args .m .now) (s .result .at + 1) (stepped (the-element .result)) (stated (the-element .result .state)) q (the-element .ensures .1) in
     omega (arith, s .ensures .2, g .1, g .0 .within, l .inv .row, few-rows (a .args .v))
@@ -418,7 +418,7 @@ group-loop-again-2 n c =
     let the-due-now = c .before .before .before .before .before .before .before .before .before .before .before .before .before .due-now in
     let the-start-at = c .before .before .before .before .before .before .before .before .before .before .before .start-at in
     let the-element = c .before .before .before .before .before .before .before .element in
-    let a = c .before .before .before .before .before .before .before .before .before .before .before .before .before .before .before .before .before .before .before .before .before .before in
+    let a = c .before .before .before .before .before .before .before .before .before .before .before .before .before .before .before .before .before .before .before .before .before .before .before in
     let w = row-tied (a .args .v) (a .args .rows .now) (l .k) (r .result) (r .ensures) (a .pre .1 .3) (l .inv .row) in
     let t = tells (a .args .v) (l .k) (r .result) (due (a .args .v) (l .k)) (w .0) (the-if1 .left) in
     let q = went-on (the-element .result .met) (the-element .result .state) (sym (c .before .before .before .before .is-stopped2 .ensures) ∙ c .before .before .before .if3 .left) in
@@ -432,7 +432,7 @@ group-loop-less-3 n c =
     let l = c .before .before .before .before .before .before .before .before .before .before .before .before .before .before .before .before .before .loop in
     let s = c .before .before .before .before .before .before .before .before .before .before .before .before .before .before .before .skip in
     let the-element = c .before .before .before .before .before .before .element in
-    let a = c .before .before .before .before .before .before .before .before .before .before .before .before .before .before .before .before .before .before .before .before .before in
+    let a = c .before .before .before .before .before .before .before .before .before .before .before .before .before .before .before .before .before .before .before .before .before .before in
     let q = went-on (the-element .result .met) (the-element .result .state) (sym (c .before .before .before .is-stopped2 .ensures) ∙ c .before .before .if3 .left) in
     let g = fine-on (a .args .m .now) (s .result .at + 1) (stepped (the-element .result)) (stated (the-element .result .state)) q (the-element .ensures .1) in
     omega (arith, s .ensures .2, g .1, g .0 .within, l .inv .row, few-rows (a .args .v))
@@ -446,7 +446,7 @@ group-loop-again-3 n c =
     let the-due-now = c .before .before .before .before .before .before .before .before .before .before .before .before .due-now in
     let the-start-at = c .before .before .before .before .before .before .before .before .before .before .start-at in
     let the-element = c .before .before .before .before .before .before .element in
-    let a = c .before .before .before .before .before .before .before .before .before .before .before .before .before .before .before .before .before .before .before .before .before in
+    let a = c .before .before .before .before .before .before .before .before .before .before .before .before .before .before .before .before .before .before .before .before .before .before in
     let w = row-tied (a .args .v) (a .args .rows .now) (l .k) (r .result) (r .ensures) (a .pre .1 .3) (l .inv .row) in
     let t = tells (a .args .v) (l .k) (r .result) (due (a .args .v) (l .k)) (w .0) (the-if1 .left) in
     let q = went-on (the-element .result .met) (the-element .result .state) (sym (c .before .before .before .is-stopped2 .ensures) ∙ c .before .before .if3 .left) in

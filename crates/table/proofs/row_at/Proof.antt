@@ -1,59 +1,36 @@
--- `table::row_at` meets its contract: the fields are those of the row, and past the end the numbers of an empty row are 0.
+-- `table::row_at` meets its contract: the row of the number at k, and past the end that of 0.
+use mathlib.Core.Path.{_∙_, sym, ap}
 use lib.ListN.{List·getD-eq-default}
-use mathlib.Core.List.{[]}
 use borrow.Author.Needs.{needs}
+use Rattle.table.specs.Table.{rowOf}
 use Rattle.table.proofs.row_at.Statement.{statement}
 use Rattle.table.proofs.row_at.Tie as tie
 
-mul-r : tie.Need-mul-r
-mul-r c = search needs
+mul-row-of : tie.Need-mul-row-of
+mul-row-of c = search needs
 
-shared-slice-copy-out-r : tie.Need-shared-slice-copy-out-r
-shared-slice-copy-out-r c = search needs
+shared-slice-read-row-of : tie.Need-shared-slice-read-row-of
+shared-slice-read-row-of c = search needs
 
-array-read-t11 : tie.Need-array-read-t11
-array-read-t11 c = search needs
-
-array-read-t14 : tie.Need-array-read-t14
-array-read-t14 c = search needs
-
-array-read-t17 : tie.Need-array-read-t17
-array-read-t17 c = search needs
-
-array-read-t20 : tie.Need-array-read-t20
-array-read-t20 c = search needs
-
-array-read-t23 : tie.Need-array-read-t23
-array-read-t23 c = search needs
-
-array-read-t26 : tie.Need-array-read-t26
-array-read-t26 c = search needs
-
-array-read-t29 : tie.Need-array-read-t29
-array-read-t29 c = search needs
-
-array-read-t32 : tie.Need-array-read-t32
-array-read-t32 c = search needs
+row-of-requires : tie.Need-row-of-requires
+row-of-requires c κs = search needs
 
 returns : tie.Need-returns
 returns c = search needs
 
+row-of-requires-2 : tie.Need-row-of-requires-2
+row-of-requires-2 c κs = search needs
+
 returns-2 : tie.Need-returns-2
-returns-2 c = rw (List·getD-eq-default (c .before .args .rows .now) [] (c .if1 .left))
+returns-2 c = c .row-of2 .ensures ∙ ap rowOf (sym (List·getD-eq-default (c .before .before .before .args .rows .now) 0 (c .before .if1 .left)))
 
 pub row-at-spec : {M : Type 1} → statement M
 row-at-spec =
     tie.close
     (tie.spec
-    mul-r
-    shared-slice-copy-out-r
-    array-read-t11
-    array-read-t14
-    array-read-t17
-    array-read-t20
-    array-read-t23
-    array-read-t26
-    array-read-t29
-    array-read-t32
+    mul-row-of
+    shared-slice-read-row-of
+    row-of-requires
     returns
+    row-of-requires-2
     returns-2)
