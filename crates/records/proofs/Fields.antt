@@ -9,7 +9,7 @@ use native.Mathlib.Omega.{arith}
 use borrow.Author.Tests.{eq-eqb, ne-eqb, ltb-true, ltb-false}
 use lib.Dec.{eqb, ltb}
 use lib.ListN.{length, take, drop, getD, set, replicate, length-append, length-take, length-drop, length-set, length-replicate, take-append-drop, drop-of-length-le, replicate-append-replicate}
-use lib.Seq.{paste, paste-suc, set-at, drop-drop, getD-take, getD-drop, length-take-le}
+use lib.Seq.{paste, paste-suc, set-at, set-split, drop-drop, getD-take, getD-drop, length-take-le}
 use lib.Seq.{take-all, take-length, take-nil, take-take, take-add, take-at, drop-at, take-append-le, take-append-add, drop-append-add}
 use Rattle.text.specs.Truth.{either, pick, lead, part}
 use Rattle.text.proofs.Scan.{rest-of, lead-le, copy-more, copy-end}
@@ -28,7 +28,7 @@ use Rattle.words.specs.Walk.{overwritten}
 use Rattle.postings.specs.Record.{recordLength, padded, digits}
 use Rattle.postings.proofs.Long.{length-padded, length-digits}
 use Rattle.items.specs.Places.{heldAt}
-use Rattle.records.specs.Engine.{startOf, ownOr, centsOf, recordOf, laid}
+use Rattle.records.specs.Engine.{startOf, ownOr, centsOf, recordOf, laid, allLaid, toCents, toInstrId, toEnd}
 
 -- ---- a value laid byte by byte
 module _ (rec : List ℕ) (at : ℕ) (v : List ℕ) where
@@ -284,52 +284,78 @@ module _ {at : ℕ} {d r : List ℕ} (s : So at d r) where
       record { is = e ∙ f; long = length-append d (padded w v) ∙ (rw (s .long, length-padded w v)) }
 
 -- the spaces that stay, and the last byte
-pub ended : {d r : List ℕ} → So 304 d r → set r 319 10 ≡ d ++ replicate 15 32 ++ (10 ∷ [])
-ended {d} s =
+pub end-laid : (r : List ℕ) → length r ≡ recordLength → set r 319 10 ≡ laid 319 (10 ∷ []) r
+unfolding laid
+end-laid r n = set-split r 319 10 (omega arith)
+
+ended : {d r : List ℕ} → So 304 d r → laid 319 (10 ∷ []) r ≡ d ++ replicate 15 32 ++ (10 ∷ [])
+ended {d} {r} s =
+    let n : length r ≡ recordLength = rw (s .is) (length-append d (replicate 16 32) ∙ rw (s .long)) in
     let e : d ++ replicate 16 32 ≡ d ++ replicate 15 32 ++ (32 ∷ []) = simp append-assoc in
-    rw (s .is, e) (set-at (d ++ replicate 15 32) 32 [] 10 319 (length-append d (replicate 15 32) ∙ rw (s .long)))
+    sym (end-laid r n) ∙ rw (s .is, e) (set-at (d ++ replicate 15 32) 32 [] 10 319 (length-append d (replicate 15 32) ∙ rw (s .long)))
 
--- ---- all fields
-pub blank : So 0 [] (replicate recordLength 32)
-blank = record { is = refl; long = refl }
-
-module _ (m row above : List ℕ) where
-  -- a field of the item, by its row, and one that is had from wherever it stands
-  abbrev pub own : Field → List ℕ
+-- ---- each part of the record, field by field
+module _ (m row : List ℕ) where
+  -- a field of the item, by its row
+  abbrev own : Field → List ℕ
   own f = heldAt m (startOf row f)
 
-  abbrev pub anywhere : Field → List ℕ
-  anywhere f = heldAt m (ownOr (startOf above f) (startOf row f))
-
-  pub whole : {r0 r1 r2 r3 r4 r5 r6 r7 r8 r9 r10 r11 r12 r13 : List ℕ}
-      → r0 ≡ laid 0 (take 35 (own TxId)) (replicate recordLength 32)
-      → r1 ≡ laid 35 (padded 35 (collapsed (own EndToEndId))) r0
+  pub cents-laid : (r : List ℕ) {r0 r1 r2 r3 r4 r5 r6 : List ℕ} {p : ℕ}
+      → p ≡ startOf row EndToEndId
+      → r0 ≡ laid 0 (take 35 (own TxId)) r
+      → r1 ≡ laid 35 (padded 35 (collapsed (heldAt m p))) r0
       → r2 ≡ laid 70 (take 35 (own MndtId)) r1
       → r3 ≡ laid 105 (take 34 (own DbtrIban)) r2
       → r4 ≡ laid 139 (take 34 (own CdtrIban)) r3
       → r5 ≡ laid 173 (take 11 (own DbtrBic)) r4
       → r6 ≡ laid 184 (digits 11 (centsOf row)) r5
-      → r7 ≡ laid 195 (take 10 (own ReqdColltnDt)) r6
-      → r8 ≡ laid 205 (take 4 (anywhere SeqTp)) r7
-      → r9 ≡ laid 209 (take 35 (own CdtrId)) r8
-      → r10 ≡ laid 244 (take 11 (own CdtrBic)) r9
-      → r11 ≡ laid 255 (take 35 (own InstrId)) r10
-      → r12 ≡ laid 290 (take 4 (anywhere LclInstrm)) r11
-      → r13 ≡ laid 294 (take 10 (own DtOfSgntr)) r12
-      → set r13 319 10 ≡ recordOf m row above
-  unfolding recordOf
-  whole e0 e1 e2 e3 e4 e5 e6 e7 e8 e9 e10 e11 e12 e13 =
-      let s0 = next-padded blank 35 (own TxId) (omega arith) e0 in
-      let s1 = next-whole s0 35 (padded 35 (collapsed (own EndToEndId))) (length-padded 35 (collapsed (own EndToEndId))) e1 in
-      let s2 = next-padded s1 35 (own MndtId) (omega arith) e2 in
-      let s3 = next-padded s2 34 (own DbtrIban) (omega arith) e3 in
-      let s4 = next-padded s3 34 (own CdtrIban) (omega arith) e4 in
-      let s5 = next-padded s4 11 (own DbtrBic) (omega arith) e5 in
-      let s6 = next-whole s5 11 (digits 11 (centsOf row)) (length-digits 11 (centsOf row)) e6 in
-      let s7 = next-padded s6 10 (own ReqdColltnDt) (omega arith) e7 in
-      let s8 = next-padded s7 4 (anywhere SeqTp) (omega arith) e8 in
-      let s9 = next-padded s8 35 (own CdtrId) (omega arith) e9 in
-      let s10 = next-padded s9 11 (own CdtrBic) (omega arith) e10 in
-      let s11 = next-padded s10 35 (own InstrId) (omega arith) e11 in
-      let s12 = next-padded s11 4 (anywhere LclInstrm) (omega arith) e12 in
-      ended (next-padded s12 10 (own DtOfSgntr) (omega arith) e13)
+      → r6 ≡ allLaid (toCents m row) r
+  unfolding toCents
+  cents-laid r p e0 e1 e2 e3 e4 e5 e6 = rw (e6, e5, e4, e3, e2, e1, p, e0)
+
+  pub instr-id-laid : (r : List ℕ) {r0 r1 r2 r3 r4 : List ℕ} (sequence : ℕ)
+      → r0 ≡ laid 195 (take 10 (own ReqdColltnDt)) r
+      → r1 ≡ laid 205 (take 4 (heldAt m sequence)) r0
+      → r2 ≡ laid 209 (take 35 (own CdtrId)) r1
+      → r3 ≡ laid 244 (take 11 (own CdtrBic)) r2
+      → r4 ≡ laid 255 (take 35 (own InstrId)) r3
+      → r4 ≡ allLaid (toInstrId m row sequence) r
+  unfolding toInstrId
+  instr-id-laid r sequence e0 e1 e2 e3 e4 = rw (e4, e3, e2, e1, e0)
+
+  pub all-laid : (r : List ℕ) {r0 r1 : List ℕ} (instrument : ℕ)
+      → r0 ≡ laid 290 (take 4 (heldAt m instrument)) r
+      → r1 ≡ laid 294 (take 10 (own DtOfSgntr)) r0
+      → length r1 ≡ recordLength
+      → set r1 319 10 ≡ allLaid (toEnd m row instrument) r
+  unfolding toEnd
+  all-laid r {r0} {r1} instrument e0 e1 n = end-laid r1 n ∙ rw (e1, e0)
+
+-- ---- the whole record
+blank : So 0 [] (replicate recordLength 32)
+blank = record { is = refl; long = refl }
+
+module _ (m row above : List ℕ) where
+  pub whole : {r0 r1 r2 : List ℕ} {sequence instrument : ℕ}
+      → sequence ≡ ownOr (startOf above SeqTp) (startOf row SeqTp)
+      → instrument ≡ ownOr (startOf above LclInstrm) (startOf row LclInstrm)
+      → r0 ≡ allLaid (toCents m row) (replicate recordLength 32)
+      → r1 ≡ allLaid (toInstrId m row sequence) r0
+      → r2 ≡ allLaid (toEnd m row instrument) r1
+      → r2 ≡ recordOf m row above
+  unfolding toCents toInstrId toEnd recordOf
+  whole {r0} {r1} {r2} {sequence} {instrument} p q e0 e1 e2 =
+      let s0 = next-padded blank 35 (own m row TxId) (omega arith) refl in
+      let s1 = next-whole s0 35 (padded 35 (collapsed (own m row EndToEndId))) (length-padded 35 (collapsed (own m row EndToEndId))) refl in
+      let s2 = next-padded s1 35 (own m row MndtId) (omega arith) refl in
+      let s3 = next-padded s2 34 (own m row DbtrIban) (omega arith) refl in
+      let s4 = next-padded s3 34 (own m row CdtrIban) (omega arith) refl in
+      let s5 = next-padded s4 11 (own m row DbtrBic) (omega arith) refl in
+      let s6 = next-whole s5 11 (digits 11 (centsOf row)) (length-digits 11 (centsOf row)) e0 in
+      let s7 = next-padded s6 10 (own m row ReqdColltnDt) (omega arith) refl in
+      let s8 = next-padded s7 4 (heldAt m sequence) (omega arith) refl in
+      let s9 = next-padded s8 35 (own m row CdtrId) (omega arith) refl in
+      let s10 = next-padded s9 11 (own m row CdtrBic) (omega arith) refl in
+      let s11 = next-padded s10 35 (own m row InstrId) (omega arith) e1 in
+      let s12 = next-padded s11 4 (heldAt m instrument) (omega arith) refl in
+      rw (← p, ← q) (e2 ∙ ended (next-padded s12 10 (own m row DtOfSgntr) (omega arith) refl))

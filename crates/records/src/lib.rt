@@ -17,7 +17,7 @@ ghost use Rattle.items.specs.Places.{heldAt};
 ghost use Rattle.judge.specs.Verdict.{meant};
 ghost use Rattle.records.specs.Indexed.{recordedWith};
 ghost use Rattle.engine.specs.Several.{rowLength};
-ghost use Rattle.records.specs.Engine.{startOf, ownOr, recordOf, recordsOf, inOneCall, laid, Room};
+ghost use Rattle.records.specs.Engine.{startOf, ownOr, recordOf, recordsOf, inOneCall, laid, allLaid, toCents, toInstrId, toEnd, Room};
 
 // How many bytes a record has.
 pub const LENGTH: usize = 320;
@@ -254,6 +254,42 @@ fn write(part: &mut [u8], rec: &[u8; LENGTH])
     }
 }
 
+// The fields up to the cents, each laid at its offset.
+fn put_to_cents(rec: &mut [u8; LENGTH], m: &[u8], row: &[u64])
+    requires { ⌜ (length (now rec) ≡ recordLength) × (length (now row) ≡ rowLength) ⌝ }
+    ensures { λ _. ⌜ (now (rec .exit) ≡ allLaid (toCents (now (m .entry)) (now (row .entry))) (now (rec .entry))) × (length (now (rec .exit)) ≡ recordLength) ⌝ }
+{
+    put(rec, 0, 35, m, row, Field::TxId);
+    put_end_to_end(rec, m, row_start(row, Field::EndToEndId));
+    put(rec, 70, 35, m, row, Field::MndtId);
+    put(rec, 105, 34, m, row, Field::DbtrIban);
+    put(rec, 139, 34, m, row, Field::CdtrIban);
+    put(rec, 173, 11, m, row, Field::DbtrBic);
+    put_cents(rec, row[profile::FIELDS])
+}
+
+// Those behind the cents up to InstrId, likewise; SeqTp from its place.
+fn put_to_instr_id(rec: &mut [u8; LENGTH], m: &[u8], row: &[u64], sequence: usize)
+    requires { ⌜ (length (now rec) ≡ recordLength) × (length (now row) ≡ rowLength) ⌝ }
+    ensures { λ _. ⌜ (now (rec .exit) ≡ allLaid (toInstrId (now (m .entry)) (now (row .entry)) sequence) (now (rec .entry))) × (length (now (rec .exit)) ≡ recordLength) ⌝ }
+{
+    put(rec, 195, 10, m, row, Field::ReqdColltnDt);
+    put_at(rec, 205, 4, m, sequence);
+    put(rec, 209, 35, m, row, Field::CdtrId);
+    put(rec, 244, 11, m, row, Field::CdtrBic);
+    put(rec, 255, 35, m, row, Field::InstrId)
+}
+
+// The last ones, likewise, and the byte that ends the record; LclInstrm from its place.
+fn put_to_end(rec: &mut [u8; LENGTH], m: &[u8], row: &[u64], instrument: usize)
+    requires { ⌜ (length (now rec) ≡ recordLength) × (length (now row) ≡ rowLength) ⌝ }
+    ensures { λ _. ⌜ (now (rec .exit) ≡ allLaid (toEnd (now (m .entry)) (now (row .entry)) instrument) (now (rec .entry))) × (length (now (rec .exit)) ≡ recordLength) ⌝ }
+{
+    put_at(rec, 290, 4, m, instrument);
+    put(rec, 294, 10, m, row, Field::DtOfSgntr);
+    rec[319] = 10;
+}
+
 // The record of an item, from its row and what was noted above it: all spaces, then each field at its offset; and written into its part of the area.
 fn make_record(part: &mut [u8], m: &[u8], row: &[u64], above: [u32; profile::FIELDS])
     requires { ⌜ (length (now row) ≡ rowLength) × (length (now part) ≡ recordLength) ⌝ }
@@ -262,21 +298,9 @@ fn make_record(part: &mut [u8], m: &[u8], row: &[u64], above: [u32; profile::FIE
     let sequence = or_above(row_start(row, Field::SeqTp), above, Field::SeqTp);
     let instrument = or_above(row_start(row, Field::LclInstrm), above, Field::LclInstrm);
     let mut rec = [32; LENGTH];
-    put(&mut rec, 0, 35, m, row, Field::TxId);
-    put_end_to_end(&mut rec, m, row_start(row, Field::EndToEndId));
-    put(&mut rec, 70, 35, m, row, Field::MndtId);
-    put(&mut rec, 105, 34, m, row, Field::DbtrIban);
-    put(&mut rec, 139, 34, m, row, Field::CdtrIban);
-    put(&mut rec, 173, 11, m, row, Field::DbtrBic);
-    put_cents(&mut rec, row[profile::FIELDS]);
-    put(&mut rec, 195, 10, m, row, Field::ReqdColltnDt);
-    put_at(&mut rec, 205, 4, m, sequence);
-    put(&mut rec, 209, 35, m, row, Field::CdtrId);
-    put(&mut rec, 244, 11, m, row, Field::CdtrBic);
-    put(&mut rec, 255, 35, m, row, Field::InstrId);
-    put_at(&mut rec, 290, 4, m, instrument);
-    put(&mut rec, 294, 10, m, row, Field::DtOfSgntr);
-    rec[319] = 10;
+    put_to_cents(&mut rec, m, row);
+    put_to_instr_id(&mut rec, m, row, sequence);
+    put_to_end(&mut rec, m, row, instrument);
     write(part, &rec)
 }
 
