@@ -1,55 +1,25 @@
 -- What each function on values answers.
 use mathlib.Core.Path.{_≡_, refl, ap, sym, _∙_}
 use mathlib.Core.Bool.{Bool, true, false, not}
-use mathlib.Core.List.{List, [], _∷_, _++_}
-use Prim.Native.Nat.{ℕ, zero, suc, _+_, _-_, _≤_, _<_}
+use mathlib.Core.List.{List}
+use Prim.Native.Nat.{ℕ, _+_, _-_, _≤_, _<_}
 use native.Mathlib.Omega.{arith}
 use borrow.Author.Tests.{lt-ltb, le-ltb, le-leb, lt-leb, leb-true, eqb-true}
 use lib.Dec.{ltb, leb, eqb}
-use lib.ListN.{length, take, drop, getD, set}
+use lib.ListN.{length, take, getD}
 use lib.Seq.{length-take-le}
-use Rattle.text.specs.Truth.{both, either, pick, allOf}
+use Rattle.text.specs.Truth.{both, pick}
 use Rattle.text.proofs.Truths.{never, both-true, fails, passes, pass, lastly}
-use Rattle.reading.specs.Verdict.{Judged, accepted, refused}
-use Rattle.reading.specs.Judged.{judged}
-use Rattle.items.proofs.Sums.{bulk-most}
-use Rattle.naming.specs.Key.{Keyed as KeyedBulk, keyed}
-use Rattle.judge.specs.Index.{orShort}
-use Rattle.judge.proofs.Index.{made-of, in-room, accepted-room}
-use Rattle.keys.specs.Indexed.{unkeyed, keyedWith}
-use Rattle.judge.specs.declared.Verdict.the-variants.{Accepted, Refused}
-use Rattle.judge.specs.Verdict.{meant}
-use Rattle.keys.specs.declared.Keyed.{Keyed}
-use Rattle.keys.specs.Engine.{keyedAs}
 use Rattle.money.specs.declared.Range.the-variants.{Total}
 use Rattle.money.specs.Amount.{most}
 use Rattle.book.specs.declared.Entry.{Entry}
-use Rattle.book.specs.declared.Ask.the-variants.{Withdraw, Enter, Unfit}
 use Rattle.book.specs.declared.Answer.{Answer}
 use Rattle.book.specs.declared.Outcome as acting
-use Rattle.book.specs.Book.{Key, Book, mostOpen, openIn, isOpen, twoEqual, sumOf, openTotal, isBook, firstAt, without, centsOf}
-use Rattle.book.specs.Calls.{Told, done, refusal, Outcome, unchanged, Bulk, bulk, unfit, bulkOf, added, enters, entered, lessened, withdraws, withdrawn, Call, enter, withdraw, called, asked}
-use Rattle.book.specs.Stored.{Stored, agrees, Carried, asLent, carried, kept, stands}
-use Rattle.book.specs.Code.{inRange, callAs, callFor, answerFor, outcomeOf, noEntry, capped, bookOf, storedOf, calledOn, askedOn, sumIs, shifted}
+use Rattle.book.specs.Book.{Key, Book, mostOpen, isOpen, twoEqual, sumOf, openTotal, isBook, firstAt, centsOf}
+use Rattle.book.specs.Calls.{done, refusal, Outcome, unchanged, Bulk, added, enters, entered, withdraws, withdrawn, Call, enter, withdraw, called, asked}
+use Rattle.book.specs.Stored.{Stored, agrees, asLent, carried, kept, stands}
+use Rattle.book.specs.Code.{inRange, answerFor, outcomeOf, noEntry, capped, bookOf, storedOf, calledOn, askedOn, sumIs, shifted}
 use Rattle.book.proofs.Lists.{open-first, shifted-is, cents-at, cents-within, capped-test}
-
--- ---- the call that enters a message
-module _ (index m : List ℕ) (k : Keyed) (e : keyedAs k ≡ keyedWith index m) where
-  pub unfit-call : (n p : ℕ) (y : Entry) → k .verdict ≡ Refused n p → callFor (Unfit n p) y ≡ enter (bulkOf (keyedWith index m))
-  unfit-call n p y f = rw (← e, f)
-
-  -- no accepted bulk has more cents than a header can say
-  in-range : (n c : ℕ) → k .verdict ≡ Accepted n c → c ≤ most Total
-  unfolding keyed
-  in-range n c f =
-      let j : meant (k .verdict) ≡ orShort index (refused 25 0) (judged m) =
-      ap (λ (x : KeyedBulk). x .verdict) e ∙ made-of (λ (x : KeyedBulk). x .verdict) index (unkeyed 25 0) (keyed m) in
-      let r = accepted-room index (k .verdict) (judged m) j n c f in
-      let z : judged m ≡ accepted n c = sym (j ∙ in-room index (refused 25 0) (judged m) r) ∙ ap meant f in
-      omega (arith, bulk-most m n c z)
-
-  pub fit-call : (n c : ℕ) → k .verdict ≡ Accepted n c → callFor Enter (record { key = k .key; cents = c }) ≡ enter (bulkOf (keyedWith index m))
-  fit-call n c f = rw (← e, f, le-leb c (most Total) (in-range n c f))
 
 -- ---- no book, or another total than summing gives: 29, whatever the call
 none-called : (c : Call) (b : Book) → isBook b ≡ false → called c b ≡ unchanged 29 0 b

@@ -1,16 +1,13 @@
 // The day book on values: what each call answers, and the first 64 entries afterwards.
-use judge::Verdict;
 ghost use mathlib.Core.Path.{_≡_};
 ghost use mathlib.Core.Bool.{not};
 ghost use Prim.Native.Nat.{_+_, _≤_, _<_};
 ghost use lib.ListN.{length, take, drop, getD};
-ghost use Rattle.twice.specs.Twice.{cleared};
-ghost use Rattle.keys.specs.Indexed.{keyedWith};
 ghost use mathlib.Core.List.{List};
 ghost use Rattle.money.specs.declared.Range.the-variants.{Total};
 ghost use Rattle.money.specs.Amount.{most};
 ghost use Rattle.book.specs.Book.{mostOpen, hasKey, isOpen, twoEqual, sumOf, isBook, firstAt};
-ghost use Rattle.book.specs.Calls.{refusal, bulkOf, enter, withdraw, enters, withdraws};
+ghost use Rattle.book.specs.Calls.{refusal, enter, withdraw, enters, withdraws};
 ghost use Rattle.book.specs.Stored.{asLent, carried, shown, stands};
 ghost use Rattle.book.specs.Code.{inRange, callAs, answerFor, outcomeOf, blankEntry, capped, bookOf, storedOf, calledOn, askedOn, foundFor, shifted};
 
@@ -20,7 +17,7 @@ pub const MOST: usize = 64;
 // An open bulk: its key and its cents. It has the layout of C, since the face lends it.
 #[repr(C)]
 pub struct Entry {
-    pub key: [u8; keys::LENGTH],
+    pub key: [u8; naming::LENGTH],
     pub cents: u64,
 }
 
@@ -70,13 +67,13 @@ pub fn blank() -> Entry
     ensures { λ r. ⌜ r ≡ blankEntry ⌝ }
 {
     Entry {
-        key: [32; keys::LENGTH],
+        key: [32; naming::LENGTH],
         cents: 0,
     }
 }
 
 // Whether an entry has the key.
-pub fn has_key(e: Entry, key: [u8; keys::LENGTH]) -> bool
+pub fn has_key(e: Entry, key: [u8; naming::LENGTH]) -> bool
     ensures { λ r. ⌜ r ≡ hasKey key e ⌝ }
 {
     let k = e.key;
@@ -84,7 +81,7 @@ pub fn has_key(e: Entry, key: [u8; keys::LENGTH]) -> bool
 }
 
 // Where the first of the open entries that has the key stands, from a place on; the number open where none has it.
-fn find_from(b: [Entry; MOST], from: usize, opened: usize, key: [u8; keys::LENGTH]) -> usize
+fn find_from(b: [Entry; MOST], from: usize, opened: usize, key: [u8; naming::LENGTH]) -> usize
     requires { ⌜ (from ≤ opened) × (opened ≤ mostOpen) ⌝ }
     ensures { λ r. ⌜ r ≡ from + firstAt key (drop from (take opened b)) ⌝ }
 {
@@ -100,7 +97,7 @@ fn find_from(b: [Entry; MOST], from: usize, opened: usize, key: [u8; keys::LENGT
 }
 
 // Where the first of the open entries that has the key stands; the number open, or 64 where it is more, where none has it.
-pub fn place_of(b: [Entry; MOST], opened: usize, key: [u8; keys::LENGTH]) -> usize
+pub fn place_of(b: [Entry; MOST], opened: usize, key: [u8; naming::LENGTH]) -> usize
     ensures { λ r. ⌜ r ≡ firstAt key (take opened b) ⌝ }
 {
     if MOST < opened {
@@ -236,7 +233,7 @@ fn shift(b: [Entry; MOST], at: usize, opened: usize) -> [Entry; MOST]
 }
 
 // The first entry with the key goes; 22 where none has it.
-fn withdraw_in(b: [Entry; MOST], opened: usize, total: u64, key: [u8; keys::LENGTH]) -> Outcome
+fn withdraw_in(b: [Entry; MOST], opened: usize, total: u64, key: [u8; naming::LENGTH]) -> Outcome
     requires { ⌜ (opened ≤ mostOpen) × (total ≡ sumOf (take opened b)) ⌝ }
     ensures { λ r. ⌜ r ≡ outcomeOf (carried (withdraw key) total (withdraws key (bookOf b opened))) ⌝ }
 {
@@ -354,34 +351,15 @@ pub fn found_at(a: Answer, at: usize) -> Found
     }
 }
 
-// The call that enters a message: its bulk, or the judge's own refusal. The index is cleared.
-pub fn entering<'a>(message: &'a [u8], index: &'a mut [u32]) -> Call
-    ensures { λ r. ⌜ (callAs r ≡ enter (bulkOf (keyedWith (now (index .entry)) (now (message .entry))))) × (now (index .exit) ≡ cleared (now (index .entry))) ⌝ }
-{
-    let k = keys::key(message, index);
-    let verdict = k.verdict;
-    let key = k.key;
-    match verdict {
-        Verdict::Refused(number, place) => Call {
-            ask: Ask::Unfit(number, place),
-            entry: blank(),
-        },
-        Verdict::Accepted(_, cents) => Call {
-            ask: Ask::Enter,
-            entry: Entry { key, cents },
-        },
-    }
-}
-
 // A key where it lies.
-pub fn key_at(key: &[u8; keys::LENGTH]) -> [u8; keys::LENGTH]
+pub fn key_at(key: &[u8; naming::LENGTH]) -> [u8; naming::LENGTH]
     ensures { λ r. ⌜ r ≡ now (key .entry) ⌝ }
 {
     *key
 }
 
 // The call that withdraws a key.
-pub fn withdrawing(key: [u8; keys::LENGTH]) -> Call
+pub fn withdrawing(key: [u8; naming::LENGTH]) -> Call
     ensures { λ r. ⌜ callAs r ≡ withdraw key ⌝ }
 {
     Call {

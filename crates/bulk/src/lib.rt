@@ -342,7 +342,7 @@ pub extern "C" fn bulk_book_enter<'a>(
         × (now (entries .exit) ≡ kept (enter (bulkOf (keyedWith (now (index .entry)) (now (message .entry))))) (lentBook (now (entries .entry)) (now (numbers .entry))) .stored .book .entries)
         × (now (index .exit) ≡ cleared (now (index .entry))) ⌝ }
 {
-    let call = book::entering(message, index);
+    let call = keys::entering(message, index);
     let o = *numbers;
     let k = daybook::act(entries, number_in(o), total_in(o), call);
     tell_kept(numbers, answer, k);

@@ -25,7 +25,7 @@ fn least(a: usize, b: usize) -> usize
 }
 
 // Where the first of the open entries that has the key stands, or the number of them where none has it.
-pub fn search(entries: &[Entry], opened: usize, key: [u8; keys::LENGTH]) -> usize
+pub fn search(entries: &[Entry], opened: usize, key: [u8; naming::LENGTH]) -> usize
     ensures { λ r. ⌜ r ≡ firstAt key (take opened (now (entries .entry))) ⌝ }
 {
     let n = least(opened, entries.len());
@@ -104,7 +104,7 @@ pub fn check(entries: &[Entry], opened: usize) -> Answer
 }
 
 // The first open entry with the key, or that there is none; 29 where the lent book is none. The stored total is not looked at.
-pub fn find(entries: &[Entry], opened: usize, key: [u8; keys::LENGTH]) -> Found
+pub fn find(entries: &[Entry], opened: usize, key: [u8; naming::LENGTH]) -> Found
     ensures { λ r. ⌜ r ≡ foundOf (searched key (bookOf (now (entries .entry)) opened)) ⌝ }
 {
     let a = check(entries, opened);

@@ -1,3 +1,4 @@
 pub mod Parts
 pub mod Whole
 pub mod One
+pub mod Entered

@@ -1,4 +1,7 @@
-// The key of a bulk, from one reading of the message.
+// The key of a bulk, from one reading of the message; and the call that enters it into the day book.
+use book::Ask;
+use book::Call;
+use book::Entry;
 use judge::Survey;
 use judge::Verdict;
 use profile::Field;
@@ -11,16 +14,15 @@ ghost use Rattle.profile.specs.Fields.{fieldNumber};
 ghost use Rattle.postings.specs.Record.{padded};
 ghost use Rattle.twice.specs.Twice.{cleared};
 ghost use Rattle.judge.specs.Survey.{surveyedAs};
+ghost use Rattle.book.specs.Calls.{bulkOf, enter};
+ghost use Rattle.book.specs.Code.{callAs};
 ghost use Rattle.keys.specs.Indexed.{keyedWith};
 ghost use Rattle.keys.specs.Engine.{keyedAs, serviceText, keyFrom, keyedFrom};
-
-// How many bytes a key has: service 4, MsgId 35, instructing BIC 11, settlement date 10.
-pub const LENGTH: usize = 60;
 
 // What the judge says of a message, and the key of an accepted one (spaces of any other).
 pub struct Keyed {
     pub verdict: Verdict,
-    pub key: [u8; LENGTH],
+    pub key: [u8; naming::LENGTH],
 }
 
 // How many bytes the value at a place has.
@@ -65,10 +67,10 @@ fn start_of(starts: [u32; profile::FIELDS], f: Field) -> usize
 }
 
 // A key that has its service, by its number, and nothing else yet.
-fn serve(service: u64) -> [u8; LENGTH]
+fn serve(service: u64) -> [u8; naming::LENGTH]
     ensures { λ r. ⌜ r ≡ padded 4 (serviceText service) ++ replicate 56 32 ⌝ }
 {
-    let mut key = [32; LENGTH];
+    let mut key = [32; naming::LENGTH];
     if service == 1 {
         key[0] = b'C';
         key[1] = b'O';
@@ -86,7 +88,7 @@ fn serve(service: u64) -> [u8; LENGTH]
 }
 
 // The key of an accepted bulk, from what the judge noted.
-fn make_key(m: &[u8], service: u64, starts: [u32; profile::FIELDS]) -> [u8; LENGTH]
+fn make_key(m: &[u8], service: u64, starts: [u32; profile::FIELDS]) -> [u8; naming::LENGTH]
     ensures { λ r. ⌜ r ≡ keyFrom (now (m .entry)) service starts ⌝ }
 {
     let id = start_of(starts, Field::MsgId);
@@ -108,7 +110,7 @@ pub fn key_from(m: &[u8], s: Survey) -> Keyed
     match verdict {
         Verdict::Refused(_, _) => Keyed {
             verdict,
-            key: [32; LENGTH],
+            key: [32; naming::LENGTH],
         },
         Verdict::Accepted(_, _) => {
             let starts = s.starts;
@@ -123,4 +125,23 @@ pub fn key(m: &[u8], index: &mut [u32]) -> Keyed
     ensures { λ r. ⌜ (keyedAs r ≡ keyedWith (now (index .entry)) (now (m .entry))) × (now (index .exit) ≡ cleared (now (index .entry))) ⌝ }
 {
     key_from(m, judge::read(m, index))
+}
+
+// The call that enters a message: its bulk, or the judge's own refusal. The index is cleared.
+pub fn entering<'a>(message: &'a [u8], index: &'a mut [u32]) -> Call
+    ensures { λ r. ⌜ (callAs r ≡ enter (bulkOf (keyedWith (now (index .entry)) (now (message .entry))))) × (now (index .exit) ≡ cleared (now (index .entry))) ⌝ }
+{
+    let k = key(message, index);
+    let verdict = k.verdict;
+    let key = k.key;
+    match verdict {
+        Verdict::Refused(number, place) => Call {
+            ask: Ask::Unfit(number, place),
+            entry: book::blank(),
+        },
+        Verdict::Accepted(_, cents) => Call {
+            ask: Ask::Enter,
+            entry: Entry { key, cents },
+        },
+    }
 }

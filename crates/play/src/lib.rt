@@ -114,7 +114,7 @@ fn put_in(run: Run, e: Entry, lot: Lot, taken: usize, instant: u64) -> Run
 }
 
 // A key is withdrawn, and what its bulk adds to the table goes.
-fn take_out(run: Run, key: [u8; keys::LENGTH], instant: u64) -> Run
+fn take_out(run: Run, key: [u8; naming::LENGTH], instant: u64) -> Run
     requires { ⌜ Sound run ⌝ }
     ensures { λ r. ⌜ Went run r (carriedOn (kept (withdraw key) (runAs run .stored)) (leftOut (firstAt key (openIn (runAs run .stored .book))) (runAs run .lots)) (run .taken) instant) ⌝ }
 {

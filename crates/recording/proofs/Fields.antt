@@ -13,7 +13,7 @@ use Rattle.text.specs.Truth.{at}
 use Rattle.text.proofs.Truths.{never, passes}
 use Rattle.postings.specs.Record.{padded}
 use Rattle.naming.specs.Key.{keyLength, keyWith}
-use Rattle.keys.proofs.Parts.{So, next-part}
+use Rattle.naming.proofs.Parts.{So, next-part}
 use Rattle.recording.specs.Instant.{instant}
 use Rattle.recording.specs.Record.{lineLength, timeIn, serviceIn, bicIn, dateIn, idIn, stampForm, recordForm, keyIn, lineOf}
 

@@ -153,7 +153,8 @@ fn answered_with<const N: usize>(
     if is_short && *index != *lent {
         end("it wrote into an index that is too short");
     }
-    if !is_short && index.iter().any(|number| *number != 0) {
+    // All numbers joined, with no test of each: so the compiler takes many at once.
+    if !is_short && index.iter().fold(0, |joined, number| joined | number) != 0 {
         end("it left the index uncleared");
     }
     words

@@ -34,10 +34,10 @@ use Rattle.book.proofs.Call as L
 use Rattle.book.proofs.Call.Laws as L′
 use Rattle.book.proofs.Kept as N
 use Rattle.book.proofs.Kept.Laws as N′
-use Rattle.book.proofs.entering as en
-use Rattle.book.proofs.entering.Symbol as en-def
-use Rattle.book.proofs.entering.Symbol.{name as #en}
-use Rattle.book.proofs.entering.Met as en-thm
+use Rattle.keys.proofs.entering as en
+use Rattle.keys.proofs.entering.Symbol as en-def
+use Rattle.keys.proofs.entering.Symbol.{name as #en}
+use Rattle.keys.proofs.entering.Met as en-thm
 use Rattle.daybook.proofs.act as ac
 use Rattle.daybook.proofs.act.Symbol as ac-def
 use Rattle.daybook.proofs.act.Symbol.{name as #ac}
@@ -285,7 +285,7 @@ bulk-book-enter-spec 𝓤 H 𝓜 𝓖 𝓡 =
     entered 𝓤 H (tripleOf 𝓤 H (𝓖 .A) f.signature (f.spec 𝓤 H (𝓖 .A) (𝓜 .mem) (𝓡 .run)))
     (tables 𝓤 H 𝓜 𝓡 code.env .C) (tables 𝓤 H 𝓜 𝓡 code.env .Λ) #bulk-book-enter code.function (code.unfolded 𝓤 H 𝓜 𝓡)
     (meets 𝓤 H (𝓖 .A) (givenOf 𝓤 H 𝓜 𝓖) (𝓜 .mem) (𝓡 .run) (tablesOf 𝓤 H 𝓜 (tables 𝓤 H 𝓜 𝓡 code.env)) record {
-      to-en = cited 𝓤 H (Entering 𝓤 H (𝓖 .A) (𝓜 .mem) (𝓡 .run)) 𝓜 𝓡 code.env #en en-def.routine code.calls-book·entering (en-thm.met 𝓤 H 𝓜 𝓖 𝓡);
+      to-en = cited 𝓤 H (Entering 𝓤 H (𝓖 .A) (𝓜 .mem) (𝓡 .run)) 𝓜 𝓡 code.env #en en-def.routine code.calls-keys·entering (en-thm.met 𝓤 H 𝓜 𝓖 𝓡);
       to-ni = cited 𝓤 H (NumberIn 𝓤 H (𝓖 .A) (𝓜 .mem) (𝓡 .run)) 𝓜 𝓡 code.env #ni ni-def.routine code.calls-bulk·number-in (ni-thm.met 𝓤 H 𝓜 𝓖 𝓡);
       to-ti = cited 𝓤 H (TotalIn 𝓤 H (𝓖 .A) (𝓜 .mem) (𝓡 .run)) 𝓜 𝓡 code.env #ti ti-def.routine code.calls-bulk·total-in (ti-thm.met 𝓤 H 𝓜 𝓖 𝓡);
       to-ac = cited 𝓤 H (Act 𝓤 H (𝓖 .A) (𝓜 .mem) (𝓡 .run)) 𝓜 𝓡 code.env #ac ac-def.routine code.calls-daybook·act (ac-thm.met 𝓤 H 𝓜 𝓖 𝓡);

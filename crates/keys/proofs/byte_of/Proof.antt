@@ -1,6 +1,7 @@
 -- `keys::byte_of` meets its contract.
 use native.Mathlib.Omega.{arith}
-use Rattle.keys.proofs.Parts.{value-within, byte-within, space-behind}
+use Rattle.naming.proofs.Parts.{space-behind}
+use Rattle.keys.proofs.Parts.{value-within, byte-within}
 use Rattle.tags.specs.Values.{valueAt}
 use Rattle.keys.proofs.byte_of.Statement.{statement}
 use Rattle.keys.proofs.byte_of.Tie as tie

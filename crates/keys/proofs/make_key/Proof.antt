@@ -1,7 +1,8 @@
 -- `keys::make_key` meets its contract.
 use native.Mathlib.Omega.{arith}
 use mathlib.Core.Path.{refl}
-use Rattle.keys.proofs.Parts.{so-long, second-part, third-part, all-parts}
+use Rattle.naming.proofs.Parts.{so-long}
+use Rattle.keys.proofs.Parts.{second-part, third-part, all-parts}
 use borrow.Author.Needs.{needs}
 use Rattle.keys.proofs.make_key.Statement.{statement}
 use Rattle.keys.proofs.make_key.Tie as tie

@@ -6,7 +6,7 @@ use Prim.Native.Nat.{_≤_, _-_}
 use lib.ListN.{length, take}
 use Rattle.tags.specs.Values.{valueAt}
 use Rattle.postings.specs.Record.{padded}
-use Rattle.keys.proofs.Parts.{put-more, put-end}
+use Rattle.naming.proofs.Parts.{put-more, put-end}
 use Rattle.keys.proofs.put.Statement.{statement}
 use Rattle.keys.proofs.put.Tie as tie
 

@@ -1,7 +1,7 @@
 -- `recording::byte_of` meets its contract.
 use native.Mathlib.Omega.{arith}
 use borrow.Author.Needs.{needs}
-use Rattle.keys.proofs.Parts.{space-behind}
+use Rattle.naming.proofs.Parts.{space-behind}
 use Rattle.recording.proofs.Fields.{within}
 use Rattle.recording.proofs.byte_of.Statement.{statement}
 use Rattle.recording.proofs.byte_of.Tie as tie

@@ -1,7 +1,7 @@
 -- `recording::make_key` meets its contract: the four values are written one behind the other, over spaces.
 use native.Mathlib.Omega.{arith}
 use borrow.Author.Needs.{needs}
-use Rattle.keys.proofs.Parts.{so-long}
+use Rattle.naming.proofs.Parts.{so-long}
 use Rattle.recording.proofs.Fields.{with-service, with-id, with-bic, with-date}
 use Rattle.recording.proofs.make_key.Statement.{statement}
 use Rattle.recording.proofs.make_key.Tie as tie

@@ -4,7 +4,7 @@ use Prim.Native.Nat.{_≤_, _-_}
 use borrow.Author.Needs.{needs}
 use lib.ListN.{length, take}
 use Rattle.postings.specs.Record.{padded}
-use Rattle.keys.proofs.Parts.{put-more, put-end}
+use Rattle.naming.proofs.Parts.{put-more, put-end}
 use Rattle.recording.proofs.put.Statement.{statement}
 use Rattle.recording.proofs.put.Tie as tie
 

@@ -1,8 +1,8 @@
--- `book::entering` meets its contract.
-use Rattle.book.proofs.Answers.{unfit-call, fit-call}
+-- `keys::entering` meets its contract.
+use Rattle.keys.proofs.Entered.{unfit-call, fit-call}
 use borrow.Author.Needs.{needs}
-use Rattle.book.proofs.entering.Statement.{statement}
-use Rattle.book.proofs.entering.Tie as tie
+use Rattle.keys.proofs.entering.Statement.{statement}
+use Rattle.keys.proofs.entering.Tie as tie
 
 key-requires : tie.Need-key-requires
 key-requires c κs = search needs
