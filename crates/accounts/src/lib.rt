@@ -1,4 +1,6 @@
 // Who pays, who is paid, and where: BIC, IBAN, creditor identifier.
+#![tactic(auto)]
+
 ghost use Rattle.std.specs.Prelude.{◌≡◌, true, [], ◌∷◌, ◌++◌, ◌⊎◌, ◌<◌, ◌≤◌, length, take, drop, eqb};
 ghost use Rattle.text.specs.Truth.{both, either, at};
 ghost use Rattle.text.specs.Quoted.{among};

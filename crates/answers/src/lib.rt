@@ -1,8 +1,10 @@
 // What a single checker answers, and this paper's number and value for each answer.
+#![tactic(auto)]
+
 ghost use Rattle.std.specs.Prelude.{◌≡◌};
 ghost use Rattle.answers.specs.Given.{given, number_of, value_of};
 
-#[derive(Drop)]
+#[derive(Clone, Copy)]
 pub enum Answer {
     Yes,
     // The count's number, the amount's cents, or a code's place in its list.

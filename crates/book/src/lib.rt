@@ -1,4 +1,6 @@
 // The day book on values: what each call answers, and the first 64 entries afterwards.
+#![tactic(auto)]
+
 ghost use Rattle.std.specs.Prelude.{◌≡◌, not, ◌+◌, ◌≤◌, ◌<◌, length, take, drop, get_or, List};
 ghost use Rattle.money.specs.declared.Range.TheVariants.{Total};
 ghost use Rattle.money.specs.Amount.{most};
@@ -12,14 +14,14 @@ pub const MOST: usize = 64;
 
 // An open bulk: its key and its cents. It has the layout of C, since the face lends it.
 #[repr(C)]
-#[derive(Drop)]
+#[derive(Clone, Copy)]
 pub struct Entry {
     pub key: [u8; naming::LENGTH],
     pub cents: u64,
 }
 
 // What is asked: a withdrawal, an entry, or an entry of what the judge refused, with its number and place.
-#[derive(Drop)]
+#[derive(Clone, Copy)]
 pub enum Ask {
     Withdraw,
     Enter,
@@ -27,14 +29,14 @@ pub enum Ask {
 }
 
 // A call that changes the book. Of a withdrawal only the entry's key counts.
-#[derive(Drop)]
+#[derive(Clone, Copy)]
 pub struct Call {
     pub ask: Ask,
     pub entry: Entry,
 }
 
 // A refusal's number and place, or 0; the number open afterwards; the cents of the bulk, or those of all open ones where the book is asked or checked.
-#[derive(Drop)]
+#[derive(Clone, Copy)]
 pub struct Answer {
     pub number: u8,
     pub place: usize,
@@ -43,21 +45,21 @@ pub struct Answer {
 }
 
 // What is answered, and the stored total afterwards.
-#[derive(Drop)]
+#[derive(Clone, Copy)]
 pub struct Kept {
     pub answer: Answer,
     pub total: u64,
 }
 
 // The same with the first 64 entries afterwards.
-#[derive(Drop)]
+#[derive(Clone, Copy)]
 pub struct Outcome {
     pub kept: Kept,
     pub entries: [Entry; MOST],
 }
 
 // A refusal's number and place, or 0; whether an entry has the key, and where the first one stands.
-#[derive(Drop)]
+#[derive(Clone, Copy)]
 pub struct Found {
     pub number: u8,
     pub place: usize,

@@ -1,5 +1,7 @@
 // The C face and nothing else: every public function once more, under its exported C name.
 // Each takes any bytes, and writes all three words of `answer`, `bulk_play` all ten, by the table of specs/Told.antt.
+#![tactic(auto)]
+
 ghost use Rattle.std.specs.Prelude.{◌≡◌, List, [], ◌∷◌, get_or};
 ghost use Rattle.answers.specs.Given.{given};
 ghost use Rattle.words.specs.Reference.{reference_given};

@@ -1,4 +1,6 @@
 // Dates and times: what stands on a calendar and a clock.
+#![tactic(auto)]
+
 ghost use Rattle.std.specs.Prelude.{◌≡◌, ◌+◌, ◌≤◌, ◌<◌, length};
 ghost use Rattle.text.specs.Truth.{part};
 ghost use Rattle.text.specs.Quoted.{among, decimal};

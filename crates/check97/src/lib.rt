@@ -1,4 +1,6 @@
 // ISO 7064 MOD 97-10: the remainder by 97 of the number that characters write.
+#![tactic(auto)]
+
 ghost use Rattle.std.specs.Prelude.{◌≡◌, ◌++◌, ◌+◌, ◌*◌, ◌<◌, ◌≤◌, ◌%◌};
 ghost use Rattle.text.specs.Truth.{between};
 ghost use Rattle.text.specs.Quoted.{followed_by};
@@ -6,7 +8,7 @@ ghost use Rattle.check97.specs.Check.{spell, spelled, leaves_one};
 ghost use Rattle.check97.specs.Group.{whole, Fits};
 
 // Up to seven digits behind a number: the remainder of that number, ten to the power of how many they are, and what they write.
-#[derive(Drop)]
+#[derive(Clone, Copy)]
 struct Group {
     before: u32,
     weight: u32,

@@ -1,4 +1,6 @@
 // The code lists, by the element that takes them. Codes are exact bytes.
+#![tactic(auto)]
+
 ghost use Rattle.std.specs.Prelude.{◌≡◌};
 ghost use Rattle.answers.specs.Given.{refused, given};
 ghost use Rattle.text.specs.Quoted.{alike};
@@ -6,7 +8,7 @@ ghost use Rattle.codes.specs.Listed.{or_else, place, codes_of, code_given};
 
 use answers::Answer;
 
-#[derive(Drop)]
+#[derive(Clone, Copy)]
 pub enum Element {
     SttlmMtd,
     SvcLvl,

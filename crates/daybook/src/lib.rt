@@ -1,4 +1,6 @@
 // The day book in a lent list of entries. What each call means is on values, in the crate below; here whole entries go in and out.
+#![tactic(auto)]
+
 ghost use Rattle.std.specs.Prelude.{◌≡◌, ◌≤◌, length, take};
 ghost use Rattle.book.specs.Book.{first_at};
 ghost use Rattle.book.specs.Calls.{asked, searched};

@@ -1,1 +1,2 @@
 // No code: a day's calls, one behind the other, and what is true of the book afterwards.
+#![tactic(auto)]

@@ -1,4 +1,6 @@
 // What every engine does, whatever leads it: where TxIds begin is filed; a step is asked whether it ended the reading; what an item noted is told in a row.
+#![tactic(auto)]
+
 ghost use Rattle.std.specs.Prelude.{◌≡◌};
 ghost use Rattle.engine.specs.Engine.{stops, filed_by};
 ghost use Rattle.engine.specs.Several.{told_in};
@@ -48,7 +50,7 @@ pub fn is_stopped(s: Step) -> bool
 pub const ROW: usize = 28;
 
 // How many items were read in one call, and the place behind the last.
-#[derive(Drop)]
+#[derive(Clone, Copy)]
 pub struct Several {
     pub read: usize,
     pub at: usize,

@@ -1,4 +1,6 @@
 // The engines, each by its name: one question, whichever is to read.
+#![tactic(auto)]
+
 ghost use Rattle.std.specs.Prelude.{◌≡◌};
 ghost use Rattle.notes.specs.Steps.{stepped, Fine};
 ghost use Rattle.engine.specs.Engine.{message_at, places_at, item_at};
@@ -8,7 +10,7 @@ use engine::Several;
 use notes::{Met, Step};
 use profile::Version;
 
-#[derive(Drop)]
+#[derive(Clone, Copy)]
 pub enum Engine {
     // Led by the table of the profile.
     Table,

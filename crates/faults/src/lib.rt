@@ -1,1 +1,2 @@
 // No code: a refusal is the first fault in the written order.
+#![tactic(auto)]

@@ -1,1 +1,2 @@
 // The plain form of a message: what is right, and laws. No code.
+#![tactic(auto)]

@@ -1,4 +1,6 @@
 // The judge: one message, one answer, the first fault.
+#![tactic(auto)]
+
 ghost use Rattle.std.specs.Prelude.{◌≡◌, not, eqb, ◌≤◌, length};
 ghost use Rattle.tags.specs.Tags.{skipped};
 ghost use Rattle.profile.specs.Version.{versions};
@@ -18,7 +20,7 @@ use notes::{Met, Notes, State, Step};
 use profile::Version;
 use tags::Look;
 
-#[derive(Drop)]
+#[derive(Clone, Copy)]
 pub enum Verdict {
     // The count, and the total in cents.
     Accepted(u64, u64),
@@ -27,21 +29,21 @@ pub enum Verdict {
 }
 
 // Where an item lies: from its `<` to behind its `>`; or the number and the place of a refusal.
-#[derive(Drop)]
+#[derive(Clone, Copy)]
 pub enum Extent {
     Lies(usize, usize),
     NotThere(u8, usize),
 }
 
 // The version that a message's root names, and where reading goes on behind its root tag; or its first fault.
-#[derive(Drop)]
+#[derive(Clone, Copy)]
 pub enum Opened {
     From(Version, usize),
     Faulty(u8, usize),
 }
 
 // A verdict, and where the first item of an accepted message begins (0 of any other).
-#[derive(Drop)]
+#[derive(Clone, Copy)]
 pub struct Finding {
     pub verdict: Verdict,
     pub first: usize,
@@ -49,7 +51,7 @@ pub struct Finding {
 
 // A finding, and what was noted of an accepted message (0 of any other): its items' LclInstrm as its place in its list from 1 on, and where the
 // last value of each field begins.
-#[derive(Drop)]
+#[derive(Clone, Copy)]
 pub struct Survey {
     pub finding: Finding,
     pub service: u64,

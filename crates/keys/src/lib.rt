@@ -1,4 +1,6 @@
 // The key of a bulk, from one reading of the message; and the call that enters it into the day book.
+#![tactic(auto)]
+
 ghost use Rattle.std.specs.Prelude.{◌≡◌, ◌++◌, ◌<◌, length, get_or, replicate};
 ghost use Rattle.tags.specs.Values.{value_at};
 ghost use Rattle.profile.specs.Fields.{field_number};
@@ -15,7 +17,7 @@ use judge::{Survey, Verdict};
 use profile::Field;
 
 // What the judge says of a message, and the key of an accepted one (spaces of any other).
-#[derive(Drop)]
+#[derive(Clone, Copy)]
 pub struct Keyed {
     pub verdict: Verdict,
     pub key: [u8; naming::LENGTH],

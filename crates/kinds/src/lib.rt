@@ -1,4 +1,6 @@
 // Which checker judges which kind of value, and what it answers.
+#![tactic(auto)]
+
 ghost use Rattle.std.specs.Prelude.{◌≡◌};
 ghost use Rattle.answers.specs.Given.{given};
 ghost use Rattle.kinds.specs.Given.{simple_given, kind_given};

@@ -1,4 +1,6 @@
 // Counts and amounts: whole numbers, amounts in cents, never a float.
+#![tactic(auto)]
+
 ghost use Rattle.std.specs.Prelude.{◌≡◌, true, ◌≤◌, ◌<◌, length, drop};
 ghost use Rattle.text.specs.Truth.{either, every};
 ghost use Rattle.text.specs.Quoted.{is, decimal};
@@ -12,7 +14,7 @@ use answers::Answer;
 use text::Class;
 
 // Which range is asked for: an item's, or the header total's.
-#[derive(Drop)]
+#[derive(Clone, Copy)]
 pub enum Range {
     Item,
     Total,

@@ -1,4 +1,6 @@
 // What the code notes while a message is read: the state, and what a value of each kind adds to it.
+#![tactic(auto)]
+
 ghost use Rattle.std.specs.Prelude.{◌≡◌, ◌≤◌, ◌<◌};
 ghost use Rattle.profile.specs.Limits.{most_items};
 ghost use Rattle.reading.specs.Noted.{on, stop};
@@ -9,7 +11,7 @@ ghost use Rattle.notes.specs.Steps.{stated, stepped, staying};
 use codes::Element;
 use profile::{Field, Kind};
 
-#[derive(Drop)]
+#[derive(Clone, Copy)]
 pub struct Notes {
     // How many items have begun, where the first begins, and the sum of their cents.
     pub count: u64,
@@ -30,20 +32,20 @@ pub struct Notes {
     pub starts: [u32; profile::FIELDS],
 }
 
-#[derive(Drop)]
+#[derive(Clone, Copy)]
 pub struct State {
     // The next place: 32 bits are enough for a message.
     pub at: u32,
     pub notes: Notes,
 }
 
-#[derive(Drop)]
+#[derive(Clone, Copy)]
 pub enum Met {
     On,
     Stopped(u8, usize),
 }
 
-#[derive(Drop)]
+#[derive(Clone, Copy)]
 pub struct Step {
     pub met: Met,
     pub state: State,

@@ -1,5 +1,7 @@
 // The plain form of an accepted message, written into a lent area. After the verdict the message is gone through from tag to tag, once for the length and once for the
 // writing: each tag is copied, what stands behind it is written as it is meant where it is a value, and left out where it is white space.
+#![tactic(auto)]
+
 ghost use Rattle.std.specs.Prelude.{◌≡◌, ◌∷◌, ◌++◌, ◌≤◌, length, drop, get_or};
 ghost use Rattle.text.specs.Quoted.{byte};
 ghost use Rattle.tags.specs.Tags.{declaration};
@@ -14,7 +16,7 @@ ghost use Rattle.plain.specs.Indexed.{WroteWith};
 use judge::Verdict;
 use text::Class;
 
-#[derive(Drop)]
+#[derive(Clone, Copy)]
 pub enum Written {
     // How many bytes the plain form has.
     Length(usize),
@@ -23,7 +25,7 @@ pub enum Written {
 }
 
 // How what stands behind a tag is written: not at all, as it was read, collapsed, without needless zeros, with two decimals.
-#[derive(Drop)]
+#[derive(Clone, Copy)]
 pub enum Spelling {
     Nothing,
     AsRead,
@@ -33,7 +35,7 @@ pub enum Spelling {
 }
 
 // A tag and what stands behind it up to the next one: where the tag ends, where the next one begins, and how what lies between is written.
-#[derive(Drop)]
+#[derive(Clone, Copy)]
 pub struct Piece {
     pub tag: usize,
     pub next: usize,

@@ -1,4 +1,6 @@
 // A day played back from a recording: each record one call of the day book, from the emptied book.
+#![tactic(auto)]
+
 ghost use Rattle.std.specs.Prelude.{◌≡◌, true, List, [], ◌∷◌, ◌++◌, ℕ, suc, ◌+◌, ◌*◌, ◌≤◌, ◌<◌, length, take, get_or};
 ghost use Rattle.twice.specs.Twice.{least_index, cleared};
 ghost use Rattle.naming.specs.Key.{keyed};
@@ -22,7 +24,7 @@ use sums::{Lot, Weighed};
 
 // The run between two records: whether it goes on, or the number of a refusal; the book's first 64 entries, the number open and the total; what each open
 // bulk adds to the table; how many messages are taken; the last instant.
-#[derive(Drop)]
+#[derive(Clone, Copy)]
 pub struct Run {
     pub on: bool,
     pub number: u8,
@@ -35,7 +37,7 @@ pub struct Run {
 }
 
 // A refusal's number and the record's number, or 0 and how many records; the book afterwards; the table, laid flat.
-#[derive(Drop)]
+#[derive(Clone, Copy)]
 pub struct Played {
     pub number: u8,
     pub place: usize,
@@ -227,7 +229,7 @@ fn finish(run: Run, ends: &[u64], i: usize) -> Played
 }
 
 // Where a message lies in the buffer, and whether it does; and the number of the next one.
-#[derive(Drop)]
+#[derive(Clone, Copy)]
 struct Span {
     lies: bool,
     from: usize,

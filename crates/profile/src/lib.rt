@@ -1,4 +1,6 @@
 // The written profile: the element tree stands in specs/, with a name for every field and the kind of every value.
+#![tactic(auto)]
+
 ghost use Rattle.std.specs.Prelude.{◌≡◌};
 ghost use Rattle.text.specs.Quoted.{alike};
 ghost use Rattle.tags.specs.Tags.{look, exactly};
@@ -11,7 +13,7 @@ use codes::Element;
 use tags::Look;
 
 // The versions of the message that are judged.
-#[derive(Drop)]
+#[derive(Clone, Copy)]
 pub enum Version {
     V02,
     V08,
@@ -23,7 +25,7 @@ pub const MOST_BYTES: usize = 16_777_216;
 pub const MOST_ITEMS: u64 = 10_000;
 
 // The kinds whose checker answers yes or a refusal.
-#[derive(Drop)]
+#[derive(Clone, Copy)]
 pub enum Simple {
     Reference,
     EndToEnd,
@@ -37,7 +39,7 @@ pub enum Simple {
     Identifier,
 }
 
-#[derive(Drop)]
+#[derive(Clone, Copy)]
 pub enum Kind {
     Plain(Simple),
     Count,
@@ -47,7 +49,7 @@ pub enum Kind {
 }
 
 // Every element that holds a value, in the order of the profile: the header's, then an item's.
-#[derive(Drop)]
+#[derive(Clone, Copy)]
 pub enum Field {
     MsgId,
     CreDtTm,

@@ -1,4 +1,6 @@
 // The table-led engine: a group reader and an element reader that call each other, led by the table of the profile.
+#![tactic(auto)]
+
 ghost use Rattle.std.specs.Prelude.{◌≡◌, true, ◌+◌, ◌≤◌, ◌<◌, length, drop};
 ghost use Rattle.text.specs.Truth.{pick};
 ghost use Rattle.tags.specs.Tags.{skipped, look};

@@ -1,4 +1,6 @@
 // One record of a recording: 64 bytes, field by field; its key, and its instant.
+#![tactic(auto)]
+
 ghost use Rattle.std.specs.Prelude.{◌≡◌, true, ◌+◌, ◌-◌, ◌≤◌, ◌<◌, length, get_or};
 ghost use Rattle.text.specs.Truth.{part};
 ghost use Rattle.text.specs.Quoted.{among, decimal};
@@ -21,7 +23,7 @@ use codes::Element;
 pub const LENGTH: usize = 64;
 
 // What a record says: whether a bulk is entered (or withdrawn), its key, and the instant. Of bytes that are no record, that they do not fit, and nothing else.
-#[derive(Drop)]
+#[derive(Clone, Copy)]
 pub struct Line {
     pub fits: bool,
     pub entering: bool,

@@ -1,4 +1,6 @@
 // The posting records of an accepted message, written into a lent area.
+#![tactic(auto)]
+
 ghost use Rattle.std.specs.Prelude.{◌≡◌, ◌++◌, ◌+◌, ◌*◌, ◌≤◌, eqb, ltb, length, take, drop};
 ghost use Rattle.text.specs.Truth.{either};
 ghost use Rattle.reading.specs.Items.{the_header, the_items};

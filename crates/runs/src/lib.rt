@@ -1,1 +1,2 @@
 // Laws of a day played back; no code.
+#![tactic(auto)]

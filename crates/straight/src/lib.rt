@@ -1,4 +1,6 @@
 // The straight engine: reads the profile without the element table.
+#![tactic(auto)]
+
 use codes::Element;
 use engine::Several;
 use notes::{Met, State, Step};
@@ -168,7 +170,7 @@ fn pmt_id_exact(m: &[u8], st: State, places: &mut [u32]) -> Step
 // ---- The exact readers, group by group
 
 // How a start tag lies after white space, and where that is.
-#[derive(Drop)]
+#[derive(Clone, Copy)]
 struct Sought {
     look: Look,
     at: usize,
@@ -939,7 +941,7 @@ fn exact_item(m: &[u8], v: Version, st: State, places: &mut [u32]) -> Step
 }
 
 // The state behind some items, and how many more may come.
-#[derive(Drop)]
+#[derive(Clone, Copy)]
 struct Ran {
     state: State,
     left: usize,
@@ -1079,7 +1081,7 @@ pub fn message(m: &[u8], at: usize, v: Version, places: &mut [u32]) -> Step
 }
 
 // Whether the quick reader told an item, and the state behind it.
-#[derive(Drop)]
+#[derive(Clone, Copy)]
 struct Known {
     told: bool,
     state: State,
@@ -1141,7 +1143,7 @@ pub fn item(m: &[u8], at: usize, v: Version) -> Step
 }
 
 // Whether an item was read, and the place behind it.
-#[derive(Drop)]
+#[derive(Clone, Copy)]
 struct ReadRow {
     read: bool,
     at: usize,

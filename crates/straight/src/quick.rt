@@ -556,7 +556,7 @@ fn remittance(m: &[u8], at: usize, w: &mut [usize; 101], i: usize) -> usize
 // ---- the pieces of an item. A place of 0 says that nothing is told.
 
 // Where InstrId begins (0 where there is none), and the value of EndToEndId.
-#[derive(Drop)]
+#[derive(Clone, Copy)]
 struct Begun {
     at: usize,
     first: usize,
@@ -582,7 +582,7 @@ fn begin(m: &[u8], at: usize, t: &[u8], w: &mut [usize; 101]) -> Begun
 }
 
 // Where InstrId (0 where there is none) and EndToEndId begin, and the value of TxId.
-#[derive(Drop)]
+#[derive(Clone, Copy)]
 struct Ids {
     at: usize,
     first: usize,
@@ -605,7 +605,7 @@ fn read_ids(m: &[u8], at: usize, t: &[u8], w: &mut [usize; 101]) -> Ids
 }
 
 // Where the codes of the payment type begin (0 where it is not there), which code LclInstrm is, and the value of the amount.
-#[derive(Drop)]
+#[derive(Clone, Copy)]
 struct Codes {
     at: usize,
     level: usize,
@@ -749,7 +749,7 @@ fn kind(m: &[u8], at: usize, said: u8, first: u64, t: &[u8], w: &mut [usize; 101
 }
 
 // Where ChrgBr and ReqdColltnDt begin, and the value of MndtId.
-#[derive(Drop)]
+#[derive(Clone, Copy)]
 struct Charged {
     at: usize,
     charge: usize,
@@ -822,7 +822,7 @@ fn read_charged(m: &[u8], at: usize, t: &[u8], w: &mut [usize; 101]) -> Charged
 }
 
 // The cents, where ChrgBr and ReqdColltnDt begin, and the value of MndtId.
-#[derive(Drop)]
+#[derive(Clone, Copy)]
 struct Terms {
     at: usize,
     cents: u64,
@@ -846,7 +846,7 @@ fn read_terms(m: &[u8], at: usize, t: &[u8], w: &mut [usize; 101]) -> Terms
 }
 
 // A place that is noted, and where the next value begins.
-#[derive(Drop)]
+#[derive(Clone, Copy)]
 struct Two {
     at: usize,
     noted: usize,
@@ -876,7 +876,7 @@ fn scheme(m: &[u8], at: usize, t: &[u8], w: &mut [usize; 101]) -> Two
 }
 
 // The two parties of an item.
-#[derive(Drop)]
+#[derive(Clone, Copy)]
 pub enum Side {
     Creditor,
     Debtor,
@@ -945,7 +945,7 @@ fn agent(m: &[u8], at: usize, v: Version, t: &[u8], w: &mut [usize; 101]) -> usi
 }
 
 // Where the values of the creditor's side begin, and the debtor's name.
-#[derive(Drop)]
+#[derive(Clone, Copy)]
 struct CreditorSide {
     at: usize,
     identifier: usize,
@@ -1067,7 +1067,7 @@ fn last(m: &[u8], at: usize, v: Version, t: &[u8], w: &mut [usize; 101]) -> Two
 // ---- an item
 
 // Where the values up to ReqdColltnDt begin, the cents, which code LclInstrm is, and the value of MndtId.
-#[derive(Drop)]
+#[derive(Clone, Copy)]
 pub struct Front {
     pub at: usize,
     pub first: usize,
@@ -1108,7 +1108,7 @@ fn read_front(m: &[u8], at: usize, said: u8, first: u64, t: &[u8], w: &mut [usiz
 }
 
 // Where the values from DtOfSgntr on begin, and the place behind the item.
-#[derive(Drop)]
+#[derive(Clone, Copy)]
 pub struct Back {
     pub at: usize,
     pub signed: usize,
@@ -1148,7 +1148,7 @@ fn read_back(m: &[u8], at: usize, v: Version, t: &[u8], w: &mut [usize; 101]) ->
 }
 
 // What was found of an item; the place behind it is its back's.
-#[derive(Drop)]
+#[derive(Clone, Copy)]
 pub struct Item {
     pub front: Front,
     pub back: Back,

@@ -1,4 +1,6 @@
 // What a bulk adds to a table of cents, by service and sequence type; together with its key, from one reading of the message.
+#![tactic(auto)]
+
 ghost use Rattle.std.specs.Prelude.{◌≡◌, ◌+◌, ◌≤◌, get_or};
 ghost use Rattle.items.specs.Sums.{most_sum};
 ghost use Rattle.twice.specs.Twice.{cleared};
@@ -17,14 +19,14 @@ use notes::Met;
 use profile::Field;
 
 // What a bulk adds to the table of the open cents: its service, by its place in its list from 1 on, and its cents by sequence type.
-#[derive(Drop)]
+#[derive(Clone, Copy)]
 pub struct Lot {
     pub service: u64,
     pub sums: [u64; 4],
 }
 
 // What the judge says of a message, its key, and what it adds to the table (nothing of one that is refused).
-#[derive(Drop)]
+#[derive(Clone, Copy)]
 pub struct Weighed {
     pub keyed: Keyed,
     pub lot: Lot,

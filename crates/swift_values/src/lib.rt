@@ -1,4 +1,6 @@
 // Values that are seen at once: a place behind the value where it is of its kind, and 0 where that is not told.
+#![tactic(auto)]
+
 ghost use Rattle.std.specs.Prelude.{◌≡◌, true, false, ◌||◌, ◌∷◌, [], ◌⊎◌, ℕ, ◌+◌, ◌-◌, ◌*◌, ◌%◌, ◌<◌, ◌≤◌, length, get_or};
 ghost use Rattle.text.specs.Truth.{part, between, every};
 ghost use Rattle.text.specs.Classes.{reference_set, text_set, digit, capital, small, capital_or_digit, letter_or_digit};
@@ -25,7 +27,7 @@ use profile::{Kind, Simple};
 // ---- Values in any spelling
 
 // The place behind a value, and what the value is worth.
-#[derive(Drop)]
+#[derive(Clone, Copy)]
 pub struct Worth {
     pub at: usize,
     pub worth: u64,
@@ -797,7 +799,7 @@ pub fn bicfi(m: &[u8], at: usize) -> usize
 // ---- Amounts
 
 // How many digits stand at a place, and the number that they write.
-#[derive(Drop)]
+#[derive(Clone, Copy)]
 struct Figures {
     many: usize,
     number: u64,
@@ -1103,7 +1105,7 @@ pub fn remittance(m: &[u8], at: usize, like: usize) -> usize
 // ---- Letters among digits
 
 // What characters write behind a number: the number times a weight, and a worth more.
-#[derive(Drop)]
+#[derive(Clone, Copy)]
 struct Tail {
     weight: u64,
     worth: u64,

@@ -1,4 +1,6 @@
 // The table that the reader goes by: a row for each element in the order of the profile, and one for each group's end. Its columns are told in specs/Table.antt.
+#![tactic(auto)]
+
 ghost use Rattle.std.specs.Prelude.{◌≡◌, ◌<◌, ◌≤◌, ◌/◌, ◌%◌};
 ghost use Rattle.text.specs.Truth.{part};
 ghost use Rattle.tags.specs.Tags.{look};
@@ -9,7 +11,7 @@ use profile::{Field, Kind, Simple, Version};
 use tags::Look;
 
 // A row of the table.
-#[derive(Drop)]
+#[derive(Clone, Copy)]
 pub struct Row {
     pub tag: u16,
     pub start: u16,

@@ -1,4 +1,6 @@
 // The fixed bytes of a message: white space, tags and the currency in them, the declaration, and how they lie at a place.
+#![tactic(auto)]
+
 ghost use Rattle.std.specs.Prelude.{◌≡◌, ◌+◌, ◌<◌, ◌≤◌, length, get_or, drop};
 ghost use Rattle.text.specs.Truth.{lead};
 ghost use Rattle.text.specs.Classes.{capital};
@@ -8,7 +10,7 @@ ghost use Rattle.tags.specs.Values.{in_value};
 use text::Class;
 
 // How fixed bytes lie at a place.
-#[derive(Drop)]
+#[derive(Clone, Copy)]
 pub enum Look {
     Whole,
     Cut,

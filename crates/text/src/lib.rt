@@ -1,10 +1,12 @@
 // Bytes as text: the classes of characters that the paper names, and the questions that every value kind asks of them.
+#![tactic(auto)]
+
 ghost use Rattle.std.specs.Prelude.{◌≡◌, List, [], ◌∷◌, length, ◌-◌, ◌<◌};
 ghost use Rattle.text.specs.Truth.{every, some, lead};
 ghost use Rattle.text.specs.Quoted.{alike, decimal};
 ghost use Rattle.text.specs.Classes.{in_class, holds, Names};
 
-#[derive(Drop)]
+#[derive(Clone, Copy)]
 pub enum Class {
     Digit,
     Capital,
@@ -16,7 +18,7 @@ pub enum Class {
 }
 
 // A set of bytes below 128: bit c of the low word, bit c - 64 of the high one.
-#[derive(Drop)]
+#[derive(Clone, Copy)]
 pub struct Mask {
     pub low: u64,
     pub high: u64,

@@ -1,5 +1,7 @@
 // The earliest second of equal values among places of a message, found in two ways that answer the same:
 // plainly, each against all before it, and quickly, by a lent index. No answer depends on how the values' bytes are mixed.
+#![tactic(auto)]
+
 ghost use Rattle.std.specs.Prelude.{◌≡◌, ◌+◌, ◌-◌, ◌<◌, ◌≤◌, true, length, drop};
 ghost use Rattle.text.specs.Truth.{every, at};
 ghost use Rattle.text.specs.Quoted.{alike};
@@ -221,7 +223,7 @@ fn steps(m: &[u8], places: &[u32], index: &[u32], v: &[u8], h: u32) -> usize
 }
 
 // Where the search for a value stops, and the value's mix.
-#[derive(Drop)]
+#[derive(Clone, Copy)]
 struct Stop {
     slot: usize,
     mix: u32,

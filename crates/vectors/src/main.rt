@@ -1,9 +1,11 @@
 // Test vectors: each line `KIND VALUE` of standard input is asked of the C face, and printed with its answer.
+#![tactic(auto)]
+
 ghost use Rattle.io.specs.Counts.{IsPrefixLen};
 
 use libc::{STDERR_FILENO, STDIN_FILENO, STDOUT_FILENO};
 
-#[derive(Drop)]
+#[derive(Clone, Copy)]
 enum Kind {
     Iban,
     CreditorId,

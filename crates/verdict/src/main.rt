@@ -1,4 +1,6 @@
 // The judge as a program: one message on standard input, its verdict as one line on standard output.
+#![tactic(auto)]
+
 ghost use Rattle.std.specs.Prelude.{◌≡◌, length};
 ghost use Rattle.io.specs.Counts.{IsPrefixLen};
 
@@ -6,7 +8,7 @@ use judge::Verdict;
 use libc::{STDERR_FILENO, STDIN_FILENO, STDOUT_FILENO};
 
 // How many bytes came, and whether the read behind them failed.
-#[derive(Drop)]
+#[derive(Clone, Copy)]
 struct Taken {
     count: usize,
     failed: bool,

@@ -1,5 +1,7 @@
 // References and texts: the values that people and programs write as words.
 // An EndToEndId and a text are judged collapsed, where they lie: nothing is copied, and a usual value is passed over as quickly as a reference.
+#![tactic(auto)]
+
 ghost use Rattle.std.specs.Prelude.{◌≡◌, false, map, ◌+◌, ◌<◌, length, get_or};
 ghost use Rattle.text.specs.Truth.{both, between, every, lead, first};
 ghost use Rattle.text.specs.Classes.{text_set};
@@ -14,7 +16,7 @@ use answers::Answer;
 use text::Class;
 
 // Which text is asked about: a name, or the remittance information.
-#[derive(Drop)]
+#[derive(Clone, Copy)]
 pub enum Field {
     Nm,
     Ustrd,

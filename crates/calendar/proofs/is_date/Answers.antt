@@ -1,0 +1,44 @@
+-- `calendar::is_date` meets its contract.
+use native.Mathlib.Omega.{arith}
+use mathlib.Core.Path.{◌≡◌, ◌∙◌, sym}
+use mathlib.Core.Bool.{true}
+use lib.ListN.{length}
+use Rattle.text.proofs.Truths.{yes_not, no_not, fails}
+use Rattle.text.proofs.Scan.{two_at}
+use Rattle.calendar.specs.Pattern.{written}
+use Rattle.calendar.specs.Date.{date_form}
+use Rattle.calendar.proofs.Dates.{date_long, no_year, date_is}
+use Rattle.calendar.proofs.is_date.Goals as goal
+
+form : (c : tie.Else1) → written "YYYY-MM-DD" c.before.before.before.before.args.s.now ≡ true
+unfolding written
+form c = yes_not c.before.is-written.ensures c.if1.false
+
+long : (c : tie.Else1) → length c.before.before.before.before.args.s.now ≡ 10
+long c = date_long _ (form c)
+
+pub returns-then-not-is_written : goal.returns-then-not-is_written
+unfolding date_form written
+returns-then-not-is_written c = sym (fails _ 0 (no_not c.is_written.ensures c.if-not-is_written.true))
+
+pub two_at-requires : goal.two_at-requires
+two_at-requires c = omega (arith, long c)
+
+pub two_at-requires-2 : goal.two_at-requires-2
+two_at-requires-2 c = omega (arith, long c.before)
+
+pub returns-then-y-lt1 : goal.returns-then-y-lt1
+returns-then-y-lt1 c =
+    no_year _ (form b.before) _ _ c.two_at.ensures.value c.two_at-2.ensures.value c.if-y-lt1.true
+
+pub two_at-m-requires : goal.two_at-m-requires
+two_at-m-requires c = omega (arith, long c.before.before.before)
+
+pub two_at-d-requires : goal.two_at-d-requires
+two_at-d-requires c = omega (arith, long c.before.before.before.before)
+
+pub returns : goal.returns
+returns c =
+    let f = form b.before.before.before in
+    let year = date_is _ f _ _ c.two_at.ensures.value c.two_at-2.ensures.value c.if-y-lt1.false in
+    c.is_day.ensures ∙ year _ _ c.two_at-m.ensures.value c.two_at-d.ensures.value

@@ -1,0 +1,16 @@
+-- `calendar::is_leap` meets its contract.
+use Rattle.text.proofs.Truths.{tests}
+use Rattle.calendar.specs.Date.{leap}
+use Rattle.calendar.proofs.is_leap.Goals as goal
+
+pub returns-then-y-ne0 : goal.returns-then-y-ne0
+unfolding leap
+returns-then-y-ne0 c = search tests
+
+pub returns-then-y-ne0-2 : goal.returns-then-y-ne0-2
+unfolding leap
+returns-then-y-ne0-2 c = search tests
+
+pub returns : goal.returns
+unfolding leap
+returns c = search tests

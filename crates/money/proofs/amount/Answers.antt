@@ -1,0 +1,65 @@
+-- `money::amount` meets its contract.
+use native.Mathlib.Omega.{arith}
+use mathlib.Core.Path.{sym}
+use Prim.Native.Nat.{◌+◌, ◌*◌, ◌<◌}
+use lib.Seq.{length-take-le}
+use Rattle.text.specs.Classes.{in_class}
+use Rattle.text.proofs.Truths.{yes_not, no_not}
+use Rattle.money.proofs.Amounts.{Amount, n_fits, first_digits, first_below, known, too_few, too_many_lem, no_fraction, too_little, too_much, within}
+use Rattle.money.proofs.amount.Goals as goal
+
+below : (c : tie.After-number) → c.number.result < 1000000000000000
+unfolding in_class
+below c = rw c.number.ensures (first_below _ _ c.before.before.before.before.before.before.before.run_in.ensures (omega arith))
+
+amounts : (c : tie.After-fraction) → Amount c.before.before.before.before.before.before.before.before.before.before.args.s.now (c.before.number.result * 100 + c.fraction.result)
+unfolding in_class
+amounts c =
+    let g = yes_not c.before.before.before.before.is-fraction.ensures c.before.before.before.if3.false in
+    known _ _ c.before.before.before.before.before.before.before.before.run_in.ensures (omega arith) (omega arith) g _ _ c.before.number.ensures c.fraction.ensures.0
+
+pub returns-then-n-lt1 : goal.returns-then-n-lt1
+unfolding in_class
+returns-then-n-lt1 c = too_few _ _ c.run_in-n.ensures _ c.if-n-lt1.true
+
+pub returns-then-n-gt15 : goal.returns-then-n-gt15
+unfolding in_class
+returns-then-n-gt15 c = too_many_lem _ _ c.run_in-n.ensures _ c.if-n-gt15.true
+
+pub slice_bounds-rest-count : goal.slice_bounds-rest-count
+unfolding in_class
+slice_bounds-rest-count c = n_fits c.args.s.now _ c.run_in-n.ensures
+
+pub slice_bounds-rest-start : goal.slice_bounds-rest-start
+unfolding in_class
+slice_bounds-rest-start c = n_fits c.args.s.now _ c.run_in-n.ensures
+
+pub returns-then-not-is_fraction : goal.returns-then-not-is_fraction
+unfolding in_class
+returns-then-not-is_fraction c = no_fraction _ _ c.run_in-n.ensures _ (no_not c.is_fraction.ensures c.if-not-is_fraction.true)
+
+pub slice_bounds-number-end : goal.slice_bounds-number-end
+unfolding in_class
+slice_bounds-number-end c = sym (length-take-le _ _ (n_fits c.args.s.now _ c.run_in-n.ensures))
+
+pub number-requires : goal.number-requires
+unfolding in_class
+number-requires c = first_digits _ _ c.run_in-n.ensures (omega arith)
+
+pub overflow_mul-cents : goal.overflow_mul-cents
+overflow_mul-cents c = omega (arith, below c)
+
+pub fraction-requires : goal.fraction-requires
+fraction-requires c = yes_not c.is_fraction.ensures c.if-not-is_fraction.false
+
+pub overflow_add-cents : goal.overflow_add-cents
+overflow_add-cents c = omega (arith, below c.before)
+
+pub returns-then-cents-lt1 : goal.returns-then-cents-lt1
+returns-then-cents-lt1 c = too_little _ _ _ (amounts c.before) c.if-cents-lt1.true
+
+pub returns-then-most_of-cents : goal.returns-then-most_of-cents
+returns-then-most_of-cents c = too_much _ _ _ (amounts c.before.before.before) _ c.most_of.ensures c.if-most_of-cents.true
+
+pub returns : goal.returns
+returns c = within _ _ _ (amounts c.before.before.before) _ c.most_of.ensures c.if-cents-lt1.false c.if-most_of-cents.false

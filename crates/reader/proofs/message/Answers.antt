@@ -1,0 +1,44 @@
+-- `reader::message` meets its contract.
+use Rattle.table.proofs.Rows.{first_row}
+use Rattle.notes.specs.Steps.{stated, stepped}
+use Rattle.engine.proofs.Whole.{message_long, message_far, begins, message_is, places_long, places_far, places_are}
+use Rattle.reader.proofs.Room.{profile_room}
+use Rattle.reader.proofs.Whole.{profile_read, profile_placed}
+use Rattle.reader.proofs.message.Goals as goal
+
+pub returns-then-m-gt-MOST_BYTES : goal.returns-then-m-gt-MOST_BYTES
+returns-then-m-gt-MOST_BYTES c =
+    let y = message_long c.args.v c.args.m.now c.args.at c.if-m-gt-MOST_BYTES.true (stepped c.refuse.result) c.refuse.ensures in
+    (y.0, y.1, places_long c.args.v c.args.m.now c.args.at c.if-m-gt-MOST_BYTES.true c.args.places.now)
+
+pub returns-then-m-at : goal.returns-then-m-at
+returns-then-m-at c =
+    let a = c.args in
+    let y = message_far a.v a.m.now a.at c.if-m-gt-MOST_BYTES.false c.if-m-at.true (stepped c.refuse-then-m-at.result) c.refuse-then-m-at.ensures in
+    (y.0, y.1, places_far a.v a.m.now a.at c.if-m-gt-MOST_BYTES.false c.if-m-at.true a.places.now)
+
+pub group-requires : goal.group-requires
+group-requires c =
+    let a = c.args in
+    let the-if1 = c.if-m-gt-MOST_BYTES in
+    let the-if2 = c.if-m-at in
+    let the-new3 = c.new-st in (
+      begins a.v a.m.now a.at the-if1.false the-if2.false (stated the-new3.result) the-new3.ensures,
+      first_row a.v,
+      c.tags_of-names.ensures,
+      c.rows_of-rows.ensures,
+      profile_room a.v a.at (stated the-new3.result) the-new3.ensures,
+    )
+
+pub returns : goal.returns
+returns c =
+    let a = c.args in
+    let the-if1 = c.if-m-gt-MOST_BYTES in
+    let the-if2 = c.if-m-at in
+    let the-new3 = c.new-st in
+    let the-group = c.group in
+    let y = message_is a.v a.m.now a.at the-if1.false the-if2.false (stated the-new3.result) the-new3.ensures
+    (stepped the-group.result) (profile_read a.v a.m.now the-new3.result.at the-new3.result.notes (stepped the-group.result) the-group.ensures.0) the-group.ensures.1 in
+    let z = places_are a.v a.m.now a.at the-if1.false the-if2.false (stated the-new3.result) the-new3.ensures a.places.now _
+    (profile_placed a.v a.m.now the-new3.result.at the-new3.result.notes a.places.now _ the-group.ensures.2) in
+    (y.0, y.1, z)

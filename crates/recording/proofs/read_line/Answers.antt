@@ -1,0 +1,31 @@
+-- `recording::read_line` meets its contract.
+use mathlib.Core.Path.{◌≡◌, sym}
+use mathlib.Core.Bool.{true}
+use borrow.Author.Rules.{rules}
+use Rattle.text.proofs.Truths.{yes_not, no_not}
+use Rattle.recording.specs.Record.{record_form, line_of}
+use Rattle.recording.proofs.Fields.{long_record, long_time, stamped, line_is}
+use Rattle.recording.proofs.read_line.Goals as goal
+
+fits : (c : tie.Else1) → record_form c.before.before.before.args.r.now ≡ true
+fits c = yes_not c.before.is-record.ensures c.if1.false
+
+pub returns-then-not-is_record : goal.returns-then-not-is_record
+unfolding line_of
+returns-then-not-is_record c = rw (no_not c.is_record.ensures c.if-not-is_record.true)
+
+pub key_in-key-requires : goal.key_in-key-requires
+key_in-key-requires c = long_record _ (fits c)
+
+pub slice_bounds-instant_of-end : goal.slice_bounds-instant_of-end
+slice_bounds-instant_of-end c = sym (long_time _ (fits c.before.before))
+
+pub instant_of-instant-requires : goal.instant_of-instant-requires
+instant_of-instant-requires c = (long_time _ (fits c.before.before), stamped _ (fits c.before.before))
+
+pub bounds-r-25 : goal.bounds-r-25
+bounds-r-25 c =
+    let h = long_record _ (fits c.before.before.before.before) in search rules
+
+pub returns : goal.returns
+returns c = line_is _ (fits c.before.before.before.before) _ _ c.key_in-key.ensures c.instant_of-instant.ensures

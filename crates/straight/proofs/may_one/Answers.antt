@@ -1,0 +1,88 @@
+-- `straight::may_one` meets its contract.
+use Rattle.std.proofs.Common.{◌+◌, length, refl, ap, ◌∙◌, arith}
+use Rattle.tags.specs.Tags.{exactly}
+use Rattle.reading.specs.Trace.{up_to}
+use Rattle.reading.specs.Noted.{on}
+use Rattle.notes.specs.Steps.{stated, stepped}
+use Rattle.notes.proofs.Stays.{later}
+use Rattle.straight.specs.Exact.{inside_of, may_of}
+use Rattle.straight.proofs.Groups.{start_within, good_there, by_whole, by_cut, by_passed, makes_at}
+use Rattle.straight.proofs.may_one.Goals as goal
+
+pub overflow_add-at : goal.overflow_add-at
+overflow_add-at c =
+    let the-pre = c.requires in
+    let the-seek = c.seek-s in
+    let a = c.args in
+    omega (
+      arith,
+      start_within a.m.now a.st.at a.st.notes the-pre.0 (exactly a.s1.now) the-seek.result.at the-seek.ensures.0 the-seek.ensures.1
+          the-seek.result.look the-seek.ensures.2 a.s1.now refl c.in-Whole.is,
+      the-pre.0.small,
+    )
+
+pub overflow_cast-at : goal.overflow_cast-at
+overflow_cast-at c =
+    let the-pre = c.requires in
+    let the-seek = c.seek-s in
+    let a = c.args in
+    omega (
+      arith,
+      start_within a.m.now a.st.at a.st.notes the-pre.0 (exactly a.s1.now) the-seek.result.at the-seek.ensures.0 the-seek.ensures.1
+          the-seek.result.look the-seek.ensures.2 a.s1.now refl c.in-Whole.is,
+      the-pre.0.small,
+    )
+
+pub inside-requires : goal.inside-requires
+inside-requires c =
+    let the-pre = c.requires in
+    let the-seek = c.seek-s in
+    let the-enum-told = c.enum_told-1 in
+    let a = c.args in (
+      good_there a.m.now a.st.at a.st.notes the-pre.0 (exactly a.s1.now) the-seek.result.at the-seek.ensures.0 the-seek.ensures.1 the-seek.result.look
+          the-seek.ensures.2 (the-seek.result.at + length a.s1.now) (start_within a.m.now a.st.at a.st.notes the-pre.0 (exactly a.s1.now) the-seek.result.at
+          the-seek.ensures.0 the-seek.ensures.1 the-seek.result.look the-seek.ensures.2 a.s1.now refl the-enum-told.given.1) (stated c.at_place.result)
+          c.at_place.ensures,
+      the-pre.1,
+    )
+
+pub overflow_cast-at-in-Other : goal.overflow_cast-at-in-Other
+overflow_cast-at-in-Other c = omega (arith, c.seek-s.ensures.1, c.requires.0.small)
+
+pub returns-in-Whole : goal.returns-in-Whole
+unfolding may_of
+returns-in-Whole c =
+    let the-pre = c.requires in
+    let the-seek = c.seek-s in
+    let the-enum-told = c.enum_told-1 in
+    let the-at-place = c.at_place in
+    let TheInside = c.inside in
+    let a = c.args in
+    by_whole a.m.now a.st.at a.st.notes the-pre.0 (exactly a.s1.now) the-seek.result.at the-seek.ensures.0 the-seek.ensures.1 the-seek.result.look
+    the-seek.ensures.2 (λ q. inside_of a.s2.now a.e2.now a.e1.now a.k a.f a.m.now (q + length a.s1.now)) up_to a.places.now the-enum-told.given.1 0
+    (stepped TheInside.result) _
+    (makes_at a.m.now 0 (inside_of a.s2.now a.e2.now a.e1.now a.k a.f a.m.now) (stated the-at-place.result) (the-seek.result.at + length a.s1.now)
+    a.st.notes the-at-place.ensures
+    a.places.now (stepped TheInside.result) _ TheInside.ensures)
+
+pub returns-in-Cut : goal.returns-in-Cut
+unfolding may_of
+returns-in-Cut c =
+    let the-pre = c.requires in
+    let the-seek = c.seek-s in
+    let a = c.args in
+    let y = by_cut a.m.now a.st.at a.st.notes the-pre.0 (exactly a.s1.now) the-seek.result.at the-seek.ensures.0 the-seek.ensures.1 the-seek.result.look
+    the-seek.ensures.2 (λ q. inside_of a.s2.now a.e2.now a.e1.now a.k a.f a.m.now (q + length a.s1.now)) up_to a.places.now c.in-Cut.is
+    (stepped c.refuse.result) c.refuse.ensures in
+    (y.0, later a.m.now 0 a.st.at (omega arith) (stepped c.refuse.result) y.1, y.2)
+
+pub returns-in-Other : goal.returns-in-Other
+unfolding may_of
+returns-in-Other c =
+    let the-pre = c.requires in
+    let the-seek = c.seek-s in
+    let the-enum-told3 = c.enum_told-in-Other-1 in
+    let a = c.args in
+    by_passed a.m.now a.st.at a.st.notes the-pre.0 (exactly a.s1.now) the-seek.result.at the-seek.ensures.0 the-seek.ensures.1 the-seek.result.look
+    the-seek.ensures.2 (λ q. inside_of a.s2.now a.e2.now a.e1.now a.k a.f a.m.now (q + length a.s1.now)) up_to a.places.now the-enum-told3.given.1
+    (λ z. refl) (stepped c.read_on.result) (c.read_on.ensures ∙ ap on c.at_place-in-Other.ensures)

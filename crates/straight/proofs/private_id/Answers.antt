@@ -1,0 +1,18 @@
+-- `straight::private_id` meets its contract.
+use Rattle.notes.specs.Steps.{stepped}
+use Rattle.straight.proofs.Groups.{chain_end, chain_on, chain_open}
+use Rattle.tags.specs.Tags.{plain_tag, end_tag}
+use Rattle.straight.specs.Exact.{other_of}
+use Rattle.straight.proofs.private_id.Goals as goal
+
+pub returns : goal.returns
+returns c =
+    let the-then-open = c.then_open-a in
+    let the-other-id = c.other_id-b in
+    let a = c.args in
+    let m = a.m.now in
+    let r0 = stepped a.before in
+    let l0 = a.places.now in
+    let i1 = chain_open m (plain_tag "PrvtId") r0 l0 the-then-open.ensures in
+    let i2 = chain_on i1 (other_of m) the-other-id.ensures in
+    (chain_end i2 (end_tag "PrvtId") c.then_close.ensures).makes

@@ -1,0 +1,10 @@
+-- `straight::quick::same_wide` meets its contract.
+use Rattle.std.proofs.Common.{◌-◌, ◌≤◌}
+use Rattle.straight.specs.Words.{Match}
+use Rattle.straight.proofs.quick.same_wide.Given as goal
+
+abbrev pub invariant-loop-i : goal.invariant-loop-i
+invariant-loop-i l = (l.i ≤ l.n) × Match l.m l.at l.m l.q l.i
+
+abbrev pub decreases-loop-i : goal.decreases-loop-i
+decreases-loop-i l = l.n - l.i

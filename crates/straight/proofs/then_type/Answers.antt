@@ -1,0 +1,27 @@
+-- `straight::then_type` meets its contract.
+use Rattle.std.proofs.Common.{sym, ap}
+use Rattle.notes.specs.Steps.{stated, met_in, stepped}
+use Rattle.engine.proofs.Steps.{fine_on}
+use Rattle.straight.specs.Exact.{type_of}
+use Rattle.straight.proofs.Exact.{then_stop, then_on}
+use Rattle.straight.proofs.then_type.Goals as goal
+
+pub type_info-requires : goal.type_info-requires
+type_info-requires c =
+    let a = c.args in
+    let b = a.before in
+    (fine_on a.m.now 0 (stepped b) (stated b.state) (ap (λ x. met_in x b.state) (sym c.in-On.is)) c.requires).0
+
+pub returns-in-Stopped : goal.returns-in-Stopped
+returns-in-Stopped c =
+    let a = c.args in
+    let b = a.before in
+    then_stop a.m.now (stepped b) (type_of a.m.now) c.requires a.places.now _ _
+    (ap (λ x. met_in x b.state) (sym c.in-Stopped.is)) (stepped c.refuse.result) c.refuse.ensures
+
+pub returns-in-On : goal.returns-in-On
+returns-in-On c =
+    let a = c.args in
+    let b = a.before in
+    then_on a.m.now (stepped b) (type_of a.m.now) c.requires a.places.now (stated b.state)
+    (ap (λ x. met_in x b.state) (sym c.in-On.is)) 0 (stepped c.type_info.result) _ c.type_info.ensures

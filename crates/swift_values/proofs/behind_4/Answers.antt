@@ -1,0 +1,34 @@
+-- `swift_values::behind_4` meets its contract.
+use native.Mathlib.Omega.{arith}
+use Rattle.swift_values.proofs.Writes.{product_small, two_parts}
+use Rattle.swift_values.proofs.behind_4.Goals as goal
+
+pub overflow_mul-result : goal.overflow_mul-result
+overflow_mul-result c =
+    let x = c.behind_2-a in
+    let y = c.behind_2-b in
+    omega (arith, product_small x.result.weight y.result.weight 10000 10000 x.ensures.1 y.ensures.1)
+
+pub overflow_mul-result-2 : goal.overflow_mul-result-2
+overflow_mul-result-2 c =
+    let x = c.behind_2-a in
+    let y = c.behind_2-b in
+    omega (arith, product_small x.result.worth y.result.weight 3535 10000 x.ensures.2 y.ensures.1)
+
+pub overflow_add-result : goal.overflow_add-result
+overflow_add-result c =
+    let x = c.behind_2-a in
+    let y = c.behind_2-b in
+    omega (arith, product_small x.result.worth y.result.weight 3535 10000 x.ensures.2 y.ensures.1, y.ensures.2)
+
+pub returns : goal.returns
+returns c =
+    let x = c.behind_2-a in
+    let y = c.behind_2-b in
+    let m = c.args.m.now in
+    let p = c.args.p in
+    let f = c.requires in (
+      two_parts m p 2 2 x.result.weight x.result.worth y.result.weight y.result.worth x.ensures.0 y.ensures.0,
+      omega (arith, product_small x.result.weight y.result.weight 10000 10000 x.ensures.1 y.ensures.1),
+      omega (arith, product_small x.result.worth y.result.weight 3535 10000 x.ensures.2 y.ensures.1, y.ensures.2),
+    )

@@ -1,0 +1,12 @@
+-- `swift_values::digits` meets its contract.
+use Prim.Native.Nat.{◌-◌, ◌≤◌}
+use mathlib.Core.Path.{◌≡◌}
+use Rattle.text.specs.Classes.{digit}
+use Rattle.swift_values.specs.Blocks.{All}
+use Rattle.swift_values.proofs.digits.Given as goal
+
+abbrev pub invariant-loop-i : goal.invariant-loop-i
+invariant-loop-i l = (l.i ≤ 8) × (l.r ≡ 0 → All digit l.m l.p l.i)
+
+abbrev pub decreases-loop-i : goal.decreases-loop-i
+decreases-loop-i l = 8 - l.i

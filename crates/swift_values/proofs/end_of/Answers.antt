@@ -1,0 +1,14 @@
+-- `swift_values::end_of` meets its contract.
+use native.Mathlib.Omega.{arith}
+use Rattle.swift_values.proofs.Any.{upto_within, ends_here}
+use Rattle.swift_values.proofs.end_of.Goals as goal
+
+pub overflow_add-e : goal.overflow_add-e
+overflow_add-e c = omega (arith, upto_within c.args.m.now c.args.at c.upto.result (omega arith) c.upto.ensures)
+
+pub returns : goal.returns
+returns c =
+    let m = c.args.m.now in
+    let p = c.args.at in
+    let n = c.upto.result in
+    (omega (arith, upto_within m p n (omega arith) c.upto.ensures), ends_here m p n (omega arith) c.upto.ensures (omega arith) c.if-e-m.false)

@@ -1,0 +1,7 @@
+-- `table::closing` meets its contract: the text of the tag is the piece behind the start tag.
+use Rattle.table.specs.Table.{closes_by}
+use Rattle.table.proofs.closing.Goals as goal
+
+pub returns : goal.returns
+unfolding closes_by
+returns c = rw (← c.piece.ensures) c.text_at.ensures
