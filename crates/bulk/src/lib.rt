@@ -219,7 +219,7 @@ pub extern "C" fn bulk_reference(value: &[u8], answer: &mut [u64; 3])
 pub extern "C" fn bulk_end_to_end(value: &[u8], answer: &mut [u64; 3])
     ensures { answer.new ≡ told (end_to_end_given value.now) }
 {
-    tell(words::end_to_end_lem(value), answer);
+    tell(words::end_to_end(value), answer);
 }
 
 // A text of at most 70.

@@ -70,7 +70,7 @@ fn entries_of(o: Outcome) -> [Entry; book::MOST]
 }
 
 // The answer of an outcome, with the stored total.
-fn kept_of_lem(o: Outcome) -> Kept
+fn kept_of(o: Outcome) -> Kept
     ensures { result ≡ o.kept }
 {
     let k = o.kept;
@@ -87,7 +87,7 @@ pub fn act(entries: &mut [Entry], opened: usize, total: u64, call: Call) -> Kept
     let o = book::act_on(b, places, opened, total, call);
     let e = entries_of(o);
     copy_out(entries, e);
-    kept_of_lem(o)
+    kept_of(o)
 }
 
 // What summing gives, or 29 where the lent book is none.

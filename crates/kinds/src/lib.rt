@@ -16,7 +16,7 @@ fn simple(s: Simple, v: &[u8]) -> Answer
 {
     match s {
         Simple::Reference => words::reference(v),
-        Simple::EndToEnd => words::end_to_end_lem(v),
+        Simple::EndToEnd => words::end_to_end(v),
         Simple::Text70 => words::text(Field::Nm, v),
         Simple::Text140 => words::text(Field::Ustrd, v),
         Simple::Date => calendar::date(v),

@@ -534,11 +534,11 @@ fn reference(m: &[u8], at: usize, w: &mut [usize; 101], i: usize) -> usize
 }
 
 // An EndToEndId: where it ends, or 0.
-fn end_to_end_lem(m: &[u8], at: usize, w: &mut [usize; 101], i: usize) -> usize
+fn end_to_end(m: &[u8], at: usize, w: &mut [usize; 101], i: usize) -> usize
     requires { (96 ≤ i) × (i < 101) × Kept m.now w.old }
     ensures { (result ≤ length m.now) × Found (Stands Simple.EndToEnd m.now at) result × Kept m.now w.new }
 {
-    let e = swift_values::end_to_end_lem(m, at, w[i]);
+    let e = swift_values::end_to_end(m, at, w[i]);
     keep_length(m, at, e, w, i);
     e
 }
@@ -595,7 +595,7 @@ fn read_ids(m: &[u8], at: usize, t: &[u8], w: &mut [usize; 101]) -> Ids
     ensures { (result.at ≤ length m.now) × (result.first ≤ length m.now) × (result.ends ≤ length m.now) × Found (Gone m.now at (ids_legs result.first result.ends)) result.at × Kept m.now w.new }
 {
     let e = begin(m, at, t, w);
-    let a = end_to_end_lem(m, e.at, w, 97);
+    let a = end_to_end(m, e.at, w, 97);
     let z = run(m, a, t, w, 3);
     Ids {
         at: z,

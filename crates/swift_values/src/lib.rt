@@ -283,7 +283,7 @@ fn rare_end_to_end(m: &[u8], at: usize) -> usize
 }
 
 // An EndToEndId stands at a place, and `<` behind it: where it ends, or 0. It may be as long as like.
-pub fn end_to_end_lem(m: &[u8], at: usize, like: usize) -> usize
+pub fn end_to_end(m: &[u8], at: usize, like: usize) -> usize
     ensures { (result ≤ length m.now) × Found (Stands Simple.EndToEnd m.now at) result }
 {
     let r = usual_reference(m, at, like);

@@ -239,7 +239,7 @@ fn is_text(s: &[u8]) -> bool
 }
 
 // An EndToEndId: yes, or 7.
-pub fn end_to_end_lem(s: &[u8]) -> Answer
+pub fn end_to_end(s: &[u8]) -> Answer
     ensures { given result ≡ end_to_end_given s.now }
 {
     let p = strip(s);

@@ -4,4 +4,4 @@ use Rattle.bulk.specs.Told.{told}
 use Rattle.bulk.proofs.bulk_end_to_end.Goals as goal
 
 pub returns : goal.returns
-returns c = c.tell.ensures ∙ ap told c.end_to_end_lem.ensures
+returns c = c.tell.ensures ∙ ap told c.end_to_end.ensures

@@ -3,7 +3,7 @@ use native.Mathlib.Omega.{arith}
 use mathlib.Core.Path.{◌≡◌, sym}
 use mathlib.Core.Bool.{true}
 use lib.ListN.{length}
-use Rattle.text.proofs.Truths.{yes_not, no_not, fails, pass, lastly}
+use Rattle.text.proofs.Truths.{yes_of, no_of, fails, pass, lastly}
 use Rattle.text.proofs.Scan.{two_at}
 use Rattle.calendar.specs.Pattern.{written}
 use Rattle.calendar.specs.Time.{clock_form}
@@ -12,14 +12,14 @@ use Rattle.calendar.proofs.is_clock.Goals as goal
 
 form : (c : tie.Else1) → written "hh:mm:ss" c.before.before.before.before.args.s.now ≡ true
 unfolding written
-form c = yes_not c.before.is-written.ensures c.if1.false
+form c = yes_of c.before.is-written.ensures c.if1.false
 
 long : (c : tie.Else1) → length c.before.before.before.before.args.s.now ≡ 8
 long c = sym (written_length "hh:mm:ss" _ (form c))
 
 pub returns-then-not-is_written : goal.returns-then-not-is_written
 unfolding clock_form written
-returns-then-not-is_written c = sym (fails _ 0 (no_not c.is_written.ensures c.if-not-is_written.true))
+returns-then-not-is_written c = sym (fails _ 0 (no_of c.is_written.ensures c.if-not-is_written.true))
 
 pub two_at-requires : goal.two_at-requires
 two_at-requires c = omega (arith, long c)

@@ -47,10 +47,10 @@ use Rattle.daybook.proofs.entries_of.Met as es-thm
 use Rattle.daybook.proofs.copy_out.Symbol as co-def
 use Rattle.daybook.proofs.copy_out.Symbol.{name as #co}
 use Rattle.daybook.proofs.copy_out.Met as co-thm
-use Rattle.daybook.specs.contracts.kept_of_lem as ke
-use Rattle.daybook.proofs.kept_of_lem.Symbol as ke-def
-use Rattle.daybook.proofs.kept_of_lem.Symbol.{name as #ke}
-use Rattle.daybook.proofs.kept_of_lem.Met as ke-thm
+use Rattle.daybook.specs.contracts.kept_of as ke
+use Rattle.daybook.proofs.kept_of.Symbol as ke-def
+use Rattle.daybook.proofs.kept_of.Symbol.{name as #ke}
+use Rattle.daybook.proofs.kept_of.Met as ke-thm
 use Rattle.daybook.specs.contracts.act.Key.{name as #act}
 use Rattle.daybook.specs.contracts.act as f
 use Rattle.daybook.proofs.act.Statement as stated

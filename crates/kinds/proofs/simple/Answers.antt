@@ -8,7 +8,7 @@ returns-in-Reference c = rw c.in-Reference.is c.reference.ensures
 
 pub returns-in-EndToEnd : goal.returns-in-EndToEnd
 unfolding simple_given
-returns-in-EndToEnd c = rw c.in-EndToEnd.is c.end_to_end_lem.ensures
+returns-in-EndToEnd c = rw c.in-EndToEnd.is c.end_to_end.ensures
 
 pub returns-in-Text70 : goal.returns-in-Text70
 unfolding simple_given

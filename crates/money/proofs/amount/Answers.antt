@@ -4,7 +4,7 @@ use mathlib.Core.Path.{sym}
 use Prim.Native.Nat.{◌+◌, ◌*◌, ◌<◌}
 use lib.Seq.{length-take-le}
 use Rattle.text.specs.Classes.{in_class}
-use Rattle.text.proofs.Truths.{yes_not, no_not}
+use Rattle.text.proofs.Truths.{yes_of, no_of}
 use Rattle.money.proofs.Amounts.{Amount, n_fits, first_digits, first_below, known, too_few, too_many_lem, no_fraction, too_little, too_much, within}
 use Rattle.money.proofs.amount.Goals as goal
 
@@ -15,7 +15,7 @@ below c = rw c.number.ensures (first_below _ _ c.before.before.before.before.bef
 amounts : (c : tie.After-fraction) → Amount c.before.before.before.before.before.before.before.before.before.before.args.s.now (c.before.number.result * 100 + c.fraction.result)
 unfolding in_class
 amounts c =
-    let g = yes_not c.before.before.before.before.is-fraction.ensures c.before.before.before.if3.false in
+    let g = yes_of c.before.before.before.before.is-fraction.ensures c.before.before.before.if3.false in
     known _ _ c.before.before.before.before.before.before.before.before.run_in.ensures (omega arith) (omega arith) g _ _ c.before.number.ensures c.fraction.ensures.0
 
 pub returns-then-n-lt1 : goal.returns-then-n-lt1
@@ -36,7 +36,7 @@ slice_bounds-rest-start c = n_fits c.args.s.now _ c.run_in-n.ensures
 
 pub returns-then-not-is_fraction : goal.returns-then-not-is_fraction
 unfolding in_class
-returns-then-not-is_fraction c = no_fraction _ _ c.run_in-n.ensures _ (no_not c.is_fraction.ensures c.if-not-is_fraction.true)
+returns-then-not-is_fraction c = no_fraction _ _ c.run_in-n.ensures _ (no_of c.is_fraction.ensures c.if-not-is_fraction.true)
 
 pub slice_bounds-number-end : goal.slice_bounds-number-end
 unfolding in_class
@@ -50,7 +50,7 @@ pub overflow_mul-cents : goal.overflow_mul-cents
 overflow_mul-cents c = omega (arith, below c)
 
 pub fraction-requires : goal.fraction-requires
-fraction-requires c = yes_not c.is_fraction.ensures c.if-not-is_fraction.false
+fraction-requires c = yes_of c.is_fraction.ensures c.if-not-is_fraction.false
 
 pub overflow_add-cents : goal.overflow_add-cents
 overflow_add-cents c = omega (arith, below c.before)

@@ -1,7 +1,7 @@
 -- `money::count` meets its contract.
 use native.Mathlib.Omega.{arith}
 use Rattle.text.specs.Classes.{in_class}
-use Rattle.text.proofs.Truths.{yes_not, no_not}
+use Rattle.text.proofs.Truths.{yes_of, no_of}
 use Rattle.money.proofs.Counts.{too_few, too_many_lem, no_digits, counted}
 use Rattle.money.proofs.count.Goals as goal
 
@@ -13,12 +13,12 @@ returns-then-s-gt15 c = too_many_lem _ c.if-s-gt15.true
 
 pub returns-then-not-all_in : goal.returns-then-not-all_in
 unfolding in_class
-returns-then-not-all_in c = no_digits _ (no_not c.all_in.ensures c.if-not-all_in.true)
+returns-then-not-all_in c = no_digits _ (no_of c.all_in.ensures c.if-not-all_in.true)
 
 pub number-requires : goal.number-requires
 unfolding in_class
-number-requires c = (omega arith, yes_not c.all_in.ensures c.if-not-all_in.false)
+number-requires c = (omega arith, yes_of c.all_in.ensures c.if-not-all_in.false)
 
 pub returns : goal.returns
 unfolding in_class
-returns c = counted _ (omega arith) (omega arith) (yes_not c.all_in.ensures c.if-not-all_in.false) _ c.number.ensures
+returns c = counted _ (omega arith) (omega arith) (yes_of c.all_in.ensures c.if-not-all_in.false) _ c.number.ensures

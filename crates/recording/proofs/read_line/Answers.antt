@@ -2,17 +2,17 @@
 use mathlib.Core.Path.{◌≡◌, sym}
 use mathlib.Core.Bool.{true}
 use borrow.Author.Rules.{rules}
-use Rattle.text.proofs.Truths.{yes_not, no_not}
+use Rattle.text.proofs.Truths.{yes_of, no_of}
 use Rattle.recording.specs.Record.{record_form, line_of}
 use Rattle.recording.proofs.Fields.{long_record, long_time, stamped, line_is}
 use Rattle.recording.proofs.read_line.Goals as goal
 
 fits : (c : tie.Else1) → record_form c.before.before.before.args.r.now ≡ true
-fits c = yes_not c.before.is-record.ensures c.if1.false
+fits c = yes_of c.before.is-record.ensures c.if1.false
 
 pub returns-then-not-is_record : goal.returns-then-not-is_record
 unfolding line_of
-returns-then-not-is_record c = rw (no_not c.is_record.ensures c.if-not-is_record.true)
+returns-then-not-is_record c = rw (no_of c.is_record.ensures c.if-not-is_record.true)
 
 pub key_in-key-requires : goal.key_in-key-requires
 key_in-key-requires c = long_record _ (fits c)

@@ -2,7 +2,7 @@
 use native.Mathlib.Omega.{arith}
 use Prim.Native.Nat.{◌+◌, ◌-◌, ◌*◌}
 use lib.ListN.{get_or}
-use Rattle.text.proofs.Truths.{yes_not}
+use Rattle.text.proofs.Truths.{yes_of}
 use Rattle.text.proofs.Digits.{digit_bounds}
 use Rattle.swift_values.proofs.Amounts.{written_none, written_more, written_under}
 use Rattle.swift_values.proofs.leading.Goals as goal
@@ -21,7 +21,7 @@ overflow_mul-n c =
     let the-args = c.args in
     let the-loop = c.loop-i in
     let the-in-digit = c.in_digit in
-    omega (arith, written_under the-args.m.now the-args.at (the-loop.i + 1) (the-loop.n * 10 + (get_or the-args.m.now (the-args.at + the-loop.i) 0 - 48)) (omega arith) (omega arith) (written_more the-args.m.now the-args.at the-loop.i the-loop.n (omega arith) the-loop.invariant.1 (yes_not the-in-digit.ensures c.if-not-in_digit.false)))
+    omega (arith, written_under the-args.m.now the-args.at (the-loop.i + 1) (the-loop.n * 10 + (get_or the-args.m.now (the-args.at + the-loop.i) 0 - 48)) (omega arith) (omega arith) (written_more the-args.m.now the-args.at the-loop.i the-loop.n (omega arith) the-loop.invariant.1 (yes_of the-in-digit.ensures c.if-not-in_digit.false)))
 
 pub overflow_sub-n : goal.overflow_sub-n
 overflow_sub-n c =
@@ -29,7 +29,7 @@ overflow_sub-n c =
     let the-loop = c.loop-i in
     let the-in-digit = c.in_digit in
     let the-if1 = c.if-not-in_digit in
-    omega (arith, digit_bounds (get_or the-args.m.now (the-args.at + the-loop.i) 0) (yes_not the-in-digit.ensures the-if1.false))
+    omega (arith, digit_bounds (get_or the-args.m.now (the-args.at + the-loop.i) 0) (yes_of the-in-digit.ensures the-if1.false))
 
 pub overflow_add-n : goal.overflow_add-n
 overflow_add-n c =
@@ -37,7 +37,7 @@ overflow_add-n c =
     let the-loop = c.loop-i in
     let the-in-digit = c.in_digit in
     let the-if1 = c.if-not-in_digit in
-    omega (arith, written_under the-args.m.now the-args.at (the-loop.i + 1) (the-loop.n * 10 + (get_or the-args.m.now (the-args.at + the-loop.i) 0 - 48)) (omega arith) (omega arith) (written_more the-args.m.now the-args.at the-loop.i the-loop.n (omega arith) the-loop.invariant.1 (yes_not the-in-digit.ensures the-if1.false)))
+    omega (arith, written_under the-args.m.now the-args.at (the-loop.i + 1) (the-loop.n * 10 + (get_or the-args.m.now (the-args.at + the-loop.i) 0 - 48)) (omega arith) (omega arith) (written_more the-args.m.now the-args.at the-loop.i the-loop.n (omega arith) the-loop.invariant.1 (yes_of the-in-digit.ensures the-if1.false)))
 
 pub loop-i-preserved : goal.loop-i-preserved
 loop-i-preserved c =
@@ -45,7 +45,7 @@ loop-i-preserved c =
     let the-loop = c.loop-i in
     let the-in-digit = c.in_digit in
     let the-if1 = c.if-not-in_digit in
-    (omega arith, rw c.wide.ensures.0 (written_more the-args.m.now the-args.at the-loop.i the-loop.n (omega arith) the-loop.invariant.1 (yes_not the-in-digit.ensures the-if1.false)))
+    (omega arith, rw c.wide.ensures.0 (written_more the-args.m.now the-args.at the-loop.i the-loop.n (omega arith) the-loop.invariant.1 (yes_of the-in-digit.ensures the-if1.false)))
 
 pub returns : goal.returns
 returns c =

@@ -3,7 +3,7 @@ use mathlib.Core.Path.{◌∙◌, sym}
 use native.Mathlib.Omega.{arith}
 use Prim.Native.Nat.{◌-◌}
 use Rattle.text.specs.Classes.{capital}
-use Rattle.text.proofs.Truths.{yes_not, no_not}
+use Rattle.text.proofs.Truths.{yes_of, no_of}
 use Rattle.tags.specs.Tags.{currency}
 use Rattle.tags.proofs.Looks.{look_cut, look_stop, look_go, look_end}
 use Rattle.tags.proofs.currency_at.Goals as goal
@@ -18,13 +18,13 @@ pub returns-then-not-passes : goal.returns-then-not-passes
 returns-then-not-passes c =
     let l = c.loop-i in
     let a = c.args in
-    sym (look_stop capital currency a.s.now l.i (omega arith) (omega arith) (no_not c.passes.ensures c.if-not-passes.true)) ∙ l.invariant.1
+    sym (look_stop capital currency a.s.now l.i (omega arith) (omega arith) (no_of c.passes.ensures c.if-not-passes.true)) ∙ l.invariant.1
 
 pub loop-i-preserved : goal.loop-i-preserved
 loop-i-preserved c =
     let l = c.loop-i in
     let a = c.args in
-    (omega arith, sym (look_go capital currency a.s.now l.i (omega arith) (omega arith) (yes_not c.passes.ensures c.if-not-passes.false)) ∙ l.invariant.1)
+    (omega arith, sym (look_go capital currency a.s.now l.i (omega arith) (omega arith) (yes_of c.passes.ensures c.if-not-passes.false)) ∙ l.invariant.1)
 
 pub returns : goal.returns
 returns c =

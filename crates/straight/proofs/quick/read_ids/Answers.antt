@@ -18,7 +18,7 @@ returns c =
     let a = c.args in
     let m = a.m.now in
     let e = c.begin-e in
-    let v = c.end_to_end_lem-a in
+    let v = c.end_to_end-a in
     let z = c.run-z in (
       z.ensures.0,
       e.ensures.1,
