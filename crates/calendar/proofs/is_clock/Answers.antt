@@ -10,39 +10,35 @@ use Rattle.calendar.specs.Time.{clock_form}
 use Rattle.calendar.proofs.Written.{written_length, over, within}
 use Rattle.calendar.proofs.is_clock.Goals as goal
 
-form : (c : tie.Else1) → written "hh:mm:ss" c.before.before.before.before.args.s.now ≡ true
-unfolding written
-form c = yes_of c.before.is-written.ensures c.if1.false
-
-long : (c : tie.Else1) → length c.before.before.before.before.args.s.now ≡ 8
-long c = sym (written_length "hh:mm:ss" _ (form c))
-
 pub returns-then-not-is_written : goal.returns-then-not-is_written
 unfolding clock_form written
 returns-then-not-is_written c = sym (fails _ 0 (no_of c.is_written.ensures c.if-not-is_written.true))
 
 pub two_at-requires : goal.two_at-requires
-two_at-requires c = omega (arith, long c)
+unfolding written
+two_at-requires c = omega (arith, sym (written_length "hh:mm:ss" _ (yes_of c.is_written.ensures c.if-not-is_written.false)))
 
 pub returns-then-two_at-gt23 : goal.returns-then-two_at-gt23
 unfolding clock_form
 returns-then-two_at-gt23 c = sym (fails _ 1 (over 23 c.two_at.ensures.value c.if-two_at-gt23.true))
 
 pub two_at-requires-2 : goal.two_at-requires-2
-two_at-requires-2 c = omega (arith, long c.before.before)
+unfolding written
+two_at-requires-2 c = omega (arith, sym (written_length "hh:mm:ss" _ (yes_of c.is_written.ensures c.if-not-is_written.false)))
 
 pub returns-then-two_at-gt59 : goal.returns-then-two_at-gt59
 unfolding clock_form
 returns-then-two_at-gt59 c = sym (fails _ 2 (over 59 c.two_at-2.ensures.value c.if-two_at-gt59.true))
 
 pub two_at-requires-3 : goal.two_at-requires-3
-two_at-requires-3 c = omega (arith, long c.before.before.before.before)
+unfolding written
+two_at-requires-3 c = omega (arith, sym (written_length "hh:mm:ss" _ (yes_of c.is_written.ensures c.if-not-is_written.false)))
 
 pub returns : goal.returns
-unfolding clock_form
+unfolding clock_form written
 returns c =
     sym (
-    pass _ _ _ (form b.before.before)
+    pass _ _ _ (yes_of c.is_written.ensures c.if-not-is_written.false)
     (pass _ _ _ (within 23 c.two_at.ensures.value c.if-two_at-gt23.false)
     (pass _ _ _ (within 59 c.two_at-2.ensures.value c.if-two_at-gt59.false)
     (lastly _ _ (rw c.two_at-3.ensures.value)))))

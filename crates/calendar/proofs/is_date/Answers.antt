@@ -10,35 +10,34 @@ use Rattle.calendar.specs.Date.{date_form}
 use Rattle.calendar.proofs.Dates.{date_long, no_year, date_is}
 use Rattle.calendar.proofs.is_date.Goals as goal
 
-form : (c : tie.Else1) → written "YYYY-MM-DD" c.before.before.before.before.args.s.now ≡ true
-unfolding written
-form c = yes_of c.before.is-written.ensures c.if1.false
-
-long : (c : tie.Else1) → length c.before.before.before.before.args.s.now ≡ 10
-long c = date_long _ (form c)
-
 pub returns-then-not-is_written : goal.returns-then-not-is_written
 unfolding date_form written
 returns-then-not-is_written c = sym (fails _ 0 (no_of c.is_written.ensures c.if-not-is_written.true))
 
 pub two_at-requires : goal.two_at-requires
-two_at-requires c = omega (arith, long c)
+unfolding written
+two_at-requires c = omega (arith, date_long _ (yes_of c.is_written.ensures c.if-not-is_written.false))
 
 pub two_at-requires-2 : goal.two_at-requires-2
-two_at-requires-2 c = omega (arith, long c.before)
+unfolding written
+two_at-requires-2 c = omega (arith, date_long _ (yes_of c.is_written.ensures c.if-not-is_written.false))
 
 pub returns-then-y-lt1 : goal.returns-then-y-lt1
+unfolding written
 returns-then-y-lt1 c =
-    no_year _ (form b.before) _ _ c.two_at.ensures.value c.two_at-2.ensures.value c.if-y-lt1.true
+    no_year _ (yes_of c.is_written.ensures c.if-not-is_written.false) _ _ c.two_at.ensures.value c.two_at-2.ensures.value c.if-y-lt1.true
 
 pub two_at-m-requires : goal.two_at-m-requires
-two_at-m-requires c = omega (arith, long c.before.before.before)
+unfolding written
+two_at-m-requires c = omega (arith, date_long _ (yes_of c.is_written.ensures c.if-not-is_written.false))
 
 pub two_at-d-requires : goal.two_at-d-requires
-two_at-d-requires c = omega (arith, long c.before.before.before.before)
+unfolding written
+two_at-d-requires c = omega (arith, date_long _ (yes_of c.is_written.ensures c.if-not-is_written.false))
 
 pub returns : goal.returns
+unfolding written
 returns c =
-    let f = form b.before.before.before in
+    let f = (yes_of c.is_written.ensures c.if-not-is_written.false) in
     let year = date_is _ f _ _ c.two_at.ensures.value c.two_at-2.ensures.value c.if-y-lt1.false in
     c.is_day.ensures ∙ year _ _ c.two_at-m.ensures.value c.two_at-d.ensures.value

@@ -9,12 +9,6 @@ use Rattle.calendar.proofs.Written.{over, within}
 use Rattle.calendar.proofs.Times.{offset_length}
 use Rattle.calendar.proofs.is_offset.Goals as goal
 
-rest : (c : tie.After-is-written) → c.is-written.result ≡ written "hh:mm" (drop 1 c.before.before.before.before.before.before.before.before.args.s.now)
-unfolding written
-rest c =
-    let s = c.before.before.before.before.before.before.before.before.args.s.now in
-    c.is-written.ensures ∙ ap (written "hh:mm") (rest_of 1 s)
-
 pub returns-then-s-ne6 : goal.returns-then-s-ne6
 returns-then-s-ne6 c = offset_length _ c.if-s-ne6.true
 
@@ -23,18 +17,18 @@ unfolding offset_form
 returns-then-not-is_sign c = sym (fails _ 0 (no_of c.is_sign.ensures c.if-not-is_sign.true))
 
 pub returns-then-not-is_written : goal.returns-then-not-is_written
-unfolding offset_form
-returns-then-not-is_written c = sym (fails _ 1 (no_of (rest c.before) c.if-not-is_written.true))
+unfolding offset_form written
+returns-then-not-is_written c = sym (fails _ 1 (no_of (c.is_written.ensures ∙ ap (written "hh:mm") (rest_of 1 c.args.s.now)) c.if-not-is_written.true))
 
 pub returns-then-m-gt59 : goal.returns-then-m-gt59
 unfolding offset_form
 returns-then-m-gt59 c = sym (fails _ 2 (over 59 c.two_at-m.ensures.value c.if-m-gt59.true))
 
 pub returns : goal.returns
-unfolding offset_form
+unfolding offset_form written
 returns c =
     sym (
     pass _ _ _ (yes_of c.is_sign.ensures c.if-not-is_sign.false)
-    (pass _ _ _ (yes_of (rest f.before) c.if-not-is_written.false)
+    (pass _ _ _ (yes_of (c.is_written.ensures ∙ ap (written "hh:mm") (rest_of 1 c.args.s.now)) c.if-not-is_written.false)
     (pass _ _ _ (within 59 c.two_at-m.ensures.value c.if-m-gt59.false)
     (lastly _ _ (rw (c.two_at.ensures.value, c.two_at-m.ensures.value))))))
