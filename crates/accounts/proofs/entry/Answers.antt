@@ -7,4 +7,4 @@ use Rattle.accounts.proofs.entry.Goals as goal
 
 pub returns : goal.returns
 unfolding length_table length_of lengths
-returns c = (refl, entry_fits c.args.k (search rules))
+returns c = record { value = refl; fact = entry_fits c.args.k (search rules) }

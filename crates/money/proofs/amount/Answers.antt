@@ -8,16 +8,6 @@ use Rattle.text.proofs.Truths.{yes_of, no_of}
 use Rattle.money.proofs.Amounts.{Amount, n_fits, first_digits, first_below, known, too_few, too_many_lem, no_fraction, too_little, too_much, within}
 use Rattle.money.proofs.amount.Goals as goal
 
-below : (c : tie.After-number) → c.number.result < 1000000000000000
-unfolding in_class
-below c = rw c.number.ensures (first_below _ _ c.before.before.before.before.before.before.before.run_in.ensures (omega arith))
-
-amounts : (c : tie.After-fraction) → Amount c.before.before.before.before.before.before.before.before.before.before.args.s.now (c.before.number.result * 100 + c.fraction.result)
-unfolding in_class
-amounts c =
-    let g = yes_of c.before.before.before.before.is-fraction.ensures c.before.before.before.if3.false in
-    known _ _ c.before.before.before.before.before.before.before.before.run_in.ensures (omega arith) (omega arith) g _ _ c.before.number.ensures c.fraction.ensures.0
-
 pub returns-then-n-lt1 : goal.returns-then-n-lt1
 unfolding in_class
 returns-then-n-lt1 c = too_few _ _ c.run_in-n.ensures _ c.if-n-lt1.true
@@ -44,22 +34,27 @@ slice_bounds-number-end c = sym (length-take-le _ _ (n_fits c.args.s.now _ c.run
 
 pub number-requires : goal.number-requires
 unfolding in_class
-number-requires c = first_digits _ _ c.run_in-n.ensures (omega arith)
+number-requires c = let h = first_digits _ _ c.run_in-n.ensures (omega arith) in record { s_len_bound = h.0; s_value = h.1 }
 
 pub overflow_mul-cents : goal.overflow_mul-cents
-overflow_mul-cents c = omega (arith, below c)
+unfolding in_class
+overflow_mul-cents c = (let b : c.number.result < 1000000000000000 = rw c.number.ensures (first_below _ _ c.run_in-n.ensures (omega arith)) in omega arith)
 
 pub fraction-requires : goal.fraction-requires
 fraction-requires c = yes_of c.is_fraction.ensures c.if-not-is_fraction.false
 
 pub overflow_add-cents : goal.overflow_add-cents
-overflow_add-cents c = omega (arith, below c.before)
+unfolding in_class
+overflow_add-cents c = (let b : c.number.result < 1000000000000000 = rw c.number.ensures (first_below _ _ c.run_in-n.ensures (omega arith)) in omega arith)
 
 pub returns-then-cents-lt1 : goal.returns-then-cents-lt1
-returns-then-cents-lt1 c = too_little _ _ _ (amounts c.before) c.if-cents-lt1.true
+unfolding in_class
+returns-then-cents-lt1 c = too_little _ _ _ (known _ _ c.run_in-n.ensures (omega arith) (omega arith) (yes_of c.is_fraction.ensures c.if-not-is_fraction.false) _ _ c.number.ensures c.fraction.ensures.value) c.if-cents-lt1.true
 
 pub returns-then-most_of-cents : goal.returns-then-most_of-cents
-returns-then-most_of-cents c = too_much _ _ _ (amounts c.before.before.before) _ c.most_of.ensures c.if-most_of-cents.true
+unfolding in_class
+returns-then-most_of-cents c = too_much _ _ _ (known _ _ c.run_in-n.ensures (omega arith) (omega arith) (yes_of c.is_fraction.ensures c.if-not-is_fraction.false) _ _ c.number.ensures c.fraction.ensures.value) _ c.most_of.ensures c.if-most_of-cents.true
 
 pub returns : goal.returns
-returns c = within _ _ _ (amounts c.before.before.before) _ c.most_of.ensures c.if-cents-lt1.false c.if-most_of-cents.false
+unfolding in_class
+returns c = within _ _ _ (known _ _ c.run_in-n.ensures (omega arith) (omega arith) (yes_of c.is_fraction.ensures c.if-not-is_fraction.false) _ _ c.number.ensures c.fraction.ensures.value) _ c.most_of.ensures c.if-cents-lt1.false c.if-most_of-cents.false

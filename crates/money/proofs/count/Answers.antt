@@ -17,7 +17,7 @@ returns-then-not-all_in c = no_digits _ (no_of c.all_in.ensures c.if-not-all_in.
 
 pub number-requires : goal.number-requires
 unfolding in_class
-number-requires c = (omega arith, yes_of c.all_in.ensures c.if-not-all_in.false)
+number-requires c = record { s_len_bound = omega arith; s_value = yes_of c.all_in.ensures c.if-not-all_in.false }
 
 pub returns : goal.returns
 unfolding in_class
