@@ -5,4 +5,4 @@ use Rattle.twice.proofs.mix_on.Goals as goal
 
 pub returns : goal.returns
 unfolding mix_on
-returns c = c.wrapping_add_u32-2.ensures ∙ ap (λ (n : ℕ). wrapped (n + c.args.n)) c.wrapping_add_u32.ensures
+returns c = c.wrapping_add_u32-2.ensures.value ∙ ap (λ (n : ℕ). wrapped (n + c.args.n)) c.wrapping_add_u32.ensures.value

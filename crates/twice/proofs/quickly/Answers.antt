@@ -16,15 +16,15 @@ unfolding least_index
 sought-found-requires c =
     let e = c.clear in
     let a = c.args in
-    (omega (arith, e.auto.0), λ s h. rw e.ensures (cleared_free 16384 a.index.now s h))
+    (omega (arith, e.auto.index), λ s h. rw e.ensures (cleared_free 16384 a.index.now s h))
 
 pub clear-requires-2 : goal.clear-requires-2
-clear-requires-2 c = omega (arith, c.sought-found.auto.1.1.0, c.clear.auto.0)
+clear-requires-2 c = omega (arith, c.sought-found.auto.index, c.clear.auto.index)
 
 pub shape_of-index : goal.shape_of-index
 shape_of-index c =
     let e = c.clear in
-    c.clear-2.auto.0 ∙ (c.sought-found.auto.1.1.0 ∙ e.auto.0)
+    c.clear-2.auto.index ∙ (c.sought-found.auto.index ∙ e.auto.index)
 
 pub returns : goal.returns
 unfolding least_index
@@ -32,4 +32,4 @@ returns c =
     let a = c.args in
     let e = c.clear in
     let s = c.sought-found in
-    (s.ensures, cleared_whole a.index.now _ _ (s.auto.1.1.0 ∙ e.auto.0) (omega arith) c.clear-2.ensures)
+    (s.ensures, cleared_whole a.index.now _ _ (s.auto.index ∙ e.auto.index) (omega arith) c.clear-2.ensures)

@@ -13,7 +13,7 @@ unfolding most
 by_slots-requires c = (c.requires.0, omega arith, c.requires.1)
 
 pub shape_of-index : goal.shape_of-index
-shape_of-index c = c.by_slots.auto.1.1.0
+shape_of-index c = c.by_slots.auto.index
 
 pub returns : goal.returns
 unfolding most

@@ -5,4 +5,4 @@ use Rattle.twice.proofs.strew.Goals as goal
 
 pub returns : goal.returns
 unfolding strewn lowered raised
-returns c = c.wrapping_add_u32.ensures ∙ ap (lowered 13) (c.wrapping_add_u32-high.ensures ∙ ap (raised 11) c.wrapping_add_u32-low.ensures)
+returns c = c.wrapping_add_u32.ensures.value ∙ ap (lowered 13) (c.wrapping_add_u32-high.ensures.value ∙ ap (raised 11) c.wrapping_add_u32-low.ensures.value)
