@@ -108,4 +108,4 @@ unfolding field_of
 returns-in-26 c = rw c.in-26.is
 
 pub returns-in_default : goal.returns-in_default
-returns-in_default c = other_field c.args.n c.in_default.rest
+returns-in_default c = other_field c.args.n c.in_default.in_default-own.rest

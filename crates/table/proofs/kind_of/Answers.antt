@@ -76,4 +76,4 @@ unfolding kind_of
 returns-in-20 c = rw c.in-20.is
 
 pub returns-in_default : goal.returns-in_default
-returns-in_default c = other_kind c.args.n c.in_default.rest
+returns-in_default c = other_kind c.args.n c.in_default.in_default-own.rest
