@@ -1,6 +1,5 @@
 -- `swift_values::checked` meets its contract.
 use native.Mathlib.Omega.{arith}
-use borrow.Author.Tests.{not-false}
 use Rattle.text.specs.Classes.{capital_or_digit}
 use Rattle.swift_values.proofs.Lanes.{unlike}
 use Rattle.swift_values.proofs.Blocks.{all_part}
@@ -19,7 +18,7 @@ remainder-requires c = omega arith
 pub leaves-requires : goal.leaves-requires
 leaves-requires c =
     let a = c.args in
-    (omega arith, all_part capital_or_digit a.m.now a.at a.n a.at 4 c.requires.2 (omega arith) (omega arith), c.heads.ensures (not-false _ c.if-not-heads.false))
+    (omega arith, all_part capital_or_digit a.m.now a.at a.n a.at 4 c.requires.2 (omega arith) (omega arith), c.heads.ensures c.if-not-heads.false)
 
 pub returns : goal.returns
 returns c =
@@ -27,8 +26,8 @@ returns c =
     let a = c.args in
     let r = c.remainder in
     record {
-      head = c.heads.ensures (not-false _ c.if-not-heads.false);
+      head = c.heads.ensures c.if-not-heads.false;
       caps = c.requires.2;
-      range = c.ranged.ensures (not-false _ c.if-not-ranged.false);
+      range = c.ranged.ensures c.if-not-ranged.false;
       leaves = behind_leaves a.m.now a.at r.result _ r.ensures (c.leaves.ensures e);
     }

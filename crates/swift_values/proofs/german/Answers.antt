@@ -1,6 +1,5 @@
 -- `swift_values::german` meets its contract.
 use native.Mathlib.Omega.{arith}
-use borrow.Author.Tests.{not-false}
 use Rattle.swift_values.proofs.Lanes.{unlike}
 use Rattle.swift_values.proofs.Weights.{german_head, german_caps}
 use Rattle.swift_values.proofs.german.Goals as goal
@@ -18,7 +17,7 @@ pub returns-then-not-ranged : goal.returns-then-not-ranged
 returns-then-not-ranged c = λ e. unlike e
 
 pub leaves_german-requires : goal.leaves_german-requires
-leaves_german-requires c = (omega arith, c.digits_20.ensures (not-false _ c.if-not-digits_20.false), c.if-m-at-ne68.false, c.if-m-at-ne69.false)
+leaves_german-requires c = (omega arith, c.digits_20.ensures c.if-not-digits_20.false, c.if-m-at-ne68.false, c.if-m-at-ne69.false)
 
 pub returns : goal.returns
 returns c =
@@ -29,11 +28,11 @@ returns c =
     let first = c.if-m-at-ne68.false in
     let second = c.if-m-at-ne69.false in
     let fits = c.requires in
-    let all = c.digits_20.ensures (not-false _ c.if-not-digits_20.false) in (
+    let all = c.digits_20.ensures c.if-not-digits_20.false in (
       record {
         head = german_head m p fits all first second;
         caps = german_caps m p fits all first second;
-        range = c.ranged.ensures (not-false _ c.if-not-ranged.false);
+        range = c.ranged.ensures c.if-not-ranged.false;
         leaves = c.leaves_german.ensures e;
       },
       first,

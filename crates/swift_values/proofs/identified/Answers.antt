@@ -1,7 +1,6 @@
 -- `swift_values::identified` meets its contract.
 use native.Mathlib.Omega.{arith}
 use mathlib.Core.Path.{sym, ◌∙◌}
-use borrow.Author.Tests.{not-false}
 use Rattle.text.specs.Classes.{capital_or_digit}
 use Rattle.swift_values.proofs.Lanes.{unlike}
 use Rattle.swift_values.proofs.Parts.{capital_cap, digit_cap}
@@ -30,7 +29,7 @@ remainder-requires c = omega arith
 pub leaves-requires : goal.leaves-requires
 leaves-requires c =
     let a = c.args in
-    let h = c.heads.ensures (not-false _ c.if-not-heads.false) in
+    let h = c.heads.ensures c.if-not-heads.false in
     (omega arith, head_all a.m.now a.at h capital_or_digit capital_cap digit_cap, h)
 
 pub returns : goal.returns
@@ -39,10 +38,10 @@ returns c =
     let a = c.args in
     let r = c.remainder in
     record {
-      head = c.heads.ensures (not-false _ c.if-not-heads.false);
-      business = c.business.ensures (not-false _ c.if-not-business.false);
+      head = c.heads.ensures c.if-not-heads.false;
+      business = c.business.ensures c.if-not-business.false;
       set = c.requires.2;
-      first = sym c.in_business.ensures ∙ not-false _ c.if-not-in_business.false;
-      range = c.ranged.ensures (not-false _ c.if-not-ranged.false);
+      first = sym c.in_business.ensures ∙ c.if-not-in_business.false;
+      range = c.ranged.ensures c.if-not-ranged.false;
       leaves = behind_leaves a.m.now a.at r.result _ r.ensures (c.leaves.ensures e);
     }

@@ -1,6 +1,5 @@
 -- `swift_values::identified_18` meets its contract.
 use native.Mathlib.Omega.{arith}
-use borrow.Author.Tests.{not-false}
 use Rattle.swift_values.proofs.Lanes.{unlike}
 use Rattle.swift_values.proofs.Parts.{and_split}
 use Rattle.swift_values.proofs.Identifiers.{digits_set, digits_first}
@@ -19,21 +18,21 @@ pub leaves_18-requires : goal.leaves_18-requires
 leaves_18-requires c =
     let the-heads = c.heads in
     let the-business = c.business in
-    let x = and_split the-heads.result the-business.result (not-false _ c.if-not-heads-business.false) in
-    (omega arith, c.digits_11.ensures (not-false _ c.if-not-digits_11.false), the-heads.ensures x.0)
+    let x = and_split the-heads.result the-business.result c.if-not-heads-business.false in
+    (omega arith, c.digits_11.ensures c.if-not-digits_11.false, the-heads.ensures x.0)
 
 pub returns : goal.returns
 returns c =
     λ e.
     let the-heads = c.heads in
     let the-business = c.business in
-    let x = and_split the-heads.result the-business.result (not-false _ c.if-not-heads-business.false) in
-    let ds = c.digits_11.ensures (not-false _ c.if-not-digits_11.false) in
+    let x = and_split the-heads.result the-business.result c.if-not-heads-business.false in
+    let ds = c.digits_11.ensures c.if-not-digits_11.false in
     record {
       head = the-heads.ensures x.0;
       business = the-business.ensures x.1;
       set = digits_set _ _ 11 ds;
       first = digits_first _ _ 11 ds (omega arith);
-      range = c.ranged.ensures (not-false _ c.if-not-ranged.false);
+      range = c.ranged.ensures c.if-not-ranged.false;
       leaves = c.leaves_18.ensures e;
     }

@@ -1,34 +1,33 @@
 -- `swift_values::quick_code` meets its contract.
 use mathlib.Core.Path.{refl}
 use mathlib.Core.Bool.{true}
-use borrow.Author.Tests.{not-false}
 use Rattle.swift_values.proofs.Codes.{clrg, sepa, slev, prtry}
 use Rattle.swift_values.proofs.quick_code.Goals as goal
 
 pub only_code-requires : goal.only_code-requires
 only_code-requires c =
-    let h = c.room.ensures (not-false c.room.result c.if-not-room.false) in
+    let h = c.room.ensures c.if-not-room.false in
     (h.0, h.1, refl {a = true}, clrg)
 
 pub only_code-requires-in-SvcLvl : goal.only_code-requires-in-SvcLvl
 only_code-requires-in-SvcLvl c =
-    let h = c.room.ensures (not-false c.room.result c.if-not-room.false) in
+    let h = c.room.ensures c.if-not-room.false in
     (h.0, h.1, refl {a = true}, sepa)
 
 pub instrument-requires : goal.instrument-requires
-instrument-requires c = c.room.ensures (not-false c.room.result c.if-not-room.false)
+instrument-requires c = c.room.ensures c.if-not-room.false
 
 pub sequence-requires : goal.sequence-requires
-sequence-requires c = c.room.ensures (not-false c.room.result c.if-not-room.false)
+sequence-requires c = c.room.ensures c.if-not-room.false
 
 pub only_code-requires-in-ChrgBr : goal.only_code-requires-in-ChrgBr
 only_code-requires-in-ChrgBr c =
-    let h = c.room.ensures (not-false c.room.result c.if-not-room.false) in
+    let h = c.room.ensures c.if-not-room.false in
     (h.0, h.1, refl {a = true}, slev)
 
 pub only_code-requires-in-Prtry : goal.only_code-requires-in-Prtry
 only_code-requires-in-Prtry c =
-    let h = c.room.ensures (not-false c.room.result c.if-not-room.false) in
+    let h = c.room.ensures c.if-not-room.false in
     (h.0, h.1, refl {a = true}, prtry)
 
 pub returns-in-SttlmMtd : goal.returns-in-SttlmMtd

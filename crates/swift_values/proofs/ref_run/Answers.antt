@@ -1,7 +1,6 @@
 -- `swift_values::ref_run` meets its contract.
 use native.Mathlib.Omega.{arith}
 use mathlib.Core.Path.{◌≡◌}
-use borrow.Author.Tests.{not-false}
 use Rattle.swift_values.specs.Lanes.{ref_pair}
 use Rattle.swift_values.proofs.Values.{run_next}
 use Rattle.swift_values.proofs.ref_run.Goals as goal
@@ -19,7 +18,7 @@ returns-then-not-ref_pair-2 c =
     let the-ref-lanes = the-ref-lanes in
     let the-ref-pair = the-ref-pair in
     let the-if2 = the-if2 in
-    (omega arith, (run_next ref_pair a.m.now a.at 32 33 the-ref-pair.result (omega arith) (let z : the-ref-lanes.result ≡ 32 = omega arith in rw z at the-ref-lanes.ensures.1) the-ref-pair.ensures (not-false _ the-if2.false)))
+    (omega arith, (run_next ref_pair a.m.now a.at 32 33 the-ref-pair.result (omega arith) (let z : the-ref-lanes.result ≡ 32 = omega arith in rw z at the-ref-lanes.ensures.1) the-ref-pair.ensures the-if2.false))
 
 pub returns-then-not-ref_pair-3 : goal.returns-then-not-ref_pair-3
 returns-then-not-ref_pair-3 c =
@@ -35,7 +34,7 @@ returns-then-not-ref_pair-3 c =
     let the-if2 = the-if2 in
     let the-ref-pair2 = the-ref-pair2 in
     let the-if3 = the-if3 in
-    (omega arith, (run_next ref_pair a.m.now a.at 33 34 the-ref-pair2.result (omega arith) (run_next ref_pair a.m.now a.at 32 33 the-ref-pair.result (omega arith) (let z : the-ref-lanes.result ≡ 32 = omega arith in rw z at the-ref-lanes.ensures.1) the-ref-pair.ensures (not-false _ the-if2.false)) the-ref-pair2.ensures (not-false _ the-if3.false)))
+    (omega arith, (run_next ref_pair a.m.now a.at 33 34 the-ref-pair2.result (omega arith) (run_next ref_pair a.m.now a.at 32 33 the-ref-pair.result (omega arith) (let z : the-ref-lanes.result ≡ 32 = omega arith in rw z at the-ref-lanes.ensures.1) the-ref-pair.ensures the-if2.false) the-ref-pair2.ensures the-if3.false))
 
 pub returns : goal.returns
 returns c =
@@ -55,5 +54,5 @@ returns c =
       omega arith,
       (run_next ref_pair a.m.now a.at 34 35 the-ref-pair3.result (omega arith)
           (run_next ref_pair a.m.now a.at 33 34 the-ref-pair2.result (omega arith)
-          (run_next ref_pair a.m.now a.at 32 33 the-ref-pair.result (omega arith) (let z : the-ref-lanes.result ≡ 32 = omega arith in rw z at the-ref-lanes.ensures.1) the-ref-pair.ensures (not-false _ the-if2.false)) the-ref-pair2.ensures (not-false _ the-if3.false)) the-ref-pair3.ensures (not-false _ c.if-not-ref_pair-3.false)),
+          (run_next ref_pair a.m.now a.at 32 33 the-ref-pair.result (omega arith) (let z : the-ref-lanes.result ≡ 32 = omega arith in rw z at the-ref-lanes.ensures.1) the-ref-pair.ensures the-if2.false) the-ref-pair2.ensures the-if3.false) the-ref-pair3.ensures c.if-not-ref_pair-3.false),
     )

@@ -14,8 +14,8 @@ overflow_mul-s c =
     let the-args = c.args in
     let the-pre = c.requires in
     let the-loop = c.loop-i in
-    let small = one_small the-args.m.now the-args.p the-args.t3 8 the-loop.i the-pre.1 (omega arith) the-pre.2 in
-    let same : c.broad.result * get_or the-args.t3 the-loop.i 0 ≤ 5472 = rw c.broad.ensures small in
+    let small = one_small the-args.m.now the-args.p the-args.w 8 the-loop.i the-pre.1 (omega arith) the-pre.2 in
+    let same : c.broad.result * get_or the-args.w the-loop.i 0 ≤ 5472 = rw c.broad.ensures small in
     omega (arith, same)
 
 pub overflow_add-s : goal.overflow_add-s
@@ -23,8 +23,8 @@ overflow_add-s c =
     let the-args = c.args in
     let the-pre = c.requires in
     let the-loop = c.loop-i in
-    let small = one_small the-args.m.now the-args.p the-args.t3 8 the-loop.i the-pre.1 (omega arith) the-pre.2 in
-    let same : c.broad.result * get_or the-args.t3 the-loop.i 0 ≤ 5472 = rw c.broad.ensures small in
+    let small = one_small the-args.m.now the-args.p the-args.w 8 the-loop.i the-pre.1 (omega arith) the-pre.2 in
+    let same : c.broad.result * get_or the-args.w the-loop.i 0 ≤ 5472 = rw c.broad.ensures small in
     omega (arith, same)
 
 pub loop-i-preserved : goal.loop-i-preserved
@@ -32,9 +32,9 @@ loop-i-preserved c =
     let the-args = c.args in
     let the-pre = c.requires in
     let the-loop = c.loop-i in
-    let small = one_small the-args.m.now the-args.p the-args.t3 8 the-loop.i the-pre.1 (omega arith) the-pre.2 in
-    let same : c.broad.result * get_or the-args.t3 the-loop.i 0 ≤ 5472 = rw c.broad.ensures small in
-    (omega arith, omega (arith, same), balance_on the-args.m.now the-args.p the-args.t3 the-loop.i the-loop.s c.broad.result (get_or the-args.t3 the-loop.i 0) the-loop.invariant.2 c.broad.ensures refl)
+    let small = one_small the-args.m.now the-args.p the-args.w 8 the-loop.i the-pre.1 (omega arith) the-pre.2 in
+    let same : c.broad.result * get_or the-args.w the-loop.i 0 ≤ 5472 = rw c.broad.ensures small in
+    (omega arith, omega (arith, same), balance_on the-args.m.now the-args.p the-args.w the-loop.i the-loop.s c.broad.result (get_or the-args.w the-loop.i 0) the-loop.invariant.2 c.broad.ensures refl)
 
 pub returns : goal.returns
 returns c =

@@ -1,6 +1,5 @@
 -- `swift_values::usual_remittance` meets its contract.
 use native.Mathlib.Omega.{arith}
-use borrow.Author.Tests.{not-false}
 use Prim.Native.Nat.{◌+◌}
 use Rattle.words.specs.declared.Field.TheVariants.{Ustrd}
 use Rattle.profile.specs.declared.Simple.TheVariants.{Text140}
@@ -10,22 +9,22 @@ use Rattle.swift_values.proofs.Values.{found, run_less, text_stands, remittance_
 use Rattle.swift_values.proofs.usual_remittance.Goals as goal
 
 pub usual_run-n-requires : goal.usual_run-n-requires
-usual_run-n-requires c = omega (arith, c.room.ensures (not-false c.room.result c.if-not-room.false))
+usual_run-n-requires c = omega (arith, c.room.ensures c.if-not-room.false)
 
 pub bounds-m-at : goal.bounds-m-at
 bounds-m-at c =
     let the-room = c.room in
-    omega (arith, the-room.ensures (not-false the-room.result c.if-not-room.false))
+    omega (arith, the-room.ensures c.if-not-room.false)
 
 pub ends_like-requires : goal.ends_like-requires
 ends_like-requires c =
     let the-room = c.room in
-    omega (arith, the-room.ensures (not-false the-room.result c.if-not-room.false))
+    omega (arith, the-room.ensures c.if-not-room.false)
 
 pub overflow_add-result : goal.overflow_add-result
 overflow_add-result c =
     let the-room = c.room in
-    omega (arith, c.ends_like.ensures c.if-ends_like.true, the-room.ensures (not-false the-room.result c.if-not-room.false))
+    omega (arith, c.ends_like.ensures c.if-ends_like.true, the-room.ensures c.if-not-room.false)
 
 pub returns-then-ends_like : goal.returns-then-ends_like
 returns-then-ends_like c =
@@ -37,7 +36,7 @@ returns-then-ends_like c =
     let n = the-usual-run.result in
     let k = the-args.like in
     let l = c.ends_like.ensures c.if-ends_like.true in
-    let h = the-room.ensures (not-false the-room.result c.if-not-room.false) in
+    let h = the-room.ensures c.if-not-room.false in
     let r = run_less text_one m p n k the-usual-run.ensures.1 l.1 in (
       omega arith,
       found (Stands Text140 m p) (p + k)
@@ -47,12 +46,12 @@ returns-then-ends_like c =
 pub overflow_add-e : goal.overflow_add-e
 overflow_add-e c =
     let the-room = c.room in
-    omega (arith, the-room.ensures (not-false the-room.result c.if-not-room.false))
+    omega (arith, the-room.ensures c.if-not-room.false)
 
 pub bounds-m-e : goal.bounds-m-e
 bounds-m-e c =
     let the-room = c.room in
-    omega (arith, the-room.ensures (not-false the-room.result c.if-not-room.false))
+    omega (arith, the-room.ensures c.if-not-room.false)
 
 pub returns : goal.returns
 returns c =
@@ -62,7 +61,7 @@ returns c =
     let m = the-args.m.now in
     let p = the-args.at in
     let n = the-usual-run.result in
-    let h = the-room.ensures (not-false the-room.result c.if-not-room.false) in (
+    let h = the-room.ensures c.if-not-room.false in (
       omega arith,
       found (Stands Text140 m p) (p + n)
           (text_stands Ustrd m p n (omega arith) the-usual-run.ensures.1 c.if-m-e-ne60.false (omega arith) (omega arith) (omega arith) c.if-m-at-eq32.false Text140 (remittance_is _)),

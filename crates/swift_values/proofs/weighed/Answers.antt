@@ -1,7 +1,7 @@
 -- `swift_values::weighed` meets its contract.
-use mathlib.Core.Path.{sym, ap, ◌∙◌}
+use mathlib.Core.Path.{sym}
 use native.Mathlib.Omega.{arith}
-use Rattle.answers.specs.Given.{given, worth}
+use Rattle.answers.specs.Given.{worth}
 use Rattle.swift_values.proofs.Any.{ends_from, stands_for}
 use Rattle.swift_values.proofs.weighed.Goals as goal
 
@@ -19,9 +19,7 @@ returns-in-Worth c =
     let the-args = c.args in
     let the-end-of = c.end_of-e in
     let the-if1 = c.if-e-eq0 in
-    let the-judge-value = c.judge_value in
-    let the-n = c.n-1 in
     let m = the-args.m.now in
     let p = the-args.at in
     let r = the-end-of.result in
-    (the-end-of.ensures.0, λ z. absurd (the-if1.false z), stands_for m p the-args.k (worth the-n.given.0.0) r the-end-of.ensures.1 (sym the-judge-value.ensures ∙ ap given the-n.given.1))
+    (the-end-of.ensures.0, λ z. absurd (the-if1.false z), stands_for m p the-args.k (worth c.in-Worth.n) r the-end-of.ensures.1 (sym c.in-Worth.ensures))
