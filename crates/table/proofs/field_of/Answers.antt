@@ -1,4 +1,5 @@
 -- `table::field_of` meets its contract: each arm is the entry of its number in the list, and no other number is one of the list.
+use Rattle.std.proofs.Common.{rules}
 use Rattle.table.specs.Table.{field_of}
 use Rattle.table.proofs.Numbers.{other_field}
 use Rattle.table.proofs.field_of.Goals as goal
@@ -108,4 +109,4 @@ unfolding field_of
 returns-in-26 c = rw c.in-26.is
 
 pub returns-in_default : goal.returns-in_default
-returns-in_default c = other_field c.args.n c.in_default.in_default-own.rest
+returns-in_default c = other_field c.args.n (search rules)

@@ -1,4 +1,5 @@
 -- `table::kind_of` meets its contract: each arm is the entry of its number in the list, and no other number is one of the list.
+use Rattle.std.proofs.Common.{rules}
 use Rattle.table.specs.Table.{kind_of}
 use Rattle.table.proofs.Numbers.{other_kind}
 use Rattle.table.proofs.kind_of.Goals as goal
@@ -76,4 +77,4 @@ unfolding kind_of
 returns-in-20 c = rw c.in-20.is
 
 pub returns-in_default : goal.returns-in_default
-returns-in_default c = other_kind c.args.n c.in_default.in_default-own.rest
+returns-in_default c = other_kind c.args.n (search rules)
