@@ -165,28 +165,28 @@ module _ {m k : List ℕ} (x : AcceptedItem m) (y : AcceptedItem k) where
       let signed = last_field 10 (value_for a DtOfSgntr) (value_for b DtOfSgntr) _ _ spaced.0 in
       let instrumented = last_field 4 (value_for a LclInstrm) (value_for b LclInstrm) _ _ signed.0 in
       let instructed = last_field 35 (value_for a InstrId) (value_for b InstrId) _ _ instrumented.0 in
-      let creditor_bic = last_field 11 (value_for a CdtrBic) (value_for b CdtrBic) _ _ instructed.0 in
-      let creditor_id = last_field 35 (value_for a CdtrId) (value_for b CdtrId) _ _ creditor_bic.0 in
+      let creditor_bic_told = last_field 11 (value_for a CdtrBic) (value_for b CdtrBic) _ _ instructed.0 in
+      let creditor_id = last_field 35 (value_for a CdtrId) (value_for b CdtrId) _ _ creditor_bic_told.0 in
       let sequenced = last_field 4 (value_for a SeqTp) (value_for b SeqTp) _ _ creditor_id.0 in
       let collected = last_field 10 (value_for a ReqdColltnDt) (value_for b ReqdColltnDt) _ _ sequenced.0 in
       let counted = same_ends _ _ (digits 11 (cents_for a)) (digits 11 (cents_for b)) (length_digits 11 (cents_for a) ∙ sym (length_digits 11 (cents_for b))) collected.0 in
-      let debtor_bic = last_field 11 (value_for a DbtrBic) (value_for b DbtrBic) _ _ counted.0 in
-      let creditor_iban = last_field 34 (value_for a CdtrIban) (value_for b CdtrIban) _ _ debtor_bic.0 in
-      let debtor_iban = last_field 34 (value_for a DbtrIban) (value_for b DbtrIban) _ _ creditor_iban.0 in
-      let mandated = last_field 35 (value_for a MndtId) (value_for b MndtId) _ _ debtor_iban.0 in
+      let debtor_bic_told = last_field 11 (value_for a DbtrBic) (value_for b DbtrBic) _ _ counted.0 in
+      let creditor_iban_told = last_field 34 (value_for a CdtrIban) (value_for b CdtrIban) _ _ debtor_bic_told.0 in
+      let debtor_iban_told = last_field 34 (value_for a DbtrIban) (value_for b DbtrIban) _ _ creditor_iban_told.0 in
+      let mandated = last_field 35 (value_for a MndtId) (value_for b MndtId) _ _ debtor_iban_told.0 in
       let named = last_field 35 (collapsed (value_for a EndToEndId)) (collapsed (value_for b EndToEndId)) _ _ mandated.0 in
       record {
         tx_id = own Reference 35 as_read (λ v h. h) TxId tx_id_lem named.0;
         end_to_end_id = own EndToEnd 35 collapsed (λ v h. h) EndToEndId end_to_end_lem named.1;
         mndt_id = own Reference 35 as_read (λ v h. h) MndtId mandate mandated.1;
-        dbtr_iban = own Iban 34 as_read (λ v h. h) DbtrIban debtor_iban debtor_iban.1;
-        cdtr_iban = own Iban 34 as_read (λ v h. h) CdtrIban creditor_iban creditor_iban.1;
-        dbtr_bic = own-by a_bic 11 as_read bic_fits DbtrBic debtor_bic debtor_bic.1;
+        dbtr_iban = own Iban 34 as_read (λ v h. h) DbtrIban debtor_iban debtor_iban_told.1;
+        cdtr_iban = own Iban 34 as_read (λ v h. h) CdtrIban creditor_iban creditor_iban_told.1;
+        dbtr_bic = own-by a_bic 11 as_read bic_fits DbtrBic debtor_bic debtor_bic_told.1;
         amount = same_cents (values_of Amount a) (values_of Amount b) (amount_one x) (amount_one y) counted.1;
         reqd_colltn_dt = own Date 10 as_read (λ v h. h) ReqdColltnDt collection collected.1;
         seq_tp = typed SeqTp sequence sequence_kind sequenced.1;
         cdtr_id = own Identifier 35 as_read (λ v h. h) CdtrId creditor creditor_id.1;
-        cdtr_bic = own-by a_bic 11 as_read bic_fits CdtrBic creditor_bic creditor_bic.1;
+        cdtr_bic = own-by a_bic 11 as_read bic_fits CdtrBic creditor_bic creditor_bic_told.1;
         instr_id =
             same-if-any 35 (values_at InstrId a) (values_at InstrId b) (instruction_or_none x (a_plain Reference) (Written 35) (plain_fits Reference) (instruction_kind (version x)))
             (instruction_or_none y (a_plain Reference) (Written 35) (plain_fits Reference) (instruction_kind (version y))) instructed.1;
