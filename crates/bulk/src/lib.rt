@@ -85,32 +85,28 @@ fn tell_written(w: Written, answer: &mut [u64; 3])
 }
 
 // A message: 0, the count and the cents; or the number, the place and 0. The index is cleared; 25, 0, 0 where it has under 16,384 numbers, and it is as lent.
-#[unsafe(no_mangle)]
-pub extern "C" fn bulk_judge(message: &[u8], index: &mut [u32], answer: &mut [u64; 3])
+pub fn bulk_judge(message: &[u8], index: &mut [u32], answer: &mut [u64; 3])
     ensures { (answer.new ≡ told_verdict (judged_with index.old message.now)) × (index.new ≡ cleared index.old) }
 {
     tell_verdict(judge::judge(message, index), answer);
 }
 
 // The same by the table-led engine.
-#[unsafe(no_mangle)]
-pub extern "C" fn bulk_judge_by_table(message: &[u8], index: &mut [u32], answer: &mut [u64; 3])
+pub fn bulk_judge_by_table(message: &[u8], index: &mut [u32], answer: &mut [u64; 3])
     ensures { (answer.new ≡ told_verdict (judged_with index.old message.now)) × (index.new ≡ cleared index.old) }
 {
     tell_verdict(judge::judge_by_table(message, index), answer);
 }
 
 // `bulk_judge` without an index, by the plain search.
-#[unsafe(no_mangle)]
-pub extern "C" fn bulk_judge_plainly(message: &[u8], answer: &mut [u64; 3])
+pub fn bulk_judge_plainly(message: &[u8], answer: &mut [u64; 3])
     ensures { answer.new ≡ told_verdict (judged message.now) }
 {
     tell_verdict(judge::judge_plainly(message), answer);
 }
 
 // Item i of a message: 0, the place of its `<` and the place behind its `>`; or the number, the place and 0.
-#[unsafe(no_mangle)]
-pub extern "C" fn bulk_item(message: &[u8], i: u64, index: &mut [u32], answer: &mut [u64; 3])
+pub fn bulk_item(message: &[u8], i: u64, index: &mut [u32], answer: &mut [u64; 3])
     ensures { (answer.new ≡ told_extent (item_with index.old i message.now)) × (index.new ≡ cleared index.old) }
 {
     tell_extent(judge::item(message, i, index), answer);
@@ -118,13 +114,7 @@ pub extern "C" fn bulk_item(message: &[u8], i: u64, index: &mut [u32], answer: &
 
 // A message and a record area: the three words as of `bulk_judge`, or 17, 0, 0 where the area is too small;
 // and a record for each item, or the area as lent.
-#[unsafe(no_mangle)]
-pub extern "C" fn bulk_records(
-    message: &[u8],
-    area: &mut [u8],
-    index: &mut [u32],
-    answer: &mut [u64; 3],
-)
+pub fn bulk_records(message: &[u8], area: &mut [u8], index: &mut [u32], answer: &mut [u64; 3])
     ensures { (answer.new ≡ told_verdict (recorded_with index.old message.now area.old).verdict)
         × (area.new ≡ (recorded_with index.old message.now area.old).area) × (index.new ≡ cleared index.old) }
 {
@@ -132,8 +122,7 @@ pub extern "C" fn bulk_records(
 }
 
 // The same by the table-led engine.
-#[unsafe(no_mangle)]
-pub extern "C" fn bulk_records_by_table(
+pub fn bulk_records_by_table(
     message: &[u8],
     area: &mut [u8],
     index: &mut [u32],
@@ -146,117 +135,98 @@ pub extern "C" fn bulk_records_by_table(
 }
 
 // The plain form: 0, its length and 0, and the area begins with it; or the number, the place and 0, and the area is as lent.
-#[unsafe(no_mangle)]
-pub extern "C" fn bulk_plain(
-    message: &[u8],
-    area: &mut [u8],
-    index: &mut [u32],
-    answer: &mut [u64; 3],
-)
+pub fn bulk_plain(message: &[u8], area: &mut [u8], index: &mut [u32], answer: &mut [u64; 3])
     ensures { PlainTold index.old message.now area.old answer.new area.new × (index.new ≡ cleared index.old) }
 {
     tell_written(plain::write(message, area, index), answer);
 }
 
 // An IBAN.
-#[unsafe(no_mangle)]
-pub extern "C" fn bulk_iban(value: &[u8], answer: &mut [u64; 3])
+pub fn bulk_iban(value: &[u8], answer: &mut [u64; 3])
     ensures { answer.new ≡ told (iban_given value.now) }
 {
     tell(accounts::iban(value), answer);
 }
 
 // A creditor identifier.
-#[unsafe(no_mangle)]
-pub extern "C" fn bulk_creditor_id(value: &[u8], answer: &mut [u64; 3])
+pub fn bulk_creditor_id(value: &[u8], answer: &mut [u64; 3])
     ensures { answer.new ≡ told (identifier_given value.now) }
 {
     tell(accounts::creditor_id(value), answer);
 }
 
 // A BIC.
-#[unsafe(no_mangle)]
-pub extern "C" fn bulk_bic(value: &[u8], answer: &mut [u64; 3])
+pub fn bulk_bic(value: &[u8], answer: &mut [u64; 3])
     ensures { answer.new ≡ told (bic_given value.now) }
 {
     tell(accounts::bic(value), answer);
 }
 
 // A BIC in its wider form, as version 001.08 has it.
-#[unsafe(no_mangle)]
-pub extern "C" fn bulk_bicfi(value: &[u8], answer: &mut [u64; 3])
+pub fn bulk_bicfi(value: &[u8], answer: &mut [u64; 3])
     ensures { answer.new ≡ told (bicfi_given value.now) }
 {
     tell(accounts::bicfi(value), answer);
 }
 
 // A date.
-#[unsafe(no_mangle)]
-pub extern "C" fn bulk_date(value: &[u8], answer: &mut [u64; 3])
+pub fn bulk_date(value: &[u8], answer: &mut [u64; 3])
     ensures { answer.new ≡ told (date_given value.now) }
 {
     tell(calendar::date(value), answer);
 }
 
 // A time.
-#[unsafe(no_mangle)]
-pub extern "C" fn bulk_time(value: &[u8], answer: &mut [u64; 3])
+pub fn bulk_time(value: &[u8], answer: &mut [u64; 3])
     ensures { answer.new ≡ told (time_given value.now) }
 {
     tell(calendar::time(value), answer);
 }
 
 // A reference.
-#[unsafe(no_mangle)]
-pub extern "C" fn bulk_reference(value: &[u8], answer: &mut [u64; 3])
+pub fn bulk_reference(value: &[u8], answer: &mut [u64; 3])
     ensures { answer.new ≡ told (reference_given value.now) }
 {
     tell(words::reference(value), answer);
 }
 
 // An EndToEndId: 0, or 7.
-#[unsafe(no_mangle)]
-pub extern "C" fn bulk_end_to_end(value: &[u8], answer: &mut [u64; 3])
+pub fn bulk_end_to_end(value: &[u8], answer: &mut [u64; 3])
     ensures { answer.new ≡ told (end_to_end_given value.now) }
 {
     tell(words::end_to_end(value), answer);
 }
 
 // A text of at most 70.
-#[unsafe(no_mangle)]
-pub extern "C" fn bulk_text70(value: &[u8], answer: &mut [u64; 3])
+pub fn bulk_text70(value: &[u8], answer: &mut [u64; 3])
     ensures { answer.new ≡ told (text_given Field.Nm value.now) }
 {
     tell(words::text(Field::Nm, value), answer);
 }
 
 // A text of at most 140.
-#[unsafe(no_mangle)]
-pub extern "C" fn bulk_text140(value: &[u8], answer: &mut [u64; 3])
+pub fn bulk_text140(value: &[u8], answer: &mut [u64; 3])
     ensures { answer.new ≡ told (text_given Field.Ustrd value.now) }
 {
     tell(words::text(Field::Ustrd, value), answer);
 }
 
 // A count: the second word is its number.
-#[unsafe(no_mangle)]
-pub extern "C" fn bulk_count(value: &[u8], answer: &mut [u64; 3])
+pub fn bulk_count(value: &[u8], answer: &mut [u64; 3])
     ensures { answer.new ≡ told (count_given value.now) }
 {
     tell(money::count(value), answer);
 }
 
 // An item's amount: the second word is its cents.
-#[unsafe(no_mangle)]
-pub extern "C" fn bulk_item_amount(value: &[u8], answer: &mut [u64; 3])
+pub fn bulk_item_amount(value: &[u8], answer: &mut [u64; 3])
     ensures { answer.new ≡ told (amount_given Range.Item value.now) }
 {
     tell(money::amount(Range::Item, value), answer);
 }
 
 // The header total: the second word is its cents.
-#[unsafe(no_mangle)]
-pub extern "C" fn bulk_header_amount(value: &[u8], answer: &mut [u64; 3])
+pub fn bulk_header_amount(value: &[u8], answer: &mut [u64; 3])
     ensures { answer.new ≡ told (amount_given Range.Total value.now) }
 {
     tell(money::amount(Range::Total, value), answer);
@@ -327,8 +297,7 @@ fn tell_found(answer: &mut [u64; 3], r: Found)
 
 // A message is entered into the day book: 0, the number open, the bulk's cents; or number, place, 0, and the book as lent. `numbers` holds the number open and the open total.
 // The index is cleared.
-#[unsafe(no_mangle)]
-pub extern "C" fn bulk_book_enter<'a>(
+pub fn bulk_book_enter<'a>(
     entries: &'a mut [Entry],
     numbers: &'a mut [u64; 2],
     message: &'a [u8],
@@ -347,8 +316,7 @@ pub extern "C" fn bulk_book_enter<'a>(
 }
 
 // A key is withdrawn from the day book: 0, the number open, the bulk's cents; or number, 0, 0, and the book as lent.
-#[unsafe(no_mangle)]
-pub extern "C" fn bulk_book_withdraw<'a>(
+pub fn bulk_book_withdraw<'a>(
     entries: &'a mut [Entry],
     numbers: &'a mut [u64; 2],
     key: &'a [u8; 60],
@@ -365,8 +333,7 @@ pub extern "C" fn bulk_book_withdraw<'a>(
 }
 
 // The first open entry with the key: 0, 1, its place; 0, 0, 0 where there is none; or 29, 0, 0. The stored total is not looked at.
-#[unsafe(no_mangle)]
-pub extern "C" fn bulk_book_find<'a>(
+pub fn bulk_book_find<'a>(
     entries: &'a [Entry],
     numbers: &'a [u64; 2],
     key: &'a [u8; 60],
@@ -381,8 +348,7 @@ pub extern "C" fn bulk_book_find<'a>(
 }
 
 // The open total as it is stored: 0, the number open, the cents. It is no sum, and no entry is looked at.
-#[unsafe(no_mangle)]
-pub extern "C" fn bulk_book_total<'a>(numbers: &'a [u64; 2], answer: &'a mut [u64; 3])
+pub fn bulk_book_total<'a>(numbers: &'a [u64; 2], answer: &'a mut [u64; 3])
     ensures { (l : List Entry) → answer.new ≡ told_call (answer_for (shown (lent_book l numbers.now)) (get_or numbers.now 0 0)) }
 {
     let o = numbers_at(numbers);
@@ -390,12 +356,7 @@ pub extern "C" fn bulk_book_total<'a>(numbers: &'a [u64; 2], answer: &'a mut [u6
 }
 
 // Whether an entry and a withdrawal take the lent book for one: 0, 0, 0; or 29, 0, 0.
-#[unsafe(no_mangle)]
-pub extern "C" fn bulk_book_check<'a>(
-    entries: &'a [Entry],
-    numbers: &'a [u64; 2],
-    answer: &'a mut [u64; 3],
-)
+pub fn bulk_book_check<'a>(entries: &'a [Entry], numbers: &'a [u64; 2], answer: &'a mut [u64; 3])
     ensures { answer.new ≡ told_is (stands (lent_book entries.now numbers.now)) }
 {
     let o = numbers_at(numbers);
@@ -449,8 +410,7 @@ fn play_told<'a>(
 }
 
 // A recording is played back into the day book: 0, the number of records, the eight sums of the table; or number, place and eight times 0. The index is cleared.
-#[unsafe(no_mangle)]
-pub extern "C" fn bulk_play<'a>(
+pub fn bulk_play<'a>(
     recording: &'a [u8],
     buffer: &'a [u8],
     ends: &'a [u64],

@@ -1,9 +1,9 @@
 // Test vectors: each line `KIND VALUE` of standard input is asked of the C face, and printed with its answer.
 #![tactic(auto)]
 
-ghost use Rattle.io.specs.Counts.{IsPrefixLen};
+ghost use Rattle.std.specs.Prelude.{◌≡◌, ◌≤◌, length, take};
 
-use libc::{STDERR_FILENO, STDIN_FILENO, STDOUT_FILENO};
+use std::io::{Read, Write};
 
 #[derive(Clone, Copy)]
 enum Kind {
@@ -24,7 +24,8 @@ enum Kind {
 
 // How many bytes stand before the first c: all, where there is none.
 fn upto(c: u8, s: &[u8]) -> usize
-    ensures { IsPrefixLen result s.now }
+    ensures in_bounds { result ≤ length s.now }
+    ensures len { result ≡ length (take result s.now) }
 {
     let mut i = 0;
     while i < s.len() {
@@ -111,83 +112,111 @@ fn ask(kind: Kind, value: &[u8], answer: &mut [u64; 3]) {
     }
 }
 
-// Writes bytes to standard output.
-fn print(s: &[u8]) {
-    io::write_all(STDOUT_FILENO, s);
+// Writes bytes.
+fn print<W: Write>(out: &mut W, s: &[u8]) {
+    let _ = out.write_all(s);
 }
 
 // Writes a number in decimal.
-fn print_number(n: u64) {
-    io::print_decimal(STDOUT_FILENO, n);
+fn print_number<W: Write>(out: &mut W, n: u64) {
+    let _ = write!(out, "{n}");
 }
 
 // Writes what a value that passes is worth, or `yes` where nothing more is said of it.
-fn print_accepted(kind: Kind, worth: u64) {
+fn print_accepted<W: Write>(out: &mut W, kind: Kind, worth: u64) {
     match kind {
-        Kind::Count | Kind::ItemAmount | Kind::HeaderAmount => print_number(worth),
-        Kind::Unknown => print(b"unknown kind"),
-        _ => print(b"yes"),
+        Kind::Count | Kind::ItemAmount | Kind::HeaderAmount => print_number(out, worth),
+        Kind::Unknown => print(out, b"unknown kind"),
+        _ => print(out, b"yes"),
     }
 }
 
 // Asks the face, and writes what it answers.
-fn print_answer(kind: Kind, value: &[u8]) {
+fn print_answer<W: Write>(out: &mut W, kind: Kind, value: &[u8]) {
     let mut answer = [0; 3];
     ask(kind, value, &mut answer);
     if answer[0] == 0 {
-        print_accepted(kind, answer[1]);
+        print_accepted(out, kind, answer[1]);
     } else {
-        print(b"refused ");
-        print_number(answer[0]);
+        print(out, b"refused ");
+        print_number(out, answer[0]);
     }
 }
 
 // Writes one line: the kind, the value in brackets, the answer.
-fn print_judged(name: &[u8], value: &[u8]) {
-    print(name);
-    print(b" [");
-    print(value);
-    print(b"] ");
-    print_answer(kind_of(name), value);
-    print(b"\n");
+fn print_judged<W: Write>(out: &mut W, name: &[u8], value: &[u8]) {
+    print(out, name);
+    print(out, b" [");
+    print(out, value);
+    print(out, b"] ");
+    print_answer(out, kind_of(name), value);
+    print(out, b"\n");
 }
 
 // The kind stands before the first space and the value behind it. With no space the value is empty.
-fn judge_line(line: &[u8]) {
+fn judge_line<W: Write>(out: &mut W, line: &[u8]) {
     let n = upto(b' ', line);
     if n < line.len() {
-        print_judged(&line[..n], &line[n + 1..]);
+        print_judged(out, &line[..n], &line[n + 1..]);
     } else {
-        print_judged(line, b"");
+        print_judged(out, line, b"");
     }
 }
 
 // A last line need not end in a line end.
-fn judge_lines(s: &[u8]) {
+fn judge_lines<W: Write>(out: &mut W, s: &[u8]) {
     let mut at = 0;
     while at < s.len() {
         let end = at + upto(b'\n', &s[at..]);
-        judge_line(&s[at..end]);
+        judge_line(out, &s[at..end]);
         at = end + 1;
     }
 }
 
 // What went wrong, on standard error.
-fn complain(s: &[u8]) {
-    io::write_all(STDERR_FILENO, s);
+fn complain<W: Write>(errors: &mut W, s: &[u8]) {
+    print(errors, s);
+}
+
+// Room for as much input as is read.
+fn room() -> [u8; 65536]
+    ensures { 65536 ≡ length result }
+{
+    [0; 65536]
+}
+
+// Reads until the area is full, the input ends or a read fails, and answers how many bytes stand at the beginning of the area.
+fn read_full<R: Read>(input: &mut R, area: &mut [u8]) -> usize
+    ensures in_bounds { result ≤ length area.new }
+    ensures len { result ≡ length (take result area.new) }
+{
+    let mut count = 0;
+    while count < area.len() {
+        match input.read(&mut area[count..]) {
+            Ok(0) => break,
+            Ok(n) => count += n,
+            Err(_) => break,
+        }
+    }
+    count
 }
 
 // A read that fails moves nothing, so where one more read finds the end, all of the input came.
-fn main() {
-    let mut input = io::large_buffer();
-    let n = io::read_full(STDIN_FILENO, &mut input);
+fn main(rt: HostRuntime) {
+    let mut input = room();
+    let n = read_full(&mut rt.stdin(), &mut input);
     let mut more = [0; 1];
-    let got = libc::read(STDIN_FILENO, &mut more);
-    if got == 0 {
-        judge_lines(&input[..n]);
-    } else if got > 0 && n == input.len() {
-        complain(b"vectors: standard input is longer than 65,536 bytes\n");
-    } else {
-        complain(b"vectors: standard input cannot be read\n");
+    match rt.stdin().read(&mut more) {
+        Ok(0) => judge_lines(&mut rt.stdout(), &input[..n]),
+        Ok(_) if n == input.len() => {
+            complain(
+                &mut rt.stderr(),
+                b"vectors: standard input is longer than 65,536 bytes\n",
+            );
+        }
+        _ => complain(
+            &mut rt.stderr(),
+            b"vectors: standard input cannot be read\n",
+        ),
     }
 }

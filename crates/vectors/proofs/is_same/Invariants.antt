@@ -1,7 +1,5 @@
 -- `vectors::is_same` is safe and ends: the two slices are of one length, and what is left of it falls.
-use Prim.Native.Nat.{◌-◌}
-use mathlib.Core.Path.{◌≡◌}
-use lib.ListN.{length}
+use Rattle.std.proofs.Common.{length, ◌-◌, ◌≡◌}
 use Rattle.vectors.proofs.is_same.Given as goal
 
 abbrev pub invariant-loop-i : goal.invariant-loop-i

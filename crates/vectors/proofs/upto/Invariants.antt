@@ -1,6 +1,5 @@
 -- `vectors::upto` meets its contract: `i` stays within the slice, and what is left of it falls.
-use Prim.Native.Nat.{◌≤◌, ◌-◌}
-use lib.ListN.{length}
+use Rattle.std.proofs.Common.{length, ◌-◌, ◌≤◌}
 use Rattle.vectors.proofs.upto.Given as goal
 
 abbrev pub invariant-loop-i : goal.invariant-loop-i
