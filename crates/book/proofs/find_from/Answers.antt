@@ -9,15 +9,15 @@ pub returns-then-has_key : goal.returns-then-has_key
 returns-then-has_key c =
     let l = c.loop-i in
     let a = c.args in
-    omega (arith, first_stop a.opened a.t1 (omega (arith, c.well_formed.0.1.0.1)) l.i a.key (omega arith) (sym c.has_key.ensures ∙ c.if-has_key.true))
+    omega (arith, first_stop a.opened a.b (omega (arith, c.well_formed.0.1.0.1)) l.i a.key (omega arith) (sym c.has_key.ensures ∙ c.if-has_key.true))
 
 pub loop-i-preserved : goal.loop-i-preserved
 loop-i-preserved c =
     let l = c.loop-i in
     let a = c.args in
-    (omega arith, omega (arith, first_go a.opened a.t1 (omega (arith, c.well_formed.0.1.0.1)) l.i a.key (omega arith) (sym c.has_key.ensures ∙ c.if-has_key.false)))
+    (omega arith, omega (arith, first_go a.opened a.b (omega (arith, c.well_formed.0.1.0.1)) l.i a.key (omega arith) (sym c.has_key.ensures ∙ c.if-has_key.false)))
 
 pub returns : goal.returns
 returns c =
     let a = c.args in
-    omega (arith, first_end a.opened a.t1 (omega (arith, c.well_formed.0.1.0.1)) c.loop-i.i a.key (omega arith))
+    omega (arith, first_end a.opened a.b (omega (arith, c.well_formed.0.1.0.1)) c.loop-i.i a.key (omega arith))
