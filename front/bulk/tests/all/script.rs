@@ -10,10 +10,12 @@ use std::time::{Duration, SystemTime};
 const CRATES: &str =
     "# below: above\ntext:\nwords: text  # a word\nbulk: words io\nvectors: bulk io\n";
 
-const RT: &str = "#!/bin/sh\n[ \"$*\" = 'check bulk' ] || exit 3\necho 'fn text::same: proved'\n\
-                  echo 'rt: text proved (unchanged since it was last proved)'\n\
-                  echo 'rt: words proved (7 s)'\n[ -e fail ] && { echo 'rt: bulk NOT PROVED'; exit 1; }\n\
-                  echo 'rt: bulk proved (38 s)'\n";
+const RT: &str = "#!/bin/sh\n[ \"$*\" = lib ] && [ \"${PWD##*/}\" = bulk ] || exit 3\n\
+                  echo 'rt: chose --jobs 2 for text'\necho 'fn text::same: proved'\n\
+                  echo 'logic=proved functions=1'\necho 'rt: chose --jobs 1 for words'\n\
+                  echo 'logic=proved functions=7'\necho 'rt: chose --jobs 2 for bulk'\n\
+                  [ -e ../../fail ] && { echo 'logic=not-proved'; exit 1; }\n\
+                  echo 'logic=proved functions=2'\n";
 
 /// Files that decide how the command is built.
 const SOURCES: [&str; 5] = [
@@ -40,10 +42,12 @@ fn program(path: PathBuf, text: &str) {
 /// A house of its own in a folder, in which the script proves and compiles nothing real.
 fn house() -> Folder {
     let folder = Folder::new();
-    let script = Path::new(env!("CARGO_MANIFEST_DIR")).join("../../bulk");
-    program(folder.path("bulk"), &fs::read_to_string(script).unwrap());
+    for name in ["bulk", "front/prove"] {
+        let script = Path::new(env!("CARGO_MANIFEST_DIR")).join("../..").join(name);
+        program(folder.path(name), &fs::read_to_string(script).unwrap());
+    }
     folder.put("crates.txt", CRATES);
-    for name in ["crates", "front/bulk/src", "front/face", "front/.cargo", "docs"] {
+    for name in ["crates/bulk", "front/bulk/src", "front/face", "front/.cargo", "docs"] {
         fs::create_dir_all(folder.path(name)).unwrap();
     }
     for name in SOURCES {
@@ -110,7 +114,7 @@ fn a_crate_that_is_not_proved_is_told() {
     house.put("fail", "");
     let said = run(&house, &["judge", "x"], "C");
     assert_eq!((said.status, said.out.as_str()), (2, ""));
-    assert!(said.err.contains("rt: bulk NOT PROVED\n"), "{}", said.err);
+    assert!(said.err.contains("logic=not-proved\n"), "{}", said.err);
     assert!(said.err.contains("bulk: The library could not be proved. See "), "{}", said.err);
     let said = run(&house, &["--de", "judge", "x"], "C");
     assert!(
