@@ -14,4 +14,4 @@ days_before-requires c = stamp_date _ c.requires.1
 
 pub returns : goal.returns
 unfolding as_written
-returns c = (rw (c.days_before.ensures.value, c.seconds_before.ensures.value), omega arith)
+returns c = record { value = rw (c.days_before.ensures.value, c.seconds_before.ensures.value); lower_bound = omega arith }

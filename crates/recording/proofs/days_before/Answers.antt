@@ -1,14 +1,15 @@
 -- `recording::days_before` meets its contract.
 use native.Mathlib.Omega.{arith}
+use mathlib.Core.Path.{◌≡◌}
+use mathlib.Core.List.{List}
+use Prim.Native.Nat.{ℕ}
+use Rattle.text.specs.Truth.{part}
+use Rattle.text.specs.Quoted.{decimal}
 use Rattle.recording.proofs.Stamps.{long_date, year_in, month_in, day_in, Halves, year_is, days_are}
 use Rattle.recording.proofs.days_before.Goals as goal
 
-halves : (c : tie.After-two-at4)
-    → Halves c.before.before.before.before.before.args.s.now
-    c.before.before.before.two_at.result c.before.before.two-at2.result c.before.two-at3.result c.two-at4.result
-halves c =
-    let b = c.before.before in
-    record { before = b.before.two_at.ensures.0; behind = b.two-at2.ensures.0; month_read = c.before.two-at3.ensures.0; day_read = c.two-at4.ensures.0 }
+halves : {s : List ℕ} {a b m d : ℕ} → a ≡ decimal (part 0 2 s) → b ≡ decimal (part 2 2 s) → m ≡ decimal (part 5 2 s) → d ≡ decimal (part 8 2 s) → Halves s a b m d
+halves p q u v = record { before = p; behind = q; month_read = u; day_read = v }
 
 pub two_at-requires : goal.two_at-requires
 two_at-requires c = omega (arith, long_date _ c.requires)
@@ -23,14 +24,14 @@ pub two_at-d-requires : goal.two_at-d-requires
 two_at-d-requires c = omega (arith, long_date _ c.requires)
 
 pub overflow_sub-y : goal.overflow_sub-y
-overflow_sub-y c = omega (arith, year_in _ c.requires, year_is _ c.requires (halves c))
+overflow_sub-y c = omega (arith, year_in _ c.requires, year_is _ c.requires (halves c.two_at.ensures.value c.two_at-2.ensures.value c.two_at-m.ensures.value c.two_at-d.ensures.value))
 
 pub months_days-requires : goal.months_days-requires
 months_days-requires c =
     let e = c.requires in
     let y = year_in _ e in
     let m = month_in _ e in
-    let l = halves c.before in
+    let l = halves c.two_at.ensures.value c.two_at-2.ensures.value c.two_at-m.ensures.value c.two_at-d.ensures.value in
     let k = year_is _ e l in
     (omega arith, omega arith, omega arith, omega arith)
 
@@ -39,4 +40,5 @@ overflow_sub-result c = omega (arith, day_in _ c.requires)
 
 pub returns : goal.returns
 returns c =
-    (days_are _ c.requires (halves k) _ _ c.years_days.ensures.value c.months_days.ensures.value, omega arith)
+    let l = halves c.two_at.ensures.value c.two_at-2.ensures.value c.two_at-m.ensures.value c.two_at-d.ensures.value in
+    record { value = days_are _ c.requires l _ _ c.years_days.ensures.value c.months_days.ensures.value; upper_bound = omega arith }

@@ -5,7 +5,7 @@ use Rattle.recording.proofs.months_days.Goals as goal
 
 pub returns-then-m-lt3 : goal.returns-then-m-lt3
 returns-then-m-lt3 c =
-    let a = c.args in (months_first a.y a.m (omega arith) c.if-m-lt3.true, omega arith)
+    let a = c.args in record { value = months_first a.y a.m (omega arith) c.if-m-lt3.true; upper_bound = omega arith }
 
 pub overflow_sub-more : goal.overflow_sub-more
 overflow_sub-more c = omega (arith, year_more c.args.y (omega arith))
@@ -19,4 +19,4 @@ returns c =
     let e = months_later a.y a.m (omega arith) (omega arith) (omega arith) in
     let b = months_below a.y a.m (omega arith) (omega arith) in
     let k = year_more a.y (omega arith) in
-    (omega arith, omega arith)
+    record { value = omega arith; upper_bound = omega arith }

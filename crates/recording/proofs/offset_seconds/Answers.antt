@@ -12,4 +12,5 @@ two_at-requires-2 c = omega (arith, long_offset _ c.requires)
 
 pub returns : goal.returns
 unfolding offset_seconds
-returns c = (rw (c.two_at.ensures.value, c.two_at-2.ensures.value), omega (arith, offset_most _ c.requires))
+returns c =
+    record { value = rw (c.two_at.ensures.value, c.two_at-2.ensures.value); upper_bound = omega (arith, offset_most _ c.requires) }

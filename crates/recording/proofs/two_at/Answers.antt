@@ -9,9 +9,7 @@ use Rattle.recording.proofs.two_at.Goals as goal
 pub returns : goal.returns
 unfolding decimal
 returns c =
-    let k = c.shared_slice_known-3-1.given in
+    let k = c.type_inv.s in
     let a = c.args in
-    let e = c.pair.ensures in (
-      e ∙ ap decimal (sym (two_at a.s.now a.i c.requires)),
-      omega (arith, e, k a.i, k (a.i + 1)),
-    )
+    let e = c.pair.ensures in
+    record { value = e ∙ ap decimal (sym (two_at a.s.now a.i c.requires)); upper_bound = omega (arith, e, k a.i, k (a.i + 1)) }

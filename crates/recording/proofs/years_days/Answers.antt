@@ -5,4 +5,4 @@ use Rattle.recording.proofs.years_days.Goals as goal
 
 pub returns : goal.returns
 returns c =
-    let n = c.args.n in (omega (arith, years_sum n), omega (arith, years_sum n))
+    let n = c.args.n in record { value = omega (arith, years_sum n); upper_bound = omega (arith, years_sum n) }
