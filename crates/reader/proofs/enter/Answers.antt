@@ -17,12 +17,11 @@ returns-then-is_amount c =
     let a = c.args in
     let the-pre = c.requires in
     let the-begin = c.begin-first in
-    let the-enum-told = c.enum_told-1 in
     let the-width-of = c.width_of in
     let the-at-place = c.at_place-t in
     enters_amount a.m.now a.st.at a.st.notes the-pre.0 (occ_of a.r.occ) (mark_name a.r.mark) (amount_kind a.r.kind) (width a.r) the-pre.1
     (width_some a.r the-pre.2) (stated the-begin.result.state)
-    (ap (λ x. met_in x the-begin.result.state) (sym the-enum-told.given.1) ∙ the-begin.ensures) (stated the-at-place.result) the-width-of.result
+    (ap (λ x. met_in x the-begin.result.state) (sym c.in-On.is) ∙ the-begin.ensures) (stated the-at-place.result) the-width-of.result
     the-width-of.ensures the-at-place.ensures (sym c.is_amount.ensures ∙ c.if-is_amount.true)
     (stepped c.check_currency.result) c.check_currency.ensures
 
@@ -40,11 +39,10 @@ returns-else-is_amount c =
     let a = c.args in
     let the-pre = c.requires in
     let the-begin = c.begin-first in
-    let the-enum-told = c.enum_told-1 in
     let the-width-of = c.width_of in
     let the-at-place = c.at_place-t in
     enters_plain a.m.now a.st.at a.st.notes the-pre.0 (occ_of a.r.occ) (mark_name a.r.mark) (amount_kind a.r.kind) (width a.r) the-pre.1
     (width_some a.r the-pre.2) (stated the-begin.result.state)
-    (ap (λ x. met_in x the-begin.result.state) (sym the-enum-told.given.1) ∙ the-begin.ensures) (stated the-at-place.result) the-width-of.result
+    (ap (λ x. met_in x the-begin.result.state) (sym c.in-On.is) ∙ the-begin.ensures) (stated the-at-place.result) the-width-of.result
     the-width-of.ensures the-at-place.ensures (sym c.is_amount.ensures ∙ c.if-is_amount.false)
     (stepped c.read_on.result) c.read_on.ensures
