@@ -23,9 +23,8 @@ pub returns-in-Whole : goal.returns-in-Whole
 returns-in-Whole c =
     let the-pre = c.requires in
     let the-text-at = c.text_at in
-    let the-enum-told = c.enum_told-1 in
     let a = c.args in
-    closed_whole a.m.now a.st.at a.st.notes (exactly a.finish.now) the-pre the-text-at.result the-text-at.ensures the-enum-told.given.1 (length a.finish.now)
+    closed_whole a.m.now a.st.at a.st.notes (exactly a.finish.now) the-pre the-text-at.result the-text-at.ensures c.in-Whole.is (length a.finish.now)
     (sym (exactly_length a.finish.now)) (stepped c.read_on.result)
     (c.read_on.ensures ∙ ap on c.at_place.ensures)
 

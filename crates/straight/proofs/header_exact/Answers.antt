@@ -18,7 +18,7 @@ shape_of-places c =
     let the-then-type = c.then_type-c in
     let the-then-one = c.then_one-b in
     let the-header-first = c.header_first-a in
-    the-agent.auto.1.1.1.1.1.1.0 ∙ (the-then-type.auto.1.1.0 ∙ (the-then-one.auto.1.1.1.1.1.1.1.1.0 ∙ the-header-first.auto.1.1.0))
+    the-agent.auto.places ∙ (the-then-type.auto.places ∙ (the-then-one.auto.places ∙ the-header-first.auto.places))
 
 pub returns : goal.returns
 returns c =

@@ -16,8 +16,8 @@ shape_of-places c =
     let the-then-leaf3 = c.then_leaf-c in
     let the-then-leaf2 = c.then_leaf-b in
     let the-then-leaf = c.then_leaf-a in
-    the-then-leaf4.auto.1.1.1.1.1.1.1.0 ∙ (the-total.auto.1.1.0 ∙ (the-then-leaf3.auto.1.1.1.1.1.1.1.0
-    ∙ (the-then-leaf2.auto.1.1.1.1.1.1.1.0 ∙ the-then-leaf.auto.1.1.1.1.1.1.1.0)))
+    the-then-leaf4.auto.places ∙ (the-total.auto.places ∙ (the-then-leaf3.auto.places
+    ∙ (the-then-leaf2.auto.places ∙ the-then-leaf.auto.places)))
 
 pub returns : goal.returns
 returns c =

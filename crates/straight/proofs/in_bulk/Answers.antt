@@ -41,7 +41,7 @@ pub shape_of-places : goal.shape_of-places
 shape_of-places c =
     let the-then-first = c.then_first-c in
     let the-header-exact = c.header_exact-b in
-    c.more_items.auto.1.1.1.0 ∙ (the-then-first.auto.1.1.1.0 ∙ the-header-exact.auto.1.1.1.0)
+    c.more_items.auto.places ∙ (the-then-first.auto.places ∙ the-header-exact.auto.places)
 
 pub returns : goal.returns
 returns c =

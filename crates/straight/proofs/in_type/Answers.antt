@@ -15,7 +15,7 @@ shape_of-places c =
     let the-then-one = c.then_one-a in
     let the-then-one2 = c.then_one-b in
     let the-then-leaf = c.then_leaf-c in
-    the-then-leaf.auto.1.1.1.1.1.1.1.0 ∙ (the-then-one2.auto.1.1.1.1.1.1.1.1.0 ∙ the-then-one.auto.1.1.1.1.1.1.1.1.0)
+    the-then-leaf.auto.places ∙ (the-then-one2.auto.places ∙ the-then-one.auto.places)
 
 pub returns : goal.returns
 returns c =

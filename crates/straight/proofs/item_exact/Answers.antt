@@ -10,8 +10,8 @@ use Rattle.straight.proofs.item_exact.Goals as goal
 
 pub shape_of-places : goal.shape_of-places
 shape_of-places c =
-    c.item_last.auto.1.1.1.0 ∙ (c.item_parties-b.auto.1.1.1.0
-    ∙ c.item_head-a.auto.1.1.0)
+    c.item_last.auto.places ∙ (c.item_parties-b.auto.places
+    ∙ c.item_head-a.auto.places)
 
 pub returns : goal.returns
 returns c =

@@ -33,7 +33,7 @@ shape_of-places c =
     let the-amount = c.amount-d in
     let the-then-type = c.then_type-c in
     let the-then-payment = c.then_payment-b in
-    the-then-leaf2.auto.1.1.1.1.1.1.1.0 ∙ (the-then-leaf.auto.1.1.1.1.1.1.1.0 ∙ (the-amount.auto.1.1.0 ∙ (the-then-type.auto.1.1.0 ∙ the-then-payment.auto.1.1.0)))
+    the-then-leaf2.auto.places ∙ (the-then-leaf.auto.places ∙ (the-amount.auto.places ∙ (the-then-type.auto.places ∙ the-then-payment.auto.places)))
 
 pub returns : goal.returns
 returns c =

@@ -12,8 +12,8 @@ use Rattle.straight.proofs.item_last.Goals as goal
 
 pub shape_of-places : goal.shape_of-places
 shape_of-places c =
-    c.then_may-b.auto.1.1.1.1.1.1.1.1.0
-    ∙ c.agent-a.auto.1.1.1.1.1.1.0
+    c.then_may-b.auto.places
+    ∙ c.agent-a.auto.places
 
 pub returns : goal.returns
 returns c =

@@ -17,8 +17,8 @@ shape_of-places c =
     let the-then-two = c.then_two-c in
     let the-then-one = c.then_one-b in
     let the-direct-debit = c.direct_debit-a in
-    the-then-two2.auto.1.1.1.1.1.1.1.1.1.1.0 ∙ (the-then-one2.auto.1.1.1.1.1.1.1.1.0
-    ∙ (the-agent.auto.1.1.1.1.1.1.0 ∙ (the-then-two.auto.1.1.1.1.1.1.1.1.1.1.0 ∙ (the-then-one.auto.1.1.1.1.1.1.1.1.0 ∙ the-direct-debit.auto.1.1.0))))
+    the-then-two2.auto.places ∙ (the-then-one2.auto.places
+    ∙ (the-agent.auto.places ∙ (the-then-two.auto.places ∙ (the-then-one.auto.places ∙ the-direct-debit.auto.places))))
 
 pub returns : goal.returns
 returns c =

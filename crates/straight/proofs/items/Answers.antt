@@ -57,7 +57,7 @@ pub loop-i-preserved : goal.loop-i-preserved
 loop-i-preserved c =
     let l = c.loop-i in
     let o = c.one_row-r in
-    let n = row_goes l.invariant.0 c.loop-i-test.true o.result.read (not-false _ c.if-not-r.false) o.result.at _ o.ensures.0 o.auto.1.1.1.0 in
+    let n = row_goes l.invariant.0 c.loop-i-test.true o.result.read (not-false _ c.if-not-r.false) o.result.at _ o.ensures.0 o.auto.row in
     (n.0, n.1, o.ensures.1)
 
 pub shape_of-rows : goal.shape_of-rows

@@ -64,12 +64,11 @@ overflow_cast-at c =
 pub value-requires : goal.value-requires
 value-requires c =
     let the-pre = c.requires in
-    let the-enum-told = c.enum_told-1 in
     let a = c.args in
     let b = c.spaces in
     let t = c.text_at in (
       start_good a.m.now a.st.at a.st.notes the-pre.0 a.may a.start.now a.finish.now a.k a.f b.result b.ensures t.result t.ensures
-          the-enum-told.given.1 (stated c.at_place.result) c.at_place.ensures,
+          c.in-Whole.is (stated c.at_place.result) c.at_place.ensures,
       the-pre.1,
     )
 
@@ -87,25 +86,23 @@ overflow_cast-at-then-may c =
 pub returns-then-may : goal.returns-then-may
 returns-then-may c =
     let the-pre = c.requires in
-    let the-enum-told3 = c.enum_told-in-Other-1 in
     let the-if1 = c.if-may in
     let a = c.args in
     let b = c.spaces in
     let t = c.text_at in
     leaf_passed a.m.now a.st.at a.st.notes the-pre.0 a.may a.start.now a.finish.now a.k a.f b.result b.ensures t.result t.ensures
-    the-enum-told3.given.1 the-if1.true a.places.now (stepped c.read_on.result) (c.read_on.ensures ∙ ap on c.at_place-then-may.ensures)
+    c.in-Other.is the-if1.true a.places.now (stepped c.read_on.result) (c.read_on.ensures ∙ ap on c.at_place-then-may.ensures)
 
 pub returns-in-Whole : goal.returns-in-Whole
 returns-in-Whole c =
     let the-pre = c.requires in
-    let the-enum-told = c.enum_told-1 in
     let the-at-place = c.at_place in
     let the_value = c.value in
     let a = c.args in
     let b = c.spaces in
     let t = c.text_at in
     leaf_whole a.m.now a.st.at a.st.notes the-pre.0 a.may a.start.now a.finish.now a.k a.f b.result b.ensures t.result t.ensures
-    the-enum-told.given.1 (stated the-at-place.result) the-at-place.ensures a.places.now (stepped the_value.result) _ the_value.ensures
+    c.in-Whole.is (stated the-at-place.result) the-at-place.ensures a.places.now (stepped the_value.result) _ the_value.ensures
 
 pub returns-in-Cut : goal.returns-in-Cut
 returns-in-Cut c =
@@ -118,9 +115,8 @@ returns-in-Cut c =
 pub returns-else-may : goal.returns-else-may
 returns-else-may c =
     let the-pre = c.requires in
-    let the-enum-told3 = c.enum_told-in-Other-1 in
     let a = c.args in
     let b = c.spaces in
     let t = c.text_at in
     leaf_missing a.m.now a.st.at a.st.notes the-pre.0 a.may a.start.now a.finish.now a.k a.f b.result b.ensures t.result t.ensures
-    the-enum-told3.given.1 c.if-may.false a.places.now (stepped c.refuse-in-Other.result) c.refuse-in-Other.ensures
+    c.in-Other.is c.if-may.false a.places.now (stepped c.refuse-in-Other.result) c.refuse-in-Other.ensures

@@ -37,11 +37,10 @@ pub inside-requires : goal.inside-requires
 inside-requires c =
     let the-pre = c.requires in
     let the-seek = c.seek-s in
-    let the-enum-told = c.enum_told-1 in
     let a = c.args in (
       good_there a.m.now a.st.at a.st.notes the-pre.0 (exactly a.s1.now) the-seek.result.at the-seek.ensures.0 the-seek.ensures.1 the-seek.result.look
           the-seek.ensures.2 (the-seek.result.at + length a.s1.now) (start_within a.m.now a.st.at a.st.notes the-pre.0 (exactly a.s1.now) the-seek.result.at
-          the-seek.ensures.0 the-seek.ensures.1 the-seek.result.look the-seek.ensures.2 a.s1.now refl the-enum-told.given.1) (stated c.at_place.result)
+          the-seek.ensures.0 the-seek.ensures.1 the-seek.result.look the-seek.ensures.2 a.s1.now refl c.in-Whole.is) (stated c.at_place.result)
           c.at_place.ensures,
       the-pre.1,
     )
@@ -54,12 +53,11 @@ unfolding may_of
 returns-in-Whole c =
     let the-pre = c.requires in
     let the-seek = c.seek-s in
-    let the-enum-told = c.enum_told-1 in
     let the-at-place = c.at_place in
     let TheInside = c.inside in
     let a = c.args in
     by_whole a.m.now a.st.at a.st.notes the-pre.0 (exactly a.s1.now) the-seek.result.at the-seek.ensures.0 the-seek.ensures.1 the-seek.result.look
-    the-seek.ensures.2 (λ q. inside_of a.s2.now a.e2.now a.e1.now a.k a.f a.m.now (q + length a.s1.now)) up_to a.places.now the-enum-told.given.1 0
+    the-seek.ensures.2 (λ q. inside_of a.s2.now a.e2.now a.e1.now a.k a.f a.m.now (q + length a.s1.now)) up_to a.places.now c.in-Whole.is 0
     (stepped TheInside.result) _
     (makes_at a.m.now 0 (inside_of a.s2.now a.e2.now a.e1.now a.k a.f a.m.now) (stated the-at-place.result) (the-seek.result.at + length a.s1.now)
     a.st.notes the-at-place.ensures
@@ -81,8 +79,7 @@ unfolding may_of
 returns-in-Other c =
     let the-pre = c.requires in
     let the-seek = c.seek-s in
-    let the-enum-told3 = c.enum_told-in-Other-1 in
     let a = c.args in
     by_passed a.m.now a.st.at a.st.notes the-pre.0 (exactly a.s1.now) the-seek.result.at the-seek.ensures.0 the-seek.ensures.1 the-seek.result.look
-    the-seek.ensures.2 (λ q. inside_of a.s2.now a.e2.now a.e1.now a.k a.f a.m.now (q + length a.s1.now)) up_to a.places.now the-enum-told3.given.1
+    the-seek.ensures.2 (λ q. inside_of a.s2.now a.e2.now a.e1.now a.k a.f a.m.now (q + length a.s1.now)) up_to a.places.now c.in-Other.is
     (λ z. refl) (stepped c.read_on.result) (c.read_on.ensures ∙ ap on c.at_place-in-Other.ensures)

@@ -117,7 +117,7 @@ loop-left-preserved c =
     let p = c.at_place-in-Whole in
     let x = c.exact_item-s in (
       loop_next _ _ _ _ _ _ _ _ n u refl r.ensures.1 n.fine.0 f.result.at f.ensures.0 f.ensures.1 f.result.look f.ensures.2
-          c.in-Whole.is (stated p.result) p.ensures (stepped x.result) _ x.ensures x.auto.1.1.1.0,
+          c.in-Whole.is (stated p.result) p.ensures (stepped x.result) _ x.ensures x.auto.places,
       r.ensures.3,
     )
 

@@ -34,10 +34,9 @@ pub returns-in-Whole : goal.returns-in-Whole
 returns-in-Whole c =
     let the-pre = c.requires in
     let the-seek = c.seek-s in
-    let the-enum-told = c.enum_told-1 in
     let a = c.args in
     open_whole a.m.now a.st.at a.st.notes the-pre (exactly a.start.now) the-seek.result.at the-seek.ensures.0 the-seek.ensures.1 the-seek.result.look
-    the-seek.ensures.2 a.start.now refl the-enum-told.given.1 (stepped c.read_on.result) (c.read_on.ensures ∙ ap on c.at_place.ensures)
+    the-seek.ensures.2 a.start.now refl c.in-Whole.is (stepped c.read_on.result) (c.read_on.ensures ∙ ap on c.at_place.ensures)
 
 pub returns-in-Cut : goal.returns-in-Cut
 returns-in-Cut c =

@@ -22,7 +22,7 @@ shape_of-places c =
     let the-leaf = c.leaf-a in
     let the-then-leaf = c.then_leaf-b in
     let the-then-leaf2 = c.then_leaf-c in
-    the-then-leaf2.auto.1.1.1.1.1.1.1.0 ∙ (the-then-leaf.auto.1.1.1.1.1.1.1.0 ∙ the-leaf.auto.1.1.1.1.1.1.1.0)
+    the-then-leaf2.auto.places ∙ (the-then-leaf.auto.places ∙ the-leaf.auto.places)
 
 pub returns : goal.returns
 returns c =

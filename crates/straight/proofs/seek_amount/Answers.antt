@@ -30,11 +30,10 @@ slice_bounds-currency_at-start c =
 pub returns-in-Whole : goal.returns-in-Whole
 returns-in-Whole c =
     let the-seek = c.seek-s in
-    let the-enum-told = c.enum_told-1 in
     let a = c.args in (
       the-seek.ensures.0,
       the-seek.ensures.1,
-      amount_looks a.m.now a.start.now the-seek.result.at the-seek.result.look the-seek.ensures.2 the-enum-told.given.1
+      amount_looks a.m.now a.start.now the-seek.result.at the-seek.result.look the-seek.ensures.2 c.in-Whole.is
           c.currency_at-look.result c.currency_at-look.ensures,
     )
 

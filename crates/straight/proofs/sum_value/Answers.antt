@@ -34,12 +34,11 @@ pub overflow_add-s : goal.overflow_add-s
 overflow_add-s c =
     let the-pre = c.requires in
     let the-if1 = c.if-e-m in
-    let the-enum-told = c.enum_told-1 in
     let a = c.args in
     let u = c.upto in
     let n = c.note-n in
     let s = stated n.result.state in
-    let w = ap (λ x. met_in x n.result.state) (sym the-enum-told.given.1) ∙ n.ensures in
+    let w = ap (λ x. met_in x n.result.state) (sym c.in-On.is) ∙ n.ensures in
     omega (arith, value_sum a.m.now a.st.at a.st.notes the-pre.0 (exactly a.finish.now) Amount a.f u.result u.ensures the-if1.false s w the-pre.1)
 
 pub overflow_cast-e : goal.overflow_cast-e
@@ -53,12 +52,11 @@ pub close-requires : goal.close-requires
 close-requires c =
     let the-pre = c.requires in
     let the-if1 = c.if-e-m in
-    let the-enum-told = c.enum_told-1 in
     let a = c.args in
     let u = c.upto in
     let n = c.note-n in
     let s = stated n.result.state in
-    let w = ap (λ x. met_in x n.result.state) (sym the-enum-told.given.1) ∙ n.ensures in
+    let w = ap (λ x. met_in x n.result.state) (sym c.in-On.is) ∙ n.ensures in
     rw c.at_place.ensures (value_good a.m.now a.st.at a.st.notes the-pre.0 (exactly a.finish.now) Amount a.f u.result u.ensures the-if1.false s w
     (stated c.with_sum-t.result) c.with_sum-t.ensures)
 
@@ -66,11 +64,10 @@ pub returns-in-Stopped : goal.returns-in-Stopped
 returns-in-Stopped c =
     let the-pre = c.requires in
     let the-if1 = c.if-e-m in
-    let the-met = c.met-1 in
     let a = c.args in
     let u = c.upto in
     let n = c.note-n in
-    let w = ap (λ x. met_in x n.result.state) (sym the-met.given.1) ∙ n.ensures in
+    let w = ap (λ x. met_in x n.result.state) (sym c.in-Stopped.is) ∙ n.ensures in
     let y = value_stops a.m.now a.st.at a.st.notes the-pre.0 (exactly a.finish.now) Amount a.f u.result u.ensures the-if1.false _ _ w
     (stepped c.refuse-in-Stopped.result) c.refuse-in-Stopped.ensures in
     (y.0, y.1, stops_placed a.m.now a.st.at a.st.notes the-pre.0 (exactly a.finish.now) Amount a.f u.result u.ensures the-if1.false _ _ w a.places.now)
@@ -79,14 +76,13 @@ pub returns-in-On : goal.returns-in-On
 returns-in-On c =
     let the-pre = c.requires in
     let the-if1 = c.if-e-m in
-    let the-enum-told = c.enum_told-1 in
     let the-file = c.file in
     let the-with-sum = c.with_sum-t in
     let a = c.args in
     let u = c.upto in
     let n = c.note-n in
     let s = stated n.result.state in
-    let w = ap (λ x. met_in x n.result.state) (sym the-enum-told.given.1) ∙ n.ensures in
+    let w = ap (λ x. met_in x n.result.state) (sym c.in-On.is) ∙ n.ensures in
     let y = value_closes a.m.now a.st.at a.st.notes the-pre.0 (exactly a.finish.now) Amount a.f u.result u.ensures the-if1.false s w
     (stated the-with-sum.result) the-with-sum.ensures (stated c.at_place.result) c.at_place.ensures (stepped c.close.result) c.close.ensures.0
     c.close.ensures.1 in (

@@ -112,7 +112,7 @@ loop-left-preserved c =
     let f = c.file in (
       swift_next x l.places (stated n.result) _
           (held_makes m i.result y.notes a.v r.result x.good r.ensures.1 r.ensures.2 r.ensures.3 c.if-back-eq0.false (stated n.result) n.ensures
-          (on (stated n.result)) refl l.places _ f.ensures) a.most (on (stated a.st)) a.places.now l.left l.invariant.0 c.loop-left-test.true f.auto.1.1.0,
+          (on (stated n.result)) refl l.places _ f.ensures) a.most (on (stated a.st)) a.places.now l.left l.invariant.0 c.loop-left-test.true f.auto.places,
       omega (arith, c.loop-left-test.true),
       omega (arith, l.invariant.2),
       r.ensures.4,

@@ -30,8 +30,7 @@ pub returns-in-On : goal.returns-in-On
 returns-in-On c =
     let the-args = c.args in
     let the-pre = c.requires in
-    let the-enum-told = c.enum_told-1 in
     let the-first-item = c.first_item in
     let b = the-args.before in
     then_on the-args.m.now (stepped b) (due_item the-args.v the-args.m.now) the-pre.0 the-args.places.now (stated b.state)
-    (ap (λ x. met_in x b.state) (sym the-enum-told.given.1)) 0 (stepped the-first-item.result) _ the-first-item.ensures
+    (ap (λ x. met_in x b.state) (sym c.in-On.is)) 0 (stepped the-first-item.result) _ the-first-item.ensures

@@ -26,9 +26,8 @@ returns-in-Stopped c =
 pub returns-in-On : goal.returns-in-On
 returns-in-On c =
     let the-pre = c.requires in
-    let the-enum-told = c.enum_told-1 in
     let the-may-one = c.may_one in
     let a = c.args in
     let b = a.before in
     then_on a.m.now (stepped b) (may_of a.s1.now a.s2.now a.e2.now a.e1.now a.k a.f a.m.now) the-pre.0 a.places.now (stated b.state)
-    (ap (λ x. met_in x b.state) (sym the-enum-told.given.1)) 0 (stepped the-may-one.result) _ the-may-one.ensures
+    (ap (λ x. met_in x b.state) (sym c.in-On.is)) 0 (stepped the-may-one.result) _ the-may-one.ensures

@@ -26,9 +26,8 @@ returns-in-Stopped c =
 pub returns-in-On : goal.returns-in-On
 returns-in-On c =
     let the-pre = c.requires in
-    let the-enum-told = c.enum_told-1 in
     let the_value = c.value in
     let a = c.args in
     let b = a.before in
     then_on a.m.now (stepped b) (valued_by (exactly a.finish.now) a.k a.f a.m.now) the-pre.0 a.places.now (stated b.state)
-    (ap (λ x. met_in x b.state) (sym the-enum-told.given.1)) b.state.at (stepped the_value.result) _ the_value.ensures
+    (ap (λ x. met_in x b.state) (sym c.in-On.is)) b.state.at (stepped the_value.result) _ the_value.ensures

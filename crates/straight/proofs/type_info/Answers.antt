@@ -18,18 +18,16 @@ pub after-requires : goal.after-requires
 after-requires c =
     let the-pre = c.requires in
     let the-seek = c.seek-s in
-    let the-enum-told = c.enum_told-1 in
     let a = c.args in
     let q = the-seek.result.at in
     let w : q + 10 ≤ length a.m.now = start_within a.m.now a.st.at a.st.notes the-pre (exactly (plain_tag type_name)) q the-seek.ensures.0 the-seek.ensures.1
-    the-seek.result.look the-seek.ensures.2 (plain_tag type_name) refl the-enum-told.given.1 in
+    the-seek.result.look the-seek.ensures.2 (plain_tag type_name) refl c.in-Whole.is in
     omega (arith, w, the-pre.small)
 
 pub in_type-requires : goal.in_type-requires
 in_type-requires c =
     let the-pre = c.requires in
     let the-seek = c.seek-s in
-    let the-enum-told = c.enum_told-1 in
     let the-at-place = c.at_place in
     let the-say-type = c.say_type in
     let a = c.args in
@@ -40,14 +38,13 @@ in_type-requires c =
     the-seek.result.look the-seek.ensures.2 q the-seek.ensures.1 (here q a.st.notes) refl) true) in
     after_fine a.m.now q (q + 10) (stepped the-say-type.result) (stepped c.after.result) f
     (start_within a.m.now a.st.at a.st.notes the-pre (exactly (plain_tag type_name)) q the-seek.ensures.0 the-seek.ensures.1 the-seek.result.look the-seek.ensures.2
-    (plain_tag type_name) refl the-enum-told.given.1) c.after.ensures
+    (plain_tag type_name) refl c.in-Whole.is) c.after.ensures
 
 pub returns-in-Whole : goal.returns-in-Whole
 unfolding type_of
 returns-in-Whole c =
     let the-pre = c.requires in
     let the-seek = c.seek-s in
-    let the-enum-told = c.enum_told-1 in
     let the-at-place = c.at_place in
     let the-say-type = c.say_type in
     let the-after = c.after in
@@ -55,7 +52,7 @@ returns-in-Whole c =
     let a = c.args in
     let q = the-seek.result.at in
     by_whole a.m.now a.st.at a.st.notes the-pre (exactly (plain_tag type_name)) q the-seek.ensures.0 the-seek.ensures.1 the-seek.result.look the-seek.ensures.2
-    (λ q. met (there type_name at q) (in_type_of a.m.now (q + length (plain_tag type_name)))) (λ q. met (absent type_name at q) (up_to q)) a.places.now the-enum-told.given.1 0
+    (λ q. met (there type_name at q) (in_type_of a.m.now (q + length (plain_tag type_name)))) (λ q. met (absent type_name at q) (up_to q)) a.places.now c.in-Whole.is 0
     (stepped the-in-type.result) _
     (type_there a.m.now q a.st.notes a.places.now (q + 10) (stepped the-say-type.result)
     (the-say-type.ensures ∙ ap (λ (s : Ended Notes). staying s.at (type_noted true s.at s.notes)) the-at-place.ensures) (stepped the-after.result) the-after.ensures
@@ -78,11 +75,10 @@ unfolding type_of
 returns-in-Other c =
     let the-pre = c.requires in
     let the-seek = c.seek-s in
-    let the-enum-told3 = c.enum_told-in-Other-1 in
     let a = c.args in
     let q = the-seek.result.at in
     by_other a.m.now a.st.at a.st.notes the-pre (exactly (plain_tag type_name)) q the-seek.ensures.0 the-seek.ensures.1 the-seek.result.look the-seek.ensures.2
-    (λ q. met (there type_name at q) (in_type_of a.m.now (q + length (plain_tag type_name)))) (λ q. met (absent type_name at q) (up_to q)) a.places.now the-enum-told3.given.1 q
+    (λ q. met (there type_name at q) (in_type_of a.m.now (q + length (plain_tag type_name)))) (λ q. met (absent type_name at q) (up_to q)) a.places.now c.in-Other.is q
     (stepped c.say_type-in-Other.result) a.places.now
     (type_absent a.m.now q a.st.notes a.places.now (good_there a.m.now a.st.at a.st.notes the-pre (exactly (plain_tag type_name)) q the-seek.ensures.0
     the-seek.ensures.1 the-seek.result.look the-seek.ensures.2 q the-seek.ensures.1 (here q a.st.notes) refl) (stepped c.say_type-in-Other.result)

@@ -11,4 +11,4 @@ pub returns : goal.returns
 returns c =
     let a = c.args in
     let d = c.wrapping_sub_u64-d.result in
-    words_alike a.m.now a.p a.t.now a.i c.word.result c.word-2.result d (count_trailing_zeros 64 d / 8) c.word.ensures c.word-2.ensures c.wrapping_sub_u64-d.ensures refl
+    words_alike a.m.now a.p a.t.now a.i c.word.result c.word-2.result d (count_trailing_zeros 64 d / 8) c.word.ensures c.word-2.ensures c.wrapping_sub_u64-d.ensures.value refl

@@ -1,6 +1,5 @@
 -- `straight::quick::same_wide` meets its contract.
 use Rattle.std.proofs.Common.{◌-◌, arith}
-use borrow.Author.Tests.{not-false}
 use Rattle.swift_values.proofs.Lanes.{unlike}
 use Rattle.straight.proofs.Words.{match_join, match_none}
 use Rattle.straight.proofs.quick.same_wide.Goals as goal
@@ -12,7 +11,7 @@ pub returns-then-not-same_block : goal.returns-then-not-same_block
 returns-then-not-same_block c = λ e. unlike e
 
 pub loop-i-preserved : goal.loop-i-preserved
-loop-i-preserved c = (omega arith, match_join _ _ _ _ c.loop-i.i c.loop-i.i 64 c.loop-i.invariant.1 (c.same_block.ensures (not-false _ c.if-not-same_block.false)) (omega arith) _ (omega arith))
+loop-i-preserved c = (omega arith, match_join _ _ _ _ c.loop-i.i c.loop-i.i 64 c.loop-i.invariant.1 (c.same_block.ensures c.if-not-same_block.false) (omega arith) _ (omega arith))
 
 pub returns : goal.returns
 returns c = λ e. match_join _ _ _ _ _ c.loop-i.i 64 c.loop-i.invariant.1 (c.same_block-2.ensures e) (omega arith) _ (omega arith)

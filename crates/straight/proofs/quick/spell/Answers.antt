@@ -1,7 +1,6 @@
 -- `straight::quick::spell` meets its contract.
 use Rattle.std.proofs.Common.{◌≡◌, ℕ, ◌+◌, ◌-◌, ◌<◌, ◌≤◌, List, length, take, drop, ap, ◌∙◌, arith, length-drop}
 use Rattle.text.proofs.Scan.{rest_of}
-use borrow.Author.Tests.{not-false}
 use Rattle.straight.specs.Spelled.{Spelled}
 use Rattle.swift_values.proofs.Values.{found}
 use Rattle.straight.proofs.Spelled.{sofar_none, sofar_all, sofar_turn, sofar_then}
@@ -22,7 +21,7 @@ pub by_bytes-requires : goal.by_bytes-requires
 by_bytes-requires c =
     let a = c.args in
     let l = c.loop-i in
-    (l.invariant.0.within, rest_some a.text.now l.i (omega (arith, c.before.before.before.before.before)))
+    (l.invariant.0.within, rest_some a.text.now l.i (omega arith))
 
 pub returns-then-w-ge19 : goal.returns-then-w-ge19
 returns-then-w-ge19 c =
@@ -57,7 +56,7 @@ pub loop-i-smaller : goal.loop-i-smaller
 loop-i-smaller c =
     let w = c.white_before-w in
     let same = c.same_tag in
-    omega (arith, w.ensures.0, (w.ensures.1 (omega (arith, c.if-w-ge19.false))).0, (same.ensures (not-false same.result c.if-not-same_tag.false)).0)
+    omega (arith, w.ensures.0, (w.ensures.1 (omega (arith, c.if-w-ge19.false))).0, (same.ensures c.if-not-same_tag.false).0)
 
 pub loop-i-preserved : goal.loop-i-preserved
 loop-i-preserved c =
@@ -67,7 +66,7 @@ loop-i-preserved c =
     let w = c.white_before-w in
     let f = w.ensures.1 (omega (arith, c.if-w-ge19.false)) in
     let same = c.same_tag in
-    let k = same.ensures (not-false same.result c.if-not-same_tag.false) in
+    let k = same.ensures c.if-not-same_tag.false in
     let g : l.i + n.result ≤ length a.text.now = omega (arith, n.ensures, l.invariant.3) in (
       sofar_turn a.m.now a.at a.text.now l.i l.p w.result n.result l.invariant.0 (omega (arith, c.loop-i-test)) f.1 f.2 k.1 g (omega (arith, f.0, w.ensures.0)),
       l.invariant.1,

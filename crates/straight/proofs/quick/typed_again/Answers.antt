@@ -1,6 +1,5 @@
 -- `straight::quick::typed_again` meets its contract.
 use Rattle.std.proofs.Common.{arith}
-use borrow.Author.Tests.{not-false}
 use Rattle.straight.proofs.Kept.{found_reach}
 use Rattle.straight.proofs.quick.typed_again.Goals as goal
 
@@ -43,6 +42,6 @@ returns c =
     let t = found_reach a.m.now a.at _ z.result z.ensures.1 (omega arith) in (
       record { end = z.ensures.0; level = omega (arith, z.ensures.0, t.1); service = omega (arith, z.ensures.0, t.2.1); sequence = omega (arith, z.ensures.0, t.2.2.1); listed = omega (arith, z.ensures.2.listed) },
       z.ensures.1,
-      (λ h. c.may_follow.ensures (not-false _ c.if-not-may_follow.false)),
+      (λ h. c.may_follow.ensures c.if-not-may_follow.false),
       z.ensures.2,
     )

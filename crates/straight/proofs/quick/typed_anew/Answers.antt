@@ -4,7 +4,6 @@ use Rattle.straight.specs.Runs.{tags_at, text_at}
 use Rattle.profile.specs.declared.Field.TheVariants as field
 use Rattle.codes.specs.declared.Element.TheVariants as code
 use Rattle.profile.specs.declared.Kind.TheVariants.{Code}
-use borrow.Author.Tests.{not-false}
 use Rattle.straight.proofs.Ways.{gone_here, gone_value, gone_open}
 use Rattle.straight.proofs.quick.typed_anew.Goals as goal
 
@@ -45,6 +44,6 @@ returns c =
           (gone_value m (Code code.LclInstrm) field.LclInstrm v2.result.worth v2.result.worth r1.result v2.result.at (tags_at 7) r2.result _ z.result refl refl v2.ensures.2 r2.ensures.1
           (gone_value m (Code code.SeqTp) field.SeqTp v3.result.worth 0 r2.result v3.result.at (tags_at 8) z.result [] z.result refl tt v3.ensures.2 z.ensures.1
           (gone_here m z.result z.ensures.0)))),
-      (λ h. c.may_follow.ensures (not-false _ c.if-not-may_follow.false)),
+      (λ h. c.may_follow.ensures c.if-not-may_follow.false),
       z.ensures.2,
     )

@@ -11,4 +11,4 @@ returns-then-m-p c = (omega arith, λ h. absurd (let z : ⊥ = omega arith in z)
 pub returns : goal.returns
 returns c =
     let w = c.blanks_before.ensures in
-    (w.0, λ h. (omega (arith, c.before), w.1, w.2))
+    (w.0, λ h. (omega arith, w.1, w.2))
