@@ -58,7 +58,7 @@ loop-i-preserved c =
     let f = c.item-s in
     let told = c.tell in
     let e = ap (λ x. met_in x f.result.state) c.in-On.is in
-    reads_on c.loop-i.invariant c.loop-i-test.true f.ensures.0 (stated f.result.state) e told.new.0 told.ensures told.auto.0
+    reads_on c.loop-i.invariant c.loop-i-test.true f.ensures.0 (stated f.result.state) e told.new.part told.ensures told.auto.part
 
 pub shape_of-rows : goal.shape_of-rows
 shape_of-rows c = c.loop-i.invariant.long
