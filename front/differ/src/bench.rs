@@ -329,8 +329,8 @@ fn how(machine: &Machine, load: &str, tools: &[String], left_out: &[&str]) -> St
     let library = match std::env::consts::ARCH {
         "x86_64" => "The library is the archive as shipped.".to_string(),
         arch => format!(
-            "Same module, another back end: the library's own LLVM module was compiled for this \
-             machine ({arch}) by the kit's clang. Figures for x86-64 as shipped must be taken on x86-64."
+            "The library is the archive that the kit makes for this machine ({arch}). Figures for \
+             x86-64 as shipped must be taken on x86-64."
         ),
     };
     let outside = match tools.is_empty() {
