@@ -7,7 +7,7 @@ usage: tools/turn_edits.py            at the top of the repository: writes crate
 The first line of docs/PORT.md names that commit. A pair `old:`, `new:` of it is spelled as today by one function of both texts, so that
 they differ today as they did. What `old:` then is must be a line of today's file, standing there once, in the same definition or
 function as before, and each name in `new:` must be written somewhere in that file. `wrong: NAME` and `refused: WHERE`, which only .ci/refused
-reads, become comments, `# wrong: NAME` and `# refused: WHERE`; a proof of a function, `proofs/F/Proof.antt`, becomes `fn F`, since which
+reads, become comments, `# wrong: NAME` and `# refused: WHERE`, and a line `# named: OLD NEW` where the wrong line changes what names a step (NAMED); a proof of a function, `proofs/F/Proof.antt`, becomes `fn F`, since which
 files such a proof has is chance, and a goal in it is named by hand (GOALS). Prints what is to be looked at, and the count.
 """
 
@@ -36,6 +36,16 @@ GOALS = {
     ("table", "debtor_account_as_creditor"): "returns-in-V08",
     ("twice", "index_not_cleared_after"): "returns",
     ("twice", "left_number_taken_for_an_item"): "sought-found-requires",
+}
+# What names the steps below a condition, before and in the edited function.
+NAMED = {
+    ("accounts", "bic_letter_o"): "c-eq79 c-eq48",
+    ("accounts", "check_digits_01"): "n-lt2 n-lt1",
+    ("accounts", "check_digits_99"): "n-gt98 n-gt99",
+    ("accounts", "iban_of_35"): "s-gt34 s-gt35",
+    ("tags", "currency_of_any_letters"): "i-lt3 i-lt2",
+    ("words", "cr_not_counted"): "c-eq13 c-eq12",
+    ("words", "reference_of_36"): "s-gt35 s-gt36",
 }
 # Texts that are not spelled by rule.
 BY_HAND = {}
@@ -122,6 +132,8 @@ def turned(commit, path, said):
             out.append(f"# {line}")
         elif line.startswith("refused: "):
             out.append(f"# refused: {where(line[len('refused: ') :], crate, name)}")
+            if (crate, name) in NAMED:
+                out.append(f"# named: {NAMED[crate, name]}")
         elif line.startswith("file: "):
             file = line[len("file: ") :]
             out.append(line)
@@ -181,7 +193,8 @@ def main():
         wrong, named = wrong + len(list(pairs(made))), named + sum(it[0] is not None for it in pairs(made))
     stray = set(glob.glob("crates/*/must-fail/*")) - set(edits)
     said += [f"{it}: of no edit of the older Rattle" for it in sorted(stray)]
-    print(*said, sep="\n")
+    for it in said:
+        print(it)
     print(f"{len(edits)} edits with {wrong} wrong lines, {named} of them with a name")
     return 1 if said else 0
 
