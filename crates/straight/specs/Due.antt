@@ -5,7 +5,7 @@ use Rattle.text.specs.Truth.{both, either, pick, first}
 use Rattle.text.specs.Quoted.{bytes, alike}
 use Rattle.tags.specs.declared.Look.{Look}
 use Rattle.tags.specs.declared.Look.TheVariants.{Whole, Cut, Other}
-use Rattle.tags.specs.Tags.{white, look, exactly, end_tag, plain_tag, amount_tag, start_tag}
+use Rattle.tags.specs.Tags.{look, exactly, end_tag, plain_tag, amount_tag, start_tag}
 use Rattle.profile.specs.declared.Kind.{Kind}
 use Rattle.profile.specs.declared.Field.{Field}
 use Rattle.profile.specs.Kinds.{is_amount}

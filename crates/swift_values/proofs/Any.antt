@@ -11,7 +11,7 @@ use Rattle.text.proofs.Scan.{rest_of, lead_le}
 use Rattle.answers.specs.Given.{Given, worth, value_of}
 use Rattle.codes.specs.declared.Element.{Element}
 use Rattle.codes.specs.declared.Element.TheVariants.{SttlmMtd, SvcLvl, LclInstrm, SeqTp, ChrgBr, Prtry}
-use Rattle.codes.specs.Listed.{or_else, place, code_given}
+use Rattle.codes.specs.Listed.{or_else, code_given}
 use Rattle.money.specs.declared.Range.TheVariants.{Item}
 use Rattle.money.specs.Amount.{most}
 use Rattle.money.proofs.Amounts.{amount_most}

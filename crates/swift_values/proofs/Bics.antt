@@ -18,7 +18,6 @@ use Rattle.text.proofs.Scan.{every_also}
 use Rattle.answers.specs.Given.{yes as said}
 use Rattle.accounts.specs.Bic.{bic_form, bic_given, bicfi_form, bicfi_given}
 use Rattle.profile.specs.declared.Kind.TheVariants.{Plain}
-use Rattle.profile.specs.declared.Simple.TheVariants.{Bic}
 use Rattle.tags.specs.Values.{in_value}
 use Rattle.kinds.specs.Given.{simple_given}
 use Rattle.swift_values.specs.Stands.{Stands}

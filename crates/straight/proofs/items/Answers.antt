@@ -1,6 +1,6 @@
 -- `straight::items` meets its contract. The loop's invariant: the rows of the items that are read stand before what was lent;
 -- the next item is within the message; what is kept of those before is spelled in it.
-use Rattle.std.proofs.Common.{◌-◌, arith}
+use Rattle.std.proofs.Common.{arith}
 use borrow.Author.Tests.{not-true, not-false}
 use Rattle.engine.proofs.Rows.{reads_begin, reads_end, row_fits, reads_long, reads_far}
 use Rattle.straight.proofs.Kept.{kept_none}

@@ -1,6 +1,5 @@
 -- `swift_values::bad` meets its contract.
 use native.Mathlib.Omega.{arith}
-use Prim.Native.Nat.{◌-◌}
 use Rattle.swift_values.proofs.bad.Goals as goal
 
 pub returns-else-ok : goal.returns-else-ok

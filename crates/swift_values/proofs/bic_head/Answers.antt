@@ -1,6 +1,5 @@
 -- `swift_values::bic_head` meets its contract.
 use native.Mathlib.Omega.{arith}
-use Prim.Native.Nat.{◌-◌}
 use mathlib.Core.Path.{◌≡◌}
 use borrow.Author.Tests.{eqb-true}
 use Rattle.swift_values.specs.Bics.{in_bic}

@@ -1,6 +1,5 @@
 -- `swift_values::by_eights` meets its contract.
 use native.Mathlib.Omega.{arith}
-use Prim.Native.Nat.{◌-◌}
 use mathlib.Core.Path.{refl}
 use Rattle.swift_values.proofs.Writes.{taken_more}
 use Rattle.swift_values.proofs.by_eights.Goals as goal

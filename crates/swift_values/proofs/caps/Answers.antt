@@ -1,6 +1,5 @@
 -- `swift_values::caps` meets its contract.
 use native.Mathlib.Omega.{arith}
-use Prim.Native.Nat.{◌-◌}
 use mathlib.Core.Path.{◌≡◌}
 use borrow.Author.Tests.{eqb-true}
 use Rattle.text.specs.Classes.{capital_or_digit}

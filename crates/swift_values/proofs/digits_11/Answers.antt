@@ -1,6 +1,6 @@
 -- `swift_values::digits_11` meets its contract.
 use native.Mathlib.Omega.{arith}
-use Prim.Native.Nat.{◌+◌, ◌-◌}
+use Prim.Native.Nat.{◌+◌}
 use mathlib.Core.Path.{◌≡◌}
 use borrow.Author.Tests.{eqb-true}
 use Rattle.text.specs.Classes.{digit}

@@ -1,5 +1,4 @@
 -- `swift_values::heads` meets its contract.
-use Prim.Native.Nat.{◌-◌}
 use Rattle.swift_values.proofs.Ibans.{headed}
 use Rattle.swift_values.proofs.heads.Goals as goal
 

@@ -1,5 +1,4 @@
 -- `swift_values::leaves` meets its contract.
-use Prim.Native.Nat.{◌-◌}
 use Rattle.swift_values.proofs.Ibans.{head_leaves}
 use Rattle.swift_values.proofs.leaves.Goals as goal
 

@@ -1,6 +1,5 @@
 -- `swift_values::onto` meets its contract.
 use native.Mathlib.Omega.{arith}
-use Prim.Native.Nat.{◌-◌}
 use mathlib.Core.Path.{sym}
 use Rattle.swift_values.proofs.Blocks.{low_onto, high_onto}
 use Rattle.swift_values.proofs.onto.Goals as goal

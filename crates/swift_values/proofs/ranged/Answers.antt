@@ -1,5 +1,4 @@
 -- `swift_values::ranged` meets its contract.
-use Prim.Native.Nat.{◌-◌}
 use Rattle.swift_values.proofs.Ibans.{ranges}
 use Rattle.swift_values.proofs.ranged.Goals as goal
 

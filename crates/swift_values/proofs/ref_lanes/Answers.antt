@@ -1,7 +1,5 @@
 -- `swift_values::ref_lanes` meets its contract.
 use native.Mathlib.Omega.{arith}
-use Prim.Native.Nat.{◌-◌}
-use Rattle.swift_values.specs.Lanes.{ref_pair}
 use Rattle.swift_values.proofs.Lanes.{seen_none, seen_on, seen_all}
 use Rattle.swift_values.proofs.ref_lanes.Goals as goal
 

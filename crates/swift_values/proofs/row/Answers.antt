@@ -1,7 +1,7 @@
 -- `swift_values::row` meets its contract.
 use native.Mathlib.Omega.{arith}
 use mathlib.Core.Path.{◌≡◌, refl}
-use Prim.Native.Nat.{◌-◌, ◌*◌, ◌≤◌}
+use Prim.Native.Nat.{◌*◌, ◌≤◌}
 use lib.ListN.{get_or}
 use Rattle.swift_values.proofs.Weights.{one_small, balance_on}
 use Rattle.swift_values.proofs.row.Goals as goal

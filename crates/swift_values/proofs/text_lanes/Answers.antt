@@ -1,6 +1,5 @@
 -- `swift_values::text_lanes` meets its contract.
 use native.Mathlib.Omega.{arith}
-use Prim.Native.Nat.{◌-◌}
 use Rattle.swift_values.specs.Lanes.{text_one}
 use Rattle.swift_values.proofs.Lanes.{seen_none, seen_on, seen_all}
 use Rattle.swift_values.proofs.text_lanes.Goals as goal

@@ -1,6 +1,5 @@
 -- `swift_values::usual_lanes` meets its contract.
 use native.Mathlib.Omega.{arith}
-use Prim.Native.Nat.{◌-◌}
 use Rattle.swift_values.specs.Lanes.{slashless}
 use Rattle.swift_values.proofs.Lanes.{seen_none, seen_if, seen_all}
 use Rattle.swift_values.proofs.usual_lanes.Goals as goal

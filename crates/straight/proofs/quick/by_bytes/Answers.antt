@@ -1,7 +1,7 @@
 -- `straight::quick::by_bytes` meets its contract.
 use Rattle.straight.specs.Spelled.{Spelled, Onto}
 use Rattle.swift_values.proofs.Values.{found, found_at}
-use Rattle.std.proofs.Common.{◌-◌, get_or, arith}
+use Rattle.std.proofs.Common.{get_or, arith}
 use Rattle.straight.proofs.Spelled.{sofar_none, sofar_more, sofar_all}
 use Rattle.straight.proofs.quick.by_bytes.Goals as goal
 

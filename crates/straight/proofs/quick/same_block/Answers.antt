@@ -1,5 +1,5 @@
 -- `straight::quick::same_block` meets its contract. The loop's invariant: where nothing differs so far, the bytes before i are the same.
-use Rattle.std.proofs.Common.{◌≡◌, ◌-◌, arith, eqb-true}
+use Rattle.std.proofs.Common.{◌≡◌, arith, eqb-true}
 use Rattle.straight.proofs.Words.{match_none, match_one}
 use Rattle.straight.proofs.quick.same_block.Goals as goal
 

@@ -1,5 +1,5 @@
 -- `straight::quick::same_long` meets its contract.
-use Rattle.std.proofs.Common.{◌-◌, arith}
+use Rattle.std.proofs.Common.{arith}
 use Rattle.swift_values.proofs.Lanes.{unlike}
 use Rattle.straight.proofs.Words.{match_join, match_none}
 use Rattle.straight.proofs.quick.same_long.Goals as goal
