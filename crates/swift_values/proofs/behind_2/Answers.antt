@@ -29,7 +29,8 @@ returns c =
     let m = c.args.m.now in
     let p = c.args.p in
     let f = c.requires in (
-      two_parts m p 1 1 x.result.weight x.result.worth y.result.weight y.result.worth (one_part m p x.result.weight x.result.worth (omega (arith, f)) x.ensures.0) (one_part m (p + 1) y.result.weight y.result.worth (omega (arith, f)) y.ensures.0),
+      two_parts m p 1 1 x.result.weight x.result.worth y.result.weight y.result.worth (one_part m p x.result.weight x.result.worth (omega (arith, f)) x.ensures.0)
+          (one_part m (p + 1) y.result.weight y.result.worth (omega (arith, f)) y.ensures.0),
       omega (arith, product_small x.result.weight y.result.weight 100 100 x.ensures.1 y.ensures.1),
       omega (arith, product_small x.result.worth y.result.weight 35 100 x.ensures.2 y.ensures.1, y.ensures.2),
     )

@@ -27,4 +27,8 @@ returns c =
     let the-if2 = c.if-month-eq532 in
     let the-if3 = c.if-month-eq534 in
     let the-if4 = c.if-month-eq537 in
-    omega (arith, days_31 y (the-args.month - 528) (λ e. the-if1.false (omega arith)) (λ e. the-if2.false (omega arith)) (λ e. the-if3.false (omega arith)) (λ e. the-if4.false (omega arith)) (λ e. c.if-month-eq539.false (omega arith)))
+    omega (
+      arith,
+      days_31 y (the-args.month - 528) (λ e. the-if1.false (omega arith)) (λ e. the-if2.false (omega arith)) (λ e. the-if3.false (omega arith))
+          (λ e. the-if4.false (omega arith)) (λ e. c.if-month-eq539.false (omega arith)),
+    )

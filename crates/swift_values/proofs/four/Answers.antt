@@ -30,8 +30,4 @@ returns c =
     let the-onto2 = c.onto-b in
     let the-onto3 = c.onto-c in
     let a = the-args in
-    let the-pre = the-pre in
-    let the-onto = the-onto in
-    let the-onto2 = the-onto2 in
-    let the-onto3 = the-onto3 in
     (four_number a.m.now a.p the-pre.0 the-onto.result the-onto2.result the-onto3.result c.onto.result the-onto.ensures.0 the-onto2.ensures.0 the-onto3.ensures.0 c.onto.ensures.0, omega arith)

@@ -9,7 +9,4 @@ returns c =
     let the-in-capital2 = c.in_capital-2 in
     let the-in-digit = c.in_digit in
     let a = the-args in
-    let the-in-capital = the-in-capital in
-    let the-in-capital2 = the-in-capital2 in
-    let the-in-digit = the-in-digit in
     headed a.m.now a.p the-in-capital.result the-in-capital2.result the-in-digit.result c.in_digit-2.result the-in-capital.ensures the-in-capital2.ensures the-in-digit.ensures c.in_digit-2.ensures

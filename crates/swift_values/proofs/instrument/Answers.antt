@@ -23,5 +23,9 @@ pub returns-then-are : goal.returns-then-are
 returns-then-are c =
     let the-args = c.args in
     let the-pre = c.requires in
-    let the-are = c.are in
-    (omega arith, omega arith, found (StandsFor (Code LclInstrm) (worth 1) the-args.m.now the-args.at) (the-args.at + 3) (b2b_stands the-args.m.now the-args.at the-pre.0 the-pre.1 (the-are.ensures c.if-are.true)))
+    let the-are = c.are in (
+      omega arith,
+      omega arith,
+      found (StandsFor (Code LclInstrm) (worth 1) the-args.m.now the-args.at) (the-args.at + 3)
+          (b2b_stands the-args.m.now the-args.at the-pre.0 the-pre.1 (the-are.ensures c.if-are.true)),
+    )

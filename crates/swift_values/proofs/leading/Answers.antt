@@ -21,7 +21,11 @@ overflow_mul-n c =
     let the-args = c.args in
     let the-loop = c.loop-i in
     let the-in-digit = c.in_digit in
-    omega (arith, written_under the-args.m.now the-args.at (the-loop.i + 1) (the-loop.n * 10 + (get_or the-args.m.now (the-args.at + the-loop.i) 0 - 48)) (omega arith) (omega arith) (written_more the-args.m.now the-args.at the-loop.i the-loop.n (omega arith) the-loop.invariant.1 (yes_of the-in-digit.ensures c.if-not-in_digit.false)))
+    omega (
+      arith,
+      written_under the-args.m.now the-args.at (the-loop.i + 1) (the-loop.n * 10 + (get_or the-args.m.now (the-args.at + the-loop.i) 0 - 48)) (omega arith) (omega arith)
+          (written_more the-args.m.now the-args.at the-loop.i the-loop.n (omega arith) the-loop.invariant.1 (yes_of the-in-digit.ensures c.if-not-in_digit.false)),
+    )
 
 pub overflow_sub-n : goal.overflow_sub-n
 overflow_sub-n c =
@@ -37,7 +41,11 @@ overflow_add-n c =
     let the-loop = c.loop-i in
     let the-in-digit = c.in_digit in
     let the-if1 = c.if-not-in_digit in
-    omega (arith, written_under the-args.m.now the-args.at (the-loop.i + 1) (the-loop.n * 10 + (get_or the-args.m.now (the-args.at + the-loop.i) 0 - 48)) (omega arith) (omega arith) (written_more the-args.m.now the-args.at the-loop.i the-loop.n (omega arith) the-loop.invariant.1 (yes_of the-in-digit.ensures the-if1.false)))
+    omega (
+      arith,
+      written_under the-args.m.now the-args.at (the-loop.i + 1) (the-loop.n * 10 + (get_or the-args.m.now (the-args.at + the-loop.i) 0 - 48)) (omega arith) (omega arith)
+          (written_more the-args.m.now the-args.at the-loop.i the-loop.n (omega arith) the-loop.invariant.1 (yes_of the-in-digit.ensures the-if1.false)),
+    )
 
 pub loop-i-preserved : goal.loop-i-preserved
 loop-i-preserved c =

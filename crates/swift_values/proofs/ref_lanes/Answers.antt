@@ -11,8 +11,6 @@ loop-i-preserved c =
     let the-loop = c.loop-i in
     let the-ref-pair = c.ref_pair in
     let the_key = c.key in
-    let the-loop = the-loop in
-    let the-ref-pair = the-ref-pair in
     (omega arith, omega arith, seen_on _ _ _ the-loop.i the-loop.r the_key.result c.low-r.result the-ref-pair.result the-loop.invariant.2 the-ref-pair.ensures the_key.ensures c.low-r.ensures.0 c.low-r.ensures.1)
 
 pub returns : goal.returns

@@ -13,8 +13,7 @@ loop-i-preserved c =
     let the-loop = c.loop-i in
     let the-in-ref = c.in_ref in
     let the_key = c.key in
-    let a = the-args in
-    let the-loop = the-loop in (
+    let a = the-args in (
       omega arith,
       omega arith,
       seen_on ref_one a.m.now a.at the-loop.i the-loop.r the_key.result c.low-r.result the-in-ref.result the-loop.invariant.2 the-in-ref.ensures the_key.ensures c.low-r.ensures.0 c.low-r.ensures.1,

@@ -14,8 +14,6 @@ loop-i-preserved c =
     let the-in-text = c.in_text in
     let the_key = c.key in
     let a = the-args in
-    let the-loop = the-loop in
-    let the-in-text = the-in-text in
     (omega arith, omega arith, seen_on text_one a.m.now a.at the-loop.i the-loop.r the_key.result c.low-r.result the-in-text.result the-loop.invariant.2 the-in-text.ensures the_key.ensures c.low-r.ensures.0 c.low-r.ensures.1)
 
 pub returns : goal.returns

@@ -33,5 +33,8 @@ returns-then-identified_18 c =
     let m = the-args.m.now in
     let p = the-args.at in
     let h = the-room.ensures the-if1.false in
-    let z : p + 18 ≡ p + 7 + 11 = omega arith in
-    (omega arith, rw z (found (Stands Identifier m p) (p + 7 + 11) (identifier_stands m p 11 (omega arith) (omega arith) the-if2.false (the-identified-18.ensures c.if-identified_18.true) (omega arith) (omega arith))))
+    let z : p + 18 ≡ p + 7 + 11 = omega arith in (
+      omega arith,
+      rw z (found (Stands Identifier m p) (p + 7 + 11) (identifier_stands m p 11 (omega arith) (omega arith) the-if2.false
+          (the-identified-18.ensures c.if-identified_18.true) (omega arith) (omega arith))),
+    )

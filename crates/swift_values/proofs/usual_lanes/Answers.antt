@@ -13,10 +13,12 @@ loop-i-preserved c =
     let the-loop = c.loop-i in
     let the-in-usual = c.in_usual in
     let the_key = c.key in
-    let a = the-args in
-    let the-loop = the-loop in
-    let the-in-usual = the-in-usual in
-    (omega arith, omega arith, seen_if slashless a.m.now a.at the-loop.i the-loop.r the_key.result c.low-r.result the-in-usual.result the-loop.invariant.2 (the-in-usual.ensures 0) the_key.ensures c.low-r.ensures.0 c.low-r.ensures.1)
+    let a = the-args in (
+      omega arith,
+      omega arith,
+      seen_if slashless a.m.now a.at the-loop.i the-loop.r the_key.result c.low-r.result the-in-usual.result the-loop.invariant.2
+          (the-in-usual.ensures 0) the_key.ensures c.low-r.ensures.0 c.low-r.ensures.1,
+    )
 
 pub returns : goal.returns
 returns c = (c.loop-i.invariant.1, seen_all slashless _ _ c.loop-i.i c.loop-i.r (omega arith) c.loop-i.invariant.2)

@@ -15,8 +15,11 @@ pub loop-i-preserved : goal.loop-i-preserved
 loop-i-preserved c =
     let a = c.args in
     let l = c.loop-i in
-    let q = c.next_byte-q.result in
-    (sofar_more a.m.now a.at a.text.now l.i l.p q l.invariant.0 (omega arith) (found_at (Onto a.m.now l.p (get_or a.text.now l.i 0)) q (omega arith) c.next_byte-q.ensures.1), omega arith, omega arith)
+    let q = c.next_byte-q.result in (
+      sofar_more a.m.now a.at a.text.now l.i l.p q l.invariant.0 (omega arith) (found_at (Onto a.m.now l.p (get_or a.text.now l.i 0)) q (omega arith) c.next_byte-q.ensures.1),
+      omega arith,
+      omega arith,
+    )
 
 pub returns : goal.returns
 returns c =

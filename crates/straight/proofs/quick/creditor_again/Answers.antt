@@ -55,7 +55,14 @@ returns c =
     let z = c.retrace-z in
     let g = side_again a.m.now a.at _ a.v o.result (66 + 8 * o.result) z.result z.ensures.2 o.ensures.0 refl z.ensures.1 in
     let t = found_reach a.m.now a.at _ z.result g (omega arith) in (
-      record { end = z.ensures.0; identifier = omega (arith, z.ensures.0, t.1); scheme = omega (arith, z.ensures.0, t.2.1); name = omega (arith, z.ensures.0, t.2.2.1); account = omega (arith, z.ensures.0, t.2.2.2.1); agent = omega (arith, z.ensures.0, t.2.2.2.2.1) },
+      record {
+        end = z.ensures.0;
+        identifier = omega (arith, z.ensures.0, t.1);
+        scheme = omega (arith, z.ensures.0, t.2.1);
+        name = omega (arith, z.ensures.0, t.2.2.1);
+        account = omega (arith, z.ensures.0, t.2.2.2.1);
+        agent = omega (arith, z.ensures.0, t.2.2.2.2.1);
+      },
       g,
       z.ensures.2,
     )

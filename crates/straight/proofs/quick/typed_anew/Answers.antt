@@ -16,7 +16,12 @@ unfolding text_at
 run-b-requires c = search rules
 
 pub returns-then-not-may_follow : goal.returns-then-not-may_follow
-returns-then-not-may_follow c = rw c.no_codes.ensures (record { end = omega arith; level = omega arith; service = omega arith; sequence = omega arith; listed = omega arith }, tt, (λ h. absurd (let z : ⊥ = omega arith in z)), c.run-b.ensures.2)
+returns-then-not-may_follow c = rw c.no_codes.ensures (
+  record { end = omega arith; level = omega arith; service = omega arith; sequence = omega arith; listed = omega arith },
+  tt,
+  (λ h. absurd (let z : ⊥ = omega arith in z)),
+  c.run-b.ensures.2,
+)
 
 pub run-d-requires : goal.run-d-requires
 unfolding text_at
