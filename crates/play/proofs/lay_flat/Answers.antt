@@ -3,4 +3,4 @@ use Rattle.play.proofs.Tables.{flat_table}
 use Rattle.play.proofs.lay_flat.Goals as goal
 
 pub returns : goal.returns
-returns c = flat_table c.args.t1
+returns c = flat_table c.args.t

@@ -1,6 +1,7 @@
 -- `play::shift_lots` meets its contract. The loop's invariant: shifting from here leaves what shifting from the start leaves. The measure is what is left of the open ones.
 use Prim.Native.Nat.{◌-◌}
 use native.Mathlib.Omega.{arith}
+use borrow.Author.Rules.{rules}
 use mathlib.Core.Path.{refl, sym, ◌∙◌}
 use lib.ListN.{length-set}
 use Rattle.play.proofs.Runs.{none}
@@ -8,7 +9,7 @@ use Rattle.book.proofs.Lists.{shifted_go, shifted_end}
 use Rattle.play.proofs.shift_lots.Goals as goal
 
 pub loop-i-init : goal.loop-i-init
-loop-i-init c = (omega arith, c.well_formed.0.1.0.1, refl)
+loop-i-init c = (omega arith, search rules, refl)
 
 pub loop-i-preserved : goal.loop-i-preserved
 loop-i-preserved c =
