@@ -16,7 +16,7 @@ use Rattle.profile.specs.declared.Version.{Version}
 use Rattle.profile.specs.Kinds.{is_amount}
 use Rattle.profile.specs.Tree.{Occ, once, optional, many, more, Shape, end, leaf, group}
 use Rattle.profile.specs.Profile.{is_type}
-use Rattle.reading.specs.Trace.{◌at◌, Trace, up_to, and_then, begins, ends, priced, valued, leaf_body, group_body, trace}
+use Rattle.reading.specs.Trace.{Trace, up_to, and_then, begins, ends, priced, valued, leaf_body, group_body, trace}
 use Rattle.reading.specs.Noted.{Reading, on, stop, onward, Ended}
 use Rattle.reading.proofs.Flat.{noted_then}
 use Rattle.table.specs.declared.Row.{Row}

@@ -1,5 +1,5 @@
 -- The index cleared, number by number.
-use Rattle.std.proofs.Common.{◌≡◌, ℕ, ◌+◌, ◌-◌, ◌<◌, ◌≤◌, List, length, drop, set, replicate, refl, ◌∙◌, append-nil, arith, length-append, length-drop, drop_of_length-le, le-leb}
+use Rattle.std.proofs.Common.{◌≡◌, ℕ, ◌+◌, ◌<◌, ◌≤◌, List, length, drop, set, replicate, refl, ◌∙◌, append-nil, arith, length-append, length-drop, drop_of_length-le, le-leb}
 use borrow.Author.Fill.{fill_more}
 use borrow.Author.Tests.{lt-leb}
 use lib.ListN.{length-replicate, get_or-replicate, get_or-append}

@@ -1,5 +1,5 @@
 -- The plain search: each value against all before it.
-use Rattle.std.proofs.Common.{◌≡◌, ℕ, ◌+◌, ◌-◌, ◌<◌, ◌≤◌, true, false, List, length, take, drop, sym, ◌∙◌, add-one, arith, drop_of_length-le, length-take-le, get_or-take, take-suc, ne_eqb}
+use Rattle.std.proofs.Common.{◌≡◌, ℕ, ◌+◌, ◌<◌, ◌≤◌, true, false, List, length, take, drop, sym, ◌∙◌, add-one, arith, drop_of_length-le, length-take-le, get_or-take, take-suc, ne_eqb}
 use Rattle.text.specs.Truth.{either, at}
 use Rattle.text.specs.Quoted.{alike}
 use Rattle.text.proofs.Scan.{next}

@@ -1,5 +1,5 @@
 -- The value at a place, and how it is compared with other bytes: first where it ends, then the bytes.
-use Rattle.std.proofs.Common.{◌≡◌, ℕ, suc, ◌+◌, ◌-◌, ◌<◌, Bool, true, false, not, eqb, leb, List, [], ◌∷◌, length, get_or, take, drop, sym, refl, ◌∙◌, arith, drop_of_length-le, length-take-le, ext_get_or, eqb-true, le-leb, leb-true}
+use Rattle.std.proofs.Common.{◌≡◌, ℕ, suc, ◌+◌, ◌<◌, Bool, true, false, not, eqb, leb, List, [], ◌∷◌, length, get_or, take, drop, sym, refl, ◌∙◌, arith, drop_of_length-le, length-take-le, ext_get_or, eqb-true, le-leb, leb-true}
 use borrow.Author.Tests.{not-true, not-false, lt-leb}
 use lib.Dec.{leb-zero, leb-suc-zero, leb-suc-suc, eqb-suc-zero}
 use Rattle.text.specs.Truth.{both, pick, every, lead}

@@ -1,6 +1,5 @@
 -- `engines::items_by_table` meets its contract. The loop's invariant: the rows of the items that are read stand before what was lent.
 use mathlib.Core.Path.{ap}
-use Prim.Native.Nat.{◌-◌}
 use native.Mathlib.Omega.{arith}
 use Rattle.notes.specs.Steps.{stated, met_in}
 use Rattle.engine.proofs.Rows.{reads_begin, reads_end, row_fits, reads_stop, reads_on}

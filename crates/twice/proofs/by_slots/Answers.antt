@@ -1,6 +1,6 @@
 -- `twice::by_slots` meets its contract. The loop's invariant: what the search gives from item i on is what it gives at all, and each entry is that of its item.
 -- The measure is what is left of the places.
-use Rattle.std.proofs.Common.{◌-◌, sym, refl, ◌∙◌, arith, length-set}
+use Rattle.std.proofs.Common.{sym, refl, ◌∙◌, arith, length-set}
 use Rattle.twice.specs.Twice.{least_index}
 use Rattle.twice.specs.Engine.{most, mix, numbers_in}
 use Rattle.twice.proofs.Walks.{slots_end, slots_zero, slots_here}

@@ -1,5 +1,5 @@
 -- `twice::clear` meets its contract. The loop's invariant: i numbers are cleared. The measure is what is left to clear.
-use Rattle.std.proofs.Common.{◌≡◌, ◌-◌, length, ap, ◌∙◌, arith}
+use Rattle.std.proofs.Common.{◌≡◌, length, ap, ◌∙◌, arith}
 use Rattle.twice.proofs.Cleared.{cleared_none, cleared_more, cleared_long}
 use Rattle.twice.proofs.clear.Goals as goal
 

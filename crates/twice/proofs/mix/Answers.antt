@@ -1,5 +1,5 @@
 -- `twice::mix` meets its contract. The loop's invariant: the rest mixed into the sum is all mixed in. The measure is what is left of the value.
-use Rattle.std.proofs.Common.{◌-◌, refl, ap, ◌∙◌, arith}
+use Rattle.std.proofs.Common.{refl, ap, ◌∙◌, arith}
 use Rattle.twice.specs.Engine.{strewn, mix}
 use Rattle.twice.proofs.Walks.{four_next, mix_end}
 use Rattle.twice.proofs.mix.Goals as goal

@@ -1,5 +1,5 @@
 -- `twice::mix_bytes` meets its contract. The loop's invariant: the rest mixed into the sum is all mixed in. The measure is what is left.
-use Rattle.std.proofs.Common.{◌-◌, refl, ◌∙◌, arith}
+use Rattle.std.proofs.Common.{refl, ◌∙◌, arith}
 use Rattle.twice.proofs.Walks.{bytes_next, bytes_end}
 use Rattle.twice.proofs.mix_bytes.Goals as goal
 

@@ -1,6 +1,6 @@
 -- `twice::plainly` meets its contract. The outer loop's invariant: what the search gives from item i on is what it gives at all. The inner one's: whether the value
 -- stands among those from j on to i is whether it stands before item i. The measures are what is left of the lists.
-use Rattle.std.proofs.Common.{◌-◌, sym, refl, ◌∙◌, arith}
+use Rattle.std.proofs.Common.{sym, refl, ◌∙◌, arith}
 use Rattle.text.specs.Truth.{at}
 use Rattle.text.proofs.Truths.{yes_of, no_of}
 use Rattle.twice.specs.Twice.{second}

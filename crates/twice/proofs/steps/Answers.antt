@@ -1,5 +1,5 @@
 -- `twice::steps` meets its contract. The loop's invariant: where the walk stops from here is where it stops. The measure is what is left of the slots.
-use Rattle.std.proofs.Common.{◌-◌, sym, ap, ◌∙◌, arith}
+use Rattle.std.proofs.Common.{sym, ap, ◌∙◌, arith}
 use Rattle.twice.specs.Twice.{least_index}
 use Rattle.twice.specs.Engine.{passed, numbers_in}
 use Rattle.twice.proofs.Entries.{numbers_at_lem}
