@@ -18,7 +18,7 @@ returns c =
     let b = c.read_but-s in
     let q = c.quickly in (
       c.unless_second.ensures
-          ∙ (found_second a.m.now (surveyed_as b.result) b.ensures.0 b.new.1.1.0 b.auto.1.1.0 b.ensures.1 q.result q.ensures.0
+          ∙ (found_second a.m.now (surveyed_as b.result) b.ensures.0 b.new.places b.auto.places b.ensures.1 q.result q.ensures.0
           ∙ has_room a.index.now _ _ the-if1.false),
       q.ensures.1,
     )

@@ -9,4 +9,4 @@ returns c =
     let a = c.args in
     let b = c.read_but-s in
     c.unless_second.ensures
-    ∙ found_second a.m.now (surveyed_as b.result) b.ensures.0 b.new.1.1.0 b.auto.1.1.0 b.ensures.1 c.plainly.result c.plainly.ensures
+    ∙ found_second a.m.now (surveyed_as b.result) b.ensures.0 b.new.places b.auto.places b.ensures.1 c.plainly.result c.plainly.ensures
