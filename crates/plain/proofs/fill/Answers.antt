@@ -80,7 +80,7 @@ loop-at-preserved c =
     let the-piece-length = c.piece_length in
     let the-lay = c.lay in
     laid_on a.s.now a.area.now the-pre l.at l.n l.area l.invariant the-loop-test.true the-piece-of.result the-piece-of.ensures
-    the-piece-length.result the-piece-length.ensures the-lay.new.1.1.0 the-lay.ensures
+    the-piece-length.result the-piece-length.ensures the-lay.new.part the-lay.ensures
 
 pub shape_of-area : goal.shape_of-area
 shape_of-area c = c.loop-at.invariant.long

@@ -52,21 +52,21 @@ slice_bounds-spell-count-2 c =
     let a = c.args in
     let the-pre = c.requires in
     let the_copy = c.copy in
-    half_fits the_copy.new.1.0 a.part.now _ (ap length the_copy.ensures ∙ tag_long a.s.now a.p the-pre.0)
+    half_fits the_copy.new.to a.part.now _ (ap length the_copy.ensures ∙ tag_long a.s.now a.p the-pre.0)
 
 pub slice_bounds-spell-start-2 : goal.slice_bounds-spell-start-2
 slice_bounds-spell-start-2 c =
     let a = c.args in
     let the-pre = c.requires in
     let the_copy = c.copy in
-    omega (arith, half_fits the_copy.new.1.0 a.part.now _ (ap length the_copy.ensures ∙ tag_long a.s.now a.p the-pre.0))
+    omega (arith, half_fits the_copy.new.to a.part.now _ (ap length the_copy.ensures ∙ tag_long a.s.now a.p the-pre.0))
 
 pub spell-requires : goal.spell-requires
 spell-requires c =
     let a = c.args in
     let the-pre = c.requires in
     let the_copy = c.copy in
-    value_room a.s.now a.p the-pre.0 a.part.now the-pre.1 the_copy.new.1.0 the_copy.ensures
+    value_room a.s.now a.p the-pre.0 a.part.now the-pre.1 the_copy.new.to the_copy.ensures
 
 pub returns : goal.returns
 returns c =
@@ -74,4 +74,4 @@ returns c =
     let the-pre = c.requires in
     let the_copy = c.copy in
     let the-spell = c.spell in
-    piece_laid a.s.now a.p the-pre.0 a.part.now the-pre.1 the_copy.new.1.0 the-spell.new.1.1.0 the_copy.ensures the-spell.ensures
+    piece_laid a.s.now a.p the-pre.0 a.part.now the-pre.1 the_copy.new.to the-spell.new.to the_copy.ensures the-spell.ensures

@@ -25,5 +25,5 @@ returns c =
     let the-declaration = c.declaration-first in
     let the_copy = c.copy in
     let the-fill = c.fill in
-    front_laid declaration (pieces a.s.now) a.area.now the-pre the_copy.new.1.0 the-fill.new.1.0 (the_copy.ensures ∙ the-declaration.ensures)
+    front_laid declaration (pieces a.s.now) a.area.now the-pre the_copy.new.to the-fill.new.area (the_copy.ensures ∙ the-declaration.ensures)
     the-fill.ensures

@@ -82,7 +82,7 @@ slice_bounds-put_decimals-count-2 c =
     let the-run-in = c.run_in-n in
     let the-needless = c.needless-zeros in
     let the_copy = c.copy in
-    half_fits the_copy.new.1.0 a.to.now _
+    half_fits the_copy.new.to a.to.now _
     (ap length the_copy.ensures ∙ copied_long a.v.now the-run-in.result the-run-in.ensures the-needless.result the-needless.ensures.1 the-needless.ensures.0)
 
 pub slice_bounds-put_decimals-start-2 : goal.slice_bounds-put_decimals-start-2
@@ -92,7 +92,7 @@ slice_bounds-put_decimals-start-2 c =
     let the-needless = c.needless-zeros in
     let the_copy = c.copy in
     omega
-    (arith, half_fits the_copy.new.1.0 a.to.now _ (ap length the_copy.ensures ∙ copied_long a.v.now the-run-in.result the-run-in.ensures the-needless.result the-needless.ensures.1 the-needless.ensures.0))
+    (arith, half_fits the_copy.new.to a.to.now _ (ap length the_copy.ensures ∙ copied_long a.v.now the-run-in.result the-run-in.ensures the-needless.result the-needless.ensures.1 the-needless.ensures.0))
 
 pub put_decimals-requires : goal.put_decimals-requires
 put_decimals-requires c =
@@ -101,7 +101,7 @@ put_decimals-requires c =
     let the-run-in = c.run_in-n in
     let the-needless = c.needless-zeros in
     let the_copy = c.copy in
-    behind_long the_copy.new.1.0 a.to.now _
+    behind_long the_copy.new.to a.to.now _
     (ap length the_copy.ensures ∙ copied_long a.v.now the-run-in.result the-run-in.ensures the-needless.result the-needless.ensures.1 the-needless.ensures.0)
     3
     (to_long a.v.now the-run-in.result the-run-in.ensures the-needless.result the-needless.ensures.1 the-needless.ensures.0 a.to.now the-pre)
@@ -115,4 +115,4 @@ returns c =
     let the_copy = c.copy in
     let the-put-decimals = c.put_decimals in
     amount_laid a.v.now the-run-in.result the-run-in.ensures the-needless.result the-needless.ensures.1 the-needless.ensures.0 a.to.now
-    the-pre the_copy.new.1.0 the-put-decimals.new.1.0 the_copy.ensures the-put-decimals.ensures
+    the-pre the_copy.new.to the-put-decimals.new.to the_copy.ensures the-put-decimals.ensures

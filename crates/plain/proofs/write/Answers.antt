@@ -47,6 +47,6 @@ returns-else-area-n c =
     let put = c.put in (
       wrote_with a.index.now a.m.now a.area.now j.result j.ensures.0 _ _ yes _
           (has_room a.m.now a.area.now j.result (judged_with_lem a.index.now a.m.now a.area.now j.result j.ensures.0 _ _ yes) _ _
-          yes body.result.now body.ensures long.result long.ensures c.if-area-n.false put.new.1.0 put.ensures),
+          yes body.result.now body.ensures long.result long.ensures c.if-area-n.false put.new.area put.ensures),
       j.ensures.1,
     )

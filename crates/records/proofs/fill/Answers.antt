@@ -59,7 +59,7 @@ slice_bounds-lay_rows-end c =
     let l = c.loop-i in
     let n = c.in_one_call-n in
     let r = c.items-r in
-    sym (length_front l.rows r.new.1.1.1.1.0 (row_length * n.result) r.auto.1.1.1.1.0 ∙ l.invariant.1)
+    sym (length_front l.rows r.new.rows (row_length * n.result) r.auto.rows ∙ l.invariant.1)
 
 pub slice_bounds-lay_rows-count : goal.slice_bounds-lay_rows-count
 slice_bounds-lay_rows-count c =
@@ -88,7 +88,7 @@ lay_rows-requires c =
     let n = c.in_one_call-n in
     let k = one_call (c.args.count - l.i) n.result n.ensures (omega arith) in
     let r = c.items-r in
-    let g = length_front l.rows r.new.1.1.1.1.0 (row_length * n.result) r.auto.1.1.1.1.0 ∙ l.invariant.1 in
+    let g = length_front l.rows r.new.rows (row_length * n.result) r.auto.rows ∙ l.invariant.1 in
     (omega (arith, g, k.few), part_long c.requires l.invariant.0 c.loop-i-test.true k)
 
 pub overflow_add-i : goal.overflow_add-i
@@ -115,8 +115,8 @@ loop-i-preserved c =
     let h : row_length * n.result ≤ length l.rows = omega (arith, k.few, l.invariant.1) in
     let told = rw c.version_of-version.ensures at r.ensures in (
       fill_on c.requires l.invariant.0 c.loop-i-test.true k (length-take-le (row_length * n.result) l.rows h) told (drop (row_length * n.result) l.rows)
-          w.new.1.1.1.1.0 w.ensures w.auto.1.1.1.1.0,
-      length_front l.rows r.new.1.1.1.1.0 (row_length * n.result) r.auto.1.1.1.1.0 ∙ l.invariant.1,
+          w.new.area w.ensures w.auto.area,
+      length_front l.rows r.new.rows (row_length * n.result) r.auto.rows ∙ l.invariant.1,
     )
 
 pub shape_of-area : goal.shape_of-area

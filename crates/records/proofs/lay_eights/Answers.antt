@@ -12,8 +12,8 @@ pub returns : goal.returns
 returns c =
     let a = c.args in
     let from = a.at + (length a.v.now - 8) in (
-      laid_twice a.at 8 a.v.now a.rec.now c.lay_bytes.new.0 c.lay_bytes-2.new.0 (omega (arith, c.requires)) (omega (arith, c.requires)) (omega (arith, c.requires))
+      laid_twice a.at 8 a.v.now a.rec.now c.lay_bytes.new.rec c.lay_bytes-2.new.rec (omega (arith, c.requires)) (omega (arith, c.requires)) (omega (arith, c.requires))
           (c.lay_bytes.ensures.0 ∙ ap (λ (l : List ℕ). laid a.at l a.rec.now) c.eight.ensures)
-          (c.lay_bytes-2.ensures.0 ∙ ap (λ (l : List ℕ). laid from l c.lay_bytes.new.0) c.eight-2.ensures),
+          (c.lay_bytes-2.ensures.0 ∙ ap (λ (l : List ℕ). laid from l c.lay_bytes.new.rec) c.eight-2.ensures),
       c.lay_bytes-2.ensures.1,
     )

@@ -73,7 +73,7 @@ pub loop-i-preserved : goal.loop-i-preserved
 loop-i-preserved c =
     let l = c.loop-i in
     let w = c.make_record in
-    lay_on c.requires l.invariant c.loop-i-test.true w.new.0 w.ensures w.auto.0
+    lay_on c.requires l.invariant c.loop-i-test.true w.new.part w.ensures w.auto.part
 
 pub shape_of-area : goal.shape_of-area
 shape_of-area c = c.loop-i.invariant.long

@@ -6,7 +6,7 @@ use Rattle.records.proofs.Fields.{whole}
 use Rattle.records.proofs.make_record.Goals as goal
 
 pub shape_of-part : goal.shape_of-part
-shape_of-part c = c.write.auto.0
+shape_of-part c = c.write.auto.part
 
 pub returns : goal.returns
 returns c =
