@@ -3,21 +3,6 @@ use Rattle.records.proofs.Walk.{surveyed_with}
 use Rattle.records.proofs.Areas.{no_room, has_room, filled_up, refused_with, answered_with}
 use Rattle.records.proofs.records_by.Goals as goal
 
-records-by-spec =
-    tie.close
-    (tie.spec
-    read-by-requires
-    enum-known-v
-    enum-known-v-2
-    same_length
-    returns
-    fill-requires
-    same-length-2
-    returns-2
-    same-length-3
-    same-length-4
-    returns-3)
-
 pub returns-then-area-count : goal.returns-then-area-count
 returns-then-area-count c =
     let a = c.args in
