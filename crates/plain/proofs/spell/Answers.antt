@@ -38,17 +38,15 @@ pub returns-in-Collapsed : goal.returns-in-Collapsed
 returns-in-Collapsed c =
     let a = c.args in
     let the-pre = c.requires in
-    let the-enum-told3 = c.enum_told-in-Collapsed-1 in
     c.collapse.ensures ∙ overwritten_exact (collapsed a.v.now) a.to.now
-    (the-pre ∙ ap (λ (k : Spelling). length (spelled k a.v.now)) the-enum-told3.given.1) ∙ sym
-    (ap (λ (k : Spelling). spelled k a.v.now) the-enum-told3.given.1)
+    (the-pre ∙ ap (λ (k : Spelling). length (spelled k a.v.now)) c.in-Collapsed.is) ∙ sym
+    (ap (λ (k : Spelling). spelled k a.v.now) c.in-Collapsed.is)
 
 pub returns-in-Number : goal.returns-in-Number
 returns-in-Number c =
     let a = c.args in
-    let the-enum-told4 = c.enum_told-in-Number-1 in
     let the-needless = c.needless-zeros in
-    c.copy-in-Number.ensures ∙ rest_of _ a.v.now ∙ rw the-enum-told4.given.1 (sym the-needless.ensures.0)
+    c.copy-in-Number.ensures ∙ rest_of _ a.v.now ∙ rw c.in-Number.is (sym the-needless.ensures.0)
 
 pub returns-in-Amount : goal.returns-in-Amount
 returns-in-Amount c = c.spell_amount.ensures ∙ rw c.in-Amount.is
