@@ -5,4 +5,4 @@ use lib.Seq.{set_out}
 use Rattle.sums.proofs.add.Goals as goal
 
 pub returns : goal.returns
-returns c = sym (set_out c.args.t1 c.args.i _ (omega (arith, c.well_formed.0.1.0.1)))
+returns c = sym (set_out c.args.sums c.args.i _ (omega arith))
