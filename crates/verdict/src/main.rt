@@ -1,7 +1,12 @@
 // The judge as a program: one message on standard input, its verdict as one line on standard output.
 #![tactic(auto)]
 
-ghost use Rattle.std.specs.Prelude.{◌≡◌, ◌≤◌, length, take};
+ghost use Rattle.std.specs.Prelude.{◌≡◌, ◌≤◌, ◌<◌, length, take, false, IfSome};
+ghost use Rattle.std.specs.Bool.{OnTrue};
+ghost use Rattle.std.specs.Fmt.{decimal};
+ghost use Rattle.std.specs.Io.KnownBytes.{Consumes, IsAtEnd, Appends};
+ghost use Rattle.judge.specs.Verdict.{meant};
+ghost use Rattle.verdict.specs.Line.{line, told, answered};
 
 use judge::Verdict;
 use std::io::{Read, Write};
@@ -24,6 +29,8 @@ fn room() -> [u8; 65537]
 fn take_in<R: Read>(input: &mut R, area: &mut [u8]) -> Taken
     ensures in_bounds { result.count ≤ length area.new }
     ensures len { result.count ≡ length (take result.count area.new) }
+    ensures bytes { Consumes (R.remaining input.old) (R.remaining input.new) (take result.count area.new) }
+    ensures end { result.failed ≡ false → result.count < length area.new → IsAtEnd (R.remaining input.new) }
 {
     let mut count = 0;
     while count < area.len() {
@@ -45,17 +52,23 @@ fn take_in<R: Read>(input: &mut R, area: &mut [u8]) -> Taken
 }
 
 // Writes bytes; answers whether all of them went.
-fn print<W: Write>(out: &mut W, s: &[u8]) -> bool {
+fn print<W: Write>(out: &mut W, s: &[u8]) -> bool
+    ensures { OnTrue result (Appends (W.contents out.old) (W.contents out.new) s.now) }
+{
     out.write_all(s).is_ok()
 }
 
 // Writes a number in decimal; answers as print does.
-fn print_number<W: Write>(out: &mut W, n: u64) -> bool {
+fn print_number<W: Write>(out: &mut W, n: u64) -> bool
+    ensures { OnTrue result (Appends (W.contents out.old) (W.contents out.new) (decimal n)) }
+{
     write!(out, "{n}").is_ok()
 }
 
 // A word and two numbers. It stops at the first write that fails, so that a line with its end is whole.
-fn print_line<W: Write>(out: &mut W, word: &[u8], a: u64, b: u64) -> bool {
+fn print_line<W: Write>(out: &mut W, word: &[u8], a: u64, b: u64) -> bool
+    ensures { OnTrue result (Appends (W.contents out.old) (W.contents out.new) (line word.now a b)) }
+{
     print(out, word)
         && print_number(out, a)
         && print(out, b" ")
@@ -64,7 +77,9 @@ fn print_line<W: Write>(out: &mut W, word: &[u8], a: u64, b: u64) -> bool {
 }
 
 // The one line for a message that was judged.
-fn print_verdict<W: Write>(out: &mut W, v: Verdict) -> bool {
+fn print_verdict<W: Write>(out: &mut W, v: Verdict) -> bool
+    ensures { OnTrue result (Appends (W.contents out.old) (W.contents out.new) (told (meant v))) }
+{
     match v {
         Verdict::Accepted(count, cents) => print_line(out, b"accepted ", count, cents),
         Verdict::Refused(number, place) => {
@@ -74,7 +89,9 @@ fn print_verdict<W: Write>(out: &mut W, v: Verdict) -> bool {
 }
 
 // The one line for input that came whole, or one byte more than a message may have.
-fn answer<W: Write>(out: &mut W, input: &[u8]) -> bool {
+fn answer<W: Write>(out: &mut W, input: &[u8]) -> bool
+    ensures { OnTrue result (Appends (W.contents out.old) (W.contents out.new) (answered input.now)) }
+{
     if 65_536 < input.len() {
         return print(out, b"too long\n");
     }
@@ -87,21 +104,25 @@ fn complain<W: Write>(errors: &mut W, s: &[u8]) {
     let _ = print(errors, s);
 }
 
+// The program over any reader and two writers; answers whether the one line went.
 // Where a read failed there is no verdict: what came before may be a part of the message only.
-fn main(rt: HostRuntime) {
+fn run<R: Read, W: Write, E: Write>(input: &mut R, out: &mut W, errors: &mut E) -> bool
+    ensures { OnTrue result (IfSome (R.remaining input.old)
+        (λ m. Appends (W.contents out.old) (W.contents out.new) (answered m))) }
+{
     let mut area = room();
-    let taken = take_in(&mut rt.stdin(), &mut area);
+    let taken = take_in(input, &mut area);
     if taken.failed {
-        complain(
-            &mut rt.stderr(),
-            b"verdict: standard input cannot be read\n",
-        );
-        return;
+        complain(errors, b"verdict: standard input cannot be read\n");
+        return false;
     }
-    if !answer(&mut rt.stdout(), &area[..taken.count]) {
-        complain(
-            &mut rt.stderr(),
-            b"verdict: standard output cannot be written\n",
-        );
+    if !answer(out, &area[..taken.count]) {
+        complain(errors, b"verdict: standard output cannot be written\n");
+        return false;
     }
+    true
+}
+
+fn main(rt: HostRuntime) {
+    run(&mut rt.stdin(), &mut rt.stdout(), &mut rt.stderr());
 }
