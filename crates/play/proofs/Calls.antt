@@ -11,7 +11,7 @@ use Rattle.money.specs.declared.Range.TheVariants.{Total}
 use Rattle.money.specs.Amount.{most}
 use Rattle.book.specs.declared.Entry.{Entry}
 use Rattle.book.specs.Book.{Key, most_open, open_in, is_open, is_book, cents_of}
-use Rattle.book.specs.Calls.{done, unchanged, Bulk, bulk, unfit, added, entered, lessened, withdrawn, enter, withdraw}
+use Rattle.book.specs.Calls.{done, unchanged, bulk, unfit, added, entered, lessened, withdrawn, enter, withdraw}
 use Rattle.book.specs.Stored.{Stored, agrees, Carried, as_lent, carried, kept}
 use Rattle.book.specs.Code.{in_range}
 

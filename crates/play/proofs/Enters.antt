@@ -1,12 +1,11 @@
 -- A message that was judged is entered under a record's key.
-use mathlib.Core.Path.{◌≡◌, refl, sym, ap, ◌∙◌}
-use mathlib.Core.Bool.{Bool, true, false}
+use mathlib.Core.Path.{◌≡◌, sym, ap, ◌∙◌}
+use mathlib.Core.Bool.{true, false}
 use mathlib.Core.List.{List, [], ◌∷◌, ◌++◌}
-use Prim.Native.Nat.{ℕ, suc, ◌+◌, ◌≤◌}
+use Prim.Native.Nat.{ℕ, suc, ◌+◌}
 use native.Mathlib.Numerals.{add-one}
 use native.Mathlib.Omega.{arith}
 use borrow.Author.Tests.{le-leb}
-use lib.ListN.{take}
 use Rattle.text.specs.Quoted.{alike}
 use Rattle.money.specs.declared.Range.TheVariants.{Total}
 use Rattle.money.specs.Amount.{most}
@@ -21,7 +20,7 @@ use Rattle.keys.specs.Engine.{keyed_as}
 use Rattle.recording.specs.declared.Line.{Line}
 use Rattle.sums.specs.declared.Lot.{Lot}
 use Rattle.sums.specs.Sums.{lot_of}
-use Rattle.book.specs.Calls.{Bulk, bulk_of, enter}
+use Rattle.book.specs.Calls.{bulk_of, enter}
 use Rattle.book.specs.Stored.{kept}
 use Rattle.book.specs.Code.{in_range}
 use Rattle.play.specs.declared.Run.{Run}

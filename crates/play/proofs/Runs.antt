@@ -12,7 +12,7 @@ use Rattle.text.proofs.Truths.{never}
 use Rattle.sums.specs.declared.Lot.{Lot}
 use Rattle.book.specs.declared.Entry.{Entry}
 use Rattle.book.specs.declared.Outcome.{Outcome}
-use Rattle.book.specs.Book.{Key, most_open, open_in, first_at}
+use Rattle.book.specs.Book.{Key, most_open, first_at}
 use Rattle.book.specs.Calls.{Told, done, refusal, Call, enter, withdraw}
 use Rattle.book.specs.Stored.{Stored, Carried, kept}
 use Rattle.book.specs.Code.{in_range, answer_for, outcome_of, called_on, pulled, shifted, left_out}

@@ -7,7 +7,7 @@ use native.Mathlib.Numerals.{add-one}
 use native.Mathlib.Omega.{arith}
 use borrow.Author.Tests.{eq-eqb, ne_eqb, eqb-true}
 use lib.Dec.{eqb}
-use lib.ListN.{length, take, get_or, set, length-take}
+use lib.ListN.{length, take, get_or, set}
 use lib.Seq.{take-suc, length-take-le}
 use Rattle.text.specs.Truth.{pick}
 use Rattle.text.proofs.Truths.{never}

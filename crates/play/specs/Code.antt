@@ -1,19 +1,17 @@
 -- What the code's own structs mean, and how its run goes beside the paper's.
-use Rattle.std.specs.Prelude.{ℕ, ◌+◌, ◌*◌, ◌≤◌, ◌≡◌, true, false, List, [], ◌∷◌, ◌++◌, length, take, set, get_or, replicate, eqb, leb}
+use Rattle.std.specs.Prelude.{ℕ, ◌+◌, ◌*◌, ◌≤◌, ◌≡◌, true, false, List, [], ◌∷◌, length, take, set, get_or, replicate, eqb, leb}
 use Rattle.text.specs.Truth.{pick}
 use Rattle.accounts.specs.Lengths.{in_one}
 use Rattle.items.specs.Sums.{most_sum}
 use Rattle.twice.specs.Twice.{least_index}
 use Rattle.judge.specs.Index.{or_short}
 use Rattle.sums.specs.declared.Lot.{Lot}
-use Rattle.book.specs.declared.Entry.{Entry}
 use Rattle.book.specs.Book.{most_open}
 use Rattle.book.specs.Calls.{Told, done, refusal}
 use Rattle.book.specs.Stored.{Stored}
 use Rattle.book.specs.Code.{stored_of}
 use Rattle.play.specs.declared.Run as code
 use Rattle.play.specs.declared.Played as answer
-use Rattle.play.specs.Table.{zeros}
 use Rattle.play.specs.Play.{Run, Step, on, refuses, Played, as_lent, played}
 
 -- the paper's run of the code's: its lots are those of the open ones

@@ -10,8 +10,8 @@ use Rattle.sums.specs.declared.Lot.{Lot}
 use Rattle.sums.specs.Sums.{lot_of}
 use Rattle.judge.specs.Index.{or_short}
 use Rattle.book.specs.declared.Entry.{Entry}
-use Rattle.book.specs.Book.{Key, most_open, open_in, first_at}
-use Rattle.book.specs.Calls.{Told, done, refusal, bulk_of, Call, enter, withdraw}
+use Rattle.book.specs.Book.{most_open, open_in, first_at}
+use Rattle.book.specs.Calls.{Told, done, refusal, bulk_of, enter, withdraw}
 use Rattle.book.specs.Stored.{Stored, Carried, kept}
 use Rattle.book.specs.Code.{left_out}
 use Rattle.play.specs.Table.{table_of, zeros}

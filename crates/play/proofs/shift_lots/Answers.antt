@@ -1,5 +1,4 @@
 -- `play::shift_lots` meets its contract. The loop's invariant: shifting from here leaves what shifting from the start leaves. The measure is what is left of the open ones.
-use Prim.Native.Nat.{◌-◌}
 use native.Mathlib.Omega.{arith}
 use borrow.Author.Rules.{rules}
 use mathlib.Core.Path.{refl, sym, ◌∙◌}

@@ -1,5 +1,4 @@
 -- `play::table_of` meets its contract.
-use Prim.Native.Nat.{◌-◌}
 use mathlib.Core.Path.{refl}
 use native.Mathlib.Omega.{arith}
 use Rattle.play.specs.Table.{table_of}

@@ -1,6 +1,5 @@
 -- `recording::put` meets its contract. The loop's invariant: the first i bytes are those of the value with spaces behind it. The measure is what is left of the part.
 use mathlib.Core.Path.{refl}
-use Prim.Native.Nat.{◌-◌}
 use borrow.Author.Rules.{rules}
 use lib.ListN.{length}
 use Rattle.naming.proofs.Parts.{put_more, put_end}

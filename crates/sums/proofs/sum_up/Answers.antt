@@ -1,6 +1,5 @@
 -- `sums::sum_up` meets its contract. The loop's invariant: the cents of the items that are done stand in the four sums, and the others stand in the message from here on.
 use mathlib.Core.Path.{◌∙◌, ap}
-use Prim.Native.Nat.{◌-◌}
 use Rattle.notes.specs.Steps.{stated, met_in, stepped}
 use Rattle.engine.specs.Engine.{item_at}
 use Rattle.sums.proofs.Walk.{add_begins, add_ends, add_stops, add_fits, add_on}
