@@ -1,8 +1,8 @@
 -- The end state is that of the same calls made one by one from the emptied book; a refused run has a table of zeros.
-use mathlib.Core.Path.{◌≡◌, refl, sym, ap, ◌∙◌}
+use mathlib.Core.Path.{◌≡◌, refl, sym, ◌∙◌}
 use mathlib.Core.Bool.{Bool, true, false}
 use mathlib.Core.List.{List, [], ◌∷◌, ◌++◌}
-use Prim.Native.Nat.{ℕ, zero, suc, ◌+◌, ◌≤◌}
+use Prim.Native.Nat.{ℕ, zero, suc, ◌+◌}
 use native.Mathlib.Omega.{arith}
 use lib.Dec.{ltb}
 use lib.ListN.{length}
@@ -18,7 +18,7 @@ use Rattle.sums.specs.Sums.{lot_of}
 use Rattle.book.specs.declared.Entry.{Entry}
 use Rattle.book.specs.Book.{open_in, first_at}
 use Rattle.book.specs.Calls.{Told, done, refusal, Call, enter, withdraw, bulk_of}
-use Rattle.book.specs.Stored.{Stored, kept}
+use Rattle.book.specs.Stored.{kept}
 use Rattle.book.specs.Code.{left_out}
 use Rattle.days.specs.Day.{empty_stored, after_stored}
 use Rattle.play.specs.Table.{table_of, zeros}

@@ -3,10 +3,10 @@ use mathlib.Core.Path.{◌≡◌, refl, sym, ap, ◌∙◌}
 use mathlib.Core.Bool.{Bool, true, false}
 use mathlib.Core.List.{List, [], ◌∷◌, ◌++◌}
 use mathlib.Core.Logic.{◌⊎◌, inl, inr}
-use Prim.Native.Nat.{ℕ, zero, suc, ◌+◌, ◌≤◌, ◌<◌}
+use Prim.Native.Nat.{ℕ, zero, suc, ◌+◌, ◌≤◌}
 use native.Mathlib.Omega.{arith}
 use borrow.Author.Tests.{eqb-true, eq-eqb}
-use lib.Dec.{eqb, ltb}
+use lib.Dec.{ltb}
 use lib.ListN.{length, get_or}
 use Rattle.text.specs.Truth.{pick}
 use Rattle.text.specs.Quoted.{alike}
@@ -18,18 +18,18 @@ use Rattle.naming.specs.Key.{keyed}
 use Rattle.recording.specs.declared.Line.{Line}
 use Rattle.recording.specs.Record.{line_of}
 use Rattle.sums.specs.declared.Lot.{Lot}
-use Rattle.sums.specs.Sums.{sums_of, total, lot_if, lot_of}
+use Rattle.sums.specs.Sums.{total, lot_if, lot_of}
 use Rattle.sums.proofs.Laws.{sums_whole, service_row, lot_long}
 use Rattle.book.specs.declared.Entry.{Entry}
-use Rattle.book.specs.Book.{Key, Book, most_open, open_in, is_open, sum_of, open_total, is_book, first_at, without}
-use Rattle.book.specs.Calls.{Told, done, refusal, Outcome, unchanged, Bulk, bulk, unfit, bulk_if, bulk_of, added, lessened, Call, enter, withdraw, called}
-use Rattle.book.specs.Stored.{Stored, agrees, Carried, as_lent, carried, kept}
+use Rattle.book.specs.Book.{Key, most_open, open_in, sum_of, open_total, first_at}
+use Rattle.book.specs.Calls.{Told, done, refusal, Outcome, bulk, bulk_if, bulk_of, Call, enter, withdraw, called}
+use Rattle.book.specs.Stored.{Stored, agrees, Carried, carried, kept}
 use Rattle.book.specs.Code.{left_out}
 use Rattle.book.proofs.Lists.{first_out}
 use Rattle.days.proofs.Open.{open_added, open_lessened}
 use Rattle.days.proofs.Kept.{Kept, kept_called, Changed, same, more, less, changed}
 use Rattle.days.proofs.Stored.{kept_sum}
-use Rattle.play.specs.Table.{cell, row, table_of}
+use Rattle.play.specs.Table.{cell, table_of}
 use Rattle.play.specs.Play.{Run, Step, on, refuses, onward, carried_on, enters_if, enters, withdraws, lies, message_at, step_of, step, emptied, record_at, records, Played, go_on, play_from, played}
 use Rattle.play.specs.Play as paper
 
