@@ -48,7 +48,7 @@ abbrev pub in_document : List ℕ → Opened → Trace
 in_document m (from v p) = trace (profile v) m p
 in_document m (faulty n q) = fault n q
 
--- everything up to the end of `</Document>` was read, up to the place r .at, with r.notes in its order, and no fault was met
+-- everything up to the end of `</Document>` was read, up to the place r.at, with r.notes in its order, and no fault was met
 abbrev pub ReadTo : List ℕ → Ended (List Entry) → Type 0
 ReadTo m r = noted listed (in_document m (opened m)) [] ≡ on r
 
