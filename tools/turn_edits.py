@@ -43,6 +43,8 @@ NAMED = {
     ("accounts", "check_digits_01"): "n-lt2 n-lt1",
     ("accounts", "check_digits_99"): "n-gt98 n-gt99",
     ("accounts", "iban_of_35"): "s-gt34 s-gt35",
+    ("judge", "longest_message_refused"): "m-gt-MOST_BYTES m-ge-MOST_BYTES",
+    ("recording", "padded_with_zeros"): "f-e-eq32 f-e-eq48",
     ("tags", "currency_of_any_letters"): "i-lt3 i-lt2",
     ("words", "cr_not_counted"): "c-eq13 c-eq12",
     ("words", "reference_of_36"): "s-gt35 s-gt36",
