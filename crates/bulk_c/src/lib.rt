@@ -25,6 +25,8 @@ ghost use Rattle.records.specs.Indexed.{recorded_with};
 ghost use Rattle.play.specs.Play.{played_with};
 
 use book::Entry;
+use money::Range;
+use words::Field;
 
 // A message: 0, the count and the cents; or the number, the place and 0. The index is cleared; 25, 0, 0 where it has under 16,384 numbers, and it is as lent.
 #[unsafe(no_mangle)]
