@@ -10,8 +10,8 @@
  *
  * The caller lends the bytes, the area, the index and the answer for the call. No pointer is null, also where its length is 0, and
  * what is written overlaps nothing else that is lent. The library keeps nothing, allocates nothing and has no state, so that calls
- * may run beside each other, each with an index of its own. Of other libraries it needs memcpy alone. What judges a message keeps a
- * list of 40,004 bytes on the stack.
+ * may run beside each other, each with an index of its own. Of other libraries it needs memcpy and memset alone. What judges a message
+ * keeps a list of 40,004 bytes on the stack.
  *
  * An index is a lent list of BULK_INDEX numbers or more, which may hold anything; index_length is how many they are, and not their
  * bytes. By it no TxId twice in a bulk is found quickly. When the call returns every number of it is 0, however many they are,
