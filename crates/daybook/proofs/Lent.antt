@@ -1,26 +1,22 @@
 -- What a call answers on the first 64 entries is what it answers on the lent list.
 use mathlib.Core.Path.{◌≡◌, refl, ap, sym, ◌∙◌}
-use mathlib.Core.Bool.{Bool, true, false, not}
+use mathlib.Core.Bool.{Bool, true, false}
 use mathlib.Core.List.{List, [], ◌∷◌, ◌++◌, append-nil, append_assoc}
-use mathlib.Core.Logic.{◌⊎◌, inl, inr}
+use mathlib.Core.Logic.{inl, inr}
 use Prim.Native.Nat.{ℕ, zero, suc, ◌+◌, ◌-◌, ◌≤◌, ◌<◌}
 use native.Mathlib.Omega.{arith}
-use borrow.Author.Tests.{lt-ltb, le-ltb, le-leb, lt-leb, leb-true, leb-false, eq-eqb}
-use lib.Dec.{leb, ltb, eqb}
-use lib.ListN.{length, take, drop, set, replicate, length-take, take-append-drop, drop_of_length-le}
+use borrow.Author.Tests.{le-leb, lt-leb, leb-true, leb-false}
+use lib.Dec.{leb, ltb}
+use lib.ListN.{length, take, drop, set, replicate, take-append-drop, drop_of_length-le}
 use lib.Seq.{take-take, take-append-le, take_all, length-take-le}
-use Rattle.text.specs.Truth.{pick, all_of}
+use Rattle.text.specs.Truth.{pick}
 use Rattle.text.proofs.Truths.{never, lt_or_ge, fails, passes}
-use Rattle.money.specs.declared.Range.TheVariants.{Total}
-use Rattle.money.specs.Amount.{most}
 use Rattle.book.specs.declared.Entry.{Entry}
-use Rattle.book.specs.declared.Answer.{Answer}
-use Rattle.book.specs.declared.Found.{Found}
 use Rattle.book.specs.declared.Outcome as acting
-use Rattle.book.specs.Book.{Key, Book, most_open, open_in, is_open, two_equal, sum_of, open_total, is_book, first_at, without, cents_of}
-use Rattle.book.specs.Calls.{Told, done, refusal, Outcome, unchanged, in_book, Bulk, bulk, unfit, enters, entered, withdraws, withdrawn, Call, enter, withdraw, called, asked, Searched, at}
+use Rattle.book.specs.Book.{Key, Book, most_open, open_in, is_open, sum_of, open_total, is_book, first_at, without, cents_of}
+use Rattle.book.specs.Calls.{done, refusal, Outcome, unchanged, Bulk, bulk, unfit, enters, entered, withdraws, withdrawn, Call, enter, withdraw, called, asked, at}
 use Rattle.book.specs.Calls.{nowhere, none, searched}
-use Rattle.book.specs.Stored.{Stored, agrees, Carried, as_lent, total_after, carried, kept}
+use Rattle.book.specs.Stored.{Stored, agrees, Carried, as_lent, carried, kept}
 use Rattle.book.specs.Code.{answer_for, kept_of, outcome_of, found_of, blank_entry, book_of, stored_of, called_on, asked_on, found_for}
 use Rattle.book.proofs.Lists.{open_first}
 use Rattle.book.proofs.Answers.{none_kept}

@@ -1,20 +1,20 @@
 -- A list copied entry by entry, in and out, and what is lent against its first 64 places.
 use mathlib.Core.Path.{◌≡◌, refl, ap, sym, ◌∙◌}
 use mathlib.Core.Bool.{Bool, true, false}
-use mathlib.Core.List.{List, [], ◌∷◌, ◌++◌, append-nil, append_assoc}
+use mathlib.Core.List.{List, [], ◌∷◌, ◌++◌}
 use Prim.Native.Nat.{ℕ, zero, suc, ◌+◌, ◌-◌, ◌≤◌, ◌<◌}
 use native.Mathlib.Numerals.{add-one}
 use native.Mathlib.Omega.{arith}
 use borrow.Author.Tests.{le-leb, lt-leb}
 use lib.Dec.{leb}
-use lib.ListN.{length, take, drop, get_or, set, replicate, length-replicate, length-append, length-take, drop_of_length-le}
+use lib.ListN.{length, take, drop, get_or, set, replicate, length-replicate, drop_of_length-le}
 use lib.Seq.{take_all}
 use mathlib.Core.Logic.{◌⊎◌, inl, inr}
 use Rattle.text.specs.Truth.{pick}
 use Rattle.text.proofs.Truths.{never, lt_or_ge}
 use Rattle.book.specs.declared.Entry.{Entry}
-use Rattle.book.specs.Book.{Key, most_open, first_at}
-use Rattle.book.specs.Code.{no_entry, blank_entry}
+use Rattle.book.specs.Book.{most_open}
+use Rattle.book.specs.Code.{blank_entry}
 use Rattle.daybook.specs.Lent.{first_places, replaced, fewer}
 
 -- ---- the smaller of two

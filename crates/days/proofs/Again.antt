@@ -1,23 +1,21 @@
 -- A withdrawn key may be entered again, and its room serves again.
-use mathlib.Core.Path.{◌≡◌, refl, ap, sym, ◌∙◌}
+use mathlib.Core.Path.{◌≡◌, refl, ap}
 use mathlib.Core.Bool.{Bool, true, false}
 use mathlib.Core.List.{List, [], ◌∷◌}
-use Prim.Native.Nat.{ℕ, zero, suc, ◌+◌, ◌-◌, ◌≤◌, ◌<◌}
+use Prim.Native.Nat.{ℕ, zero, suc, ◌-◌, ◌≤◌}
 use native.Mathlib.Omega.{arith}
 use borrow.Author.Tests.{lt-leb}
-use lib.Dec.{leb}
 use lib.ListN.{length, take}
 use Rattle.text.specs.Truth.{either, pick}
-use Rattle.text.specs.Quoted.{alike}
 use Rattle.text.proofs.Truths.{never}
 use Rattle.money.specs.declared.Range.TheVariants.{Total}
 use Rattle.money.specs.Amount.{most}
 use Rattle.reading.proofs.Lists.{alike_same}
 use Rattle.book.specs.declared.Entry.{Entry}
 use Rattle.book.specs.Book.{Key, Book, most_open, open_in, has_key, is_open, two_equal, sum_of, open_total, is_book, without, cents_of}
-use Rattle.book.specs.Calls.{Told, done, refusal, Outcome, unchanged, bulk, added, enters, entered, lessened, withdraws, withdrawn}
-use Rattle.days.proofs.Open.{Known, known, open_lessened, sum_less}
-use Rattle.days.proofs.Kept.{Kept, kept_of_lem, kept_lessened, is_book_lem}
+use Rattle.book.specs.Calls.{done, unchanged, bulk, enters, entered, lessened, withdraws, withdrawn}
+use Rattle.days.proofs.Open.{known, open_lessened, sum_less}
+use Rattle.days.proofs.Kept.{kept_of_lem, kept_lessened, is_book_lem}
 
 either_no : (a b : Bool) → either a b ≡ false → (a ≡ false) × (b ≡ false)
 either_no true b e = never (cc)

@@ -3,21 +3,21 @@ use mathlib.Core.Path.{◌≡◌, refl, ap, sym, ◌∙◌}
 use mathlib.Core.Bool.{Bool, true, false, not}
 use mathlib.Core.List.{List, [], ◌∷◌, ◌++◌}
 use mathlib.Core.Logic.{◌⊎◌, inl, inr}
-use Prim.Native.Nat.{ℕ, suc, ◌+◌, ◌-◌, ◌*◌, ◌≤◌, ◌<◌}
+use Prim.Native.Nat.{ℕ, ◌≤◌, ◌<◌}
 use native.Mathlib.Omega.{arith}
 use borrow.Author.Tests.{le-leb, leb-false, eqb-true, eqb-false, eq-eqb, ne_eqb}
 use lib.Dec.{leb, eqb}
-use lib.ListN.{length, take, set, length-set, length-append}
-use Rattle.text.specs.Truth.{both, either, pick, paired, all_of}
-use Rattle.text.specs.Quoted.{equal, alike}
+use lib.ListN.{length, length-set}
+use Rattle.text.specs.Truth.{either, pick}
+use Rattle.text.specs.Quoted.{alike}
 use Rattle.text.proofs.Truths.{never, pass, lastly}
 use Rattle.money.specs.declared.Range.TheVariants.{Total}
 use Rattle.money.specs.Amount.{most}
 use Rattle.book.specs.declared.Entry.{Entry}
-use Rattle.book.specs.Book.{Key, Book, most_open, open_in, has_key, is_open, two_equal, sum_of, open_total, is_book, without, cents_of}
-use Rattle.book.specs.Calls.{Told, done, refusal, Outcome, unchanged, Bulk, bulk, unfit, added, enters, entered, lessened, withdraws, withdrawn, Call, enter, withdraw, called}
+use Rattle.book.specs.Book.{Key, Book, most_open, open_in, has_key, is_open, two_equal, open_total, is_book, without, cents_of}
+use Rattle.book.specs.Calls.{done, refusal, Outcome, unchanged, Bulk, bulk, unfit, added, enters, entered, lessened, withdraws, withdrawn, Call, enter, withdraw, called}
 use Rattle.days.specs.Day.{empty, after}
-use Rattle.days.proofs.Open.{Known, known, open_added, open_lessened, length_lessened}
+use Rattle.days.proofs.Open.{known, open_added, open_lessened, length_lessened}
 
 -- ---- keys told apart either way round
 eqb_same : (a b : ℕ) → eqb a b ≡ eqb b a

@@ -1,15 +1,14 @@
 -- The open entries after a call.
-use mathlib.Core.Path.{◌≡◌, refl, ap, sym, ◌∙◌}
+use mathlib.Core.Path.{◌≡◌, refl, ap, ◌∙◌}
 use mathlib.Core.Bool.{Bool, true, false, not}
 use mathlib.Core.List.{List, [], ◌∷◌, ◌++◌}
-use Prim.Native.Nat.{ℕ, zero, suc, ◌+◌, ◌-◌, ◌≤◌, ◌<◌}
+use Prim.Native.Nat.{suc, ◌+◌, ◌-◌, ◌≤◌, ◌<◌}
 use native.Mathlib.Numerals.{add-one}
 use native.Mathlib.Omega.{arith}
-use borrow.Author.Tests.{leb-true, leb-false}
-use lib.Dec.{leb}
-use lib.ListN.{length, take, drop, set, length-append, length-drop}
+use borrow.Author.Tests.{leb-true}
+use lib.ListN.{length, drop, length-append, length-drop}
 use lib.Seq.{take-suc-set, take_at, length-take-le}
-use Rattle.text.specs.Truth.{either, pick, all_of}
+use Rattle.text.specs.Truth.{either, pick}
 use Rattle.text.proofs.Truths.{never, passes}
 use Rattle.money.specs.declared.Range.TheVariants.{Total}
 use Rattle.money.specs.Amount.{most}

@@ -1,23 +1,21 @@
 -- A book that is made by calls of this library from an empty one is never none: so 29 never comes of it.
-use mathlib.Core.Path.{◌≡◌, refl, ap, sym, ◌∙◌}
+use mathlib.Core.Path.{◌≡◌, refl}
 use mathlib.Core.Bool.{Bool, true, false}
 use mathlib.Core.List.{List, [], ◌∷◌, ◌++◌}
-use Prim.Native.Nat.{ℕ, zero, suc, ◌+◌, ◌*◌, ◌≤◌, ◌<◌}
+use Prim.Native.Nat.{◌*◌, ◌≤◌}
 use native.Mathlib.Omega.{arith}
-use lib.ListN.{length, take, length-take}
+use lib.ListN.{length}
 use lib.Seq.{length-take-le}
 use Rattle.text.specs.Truth.{pick}
-use Rattle.money.specs.declared.Range.TheVariants.{Total}
-use Rattle.money.specs.Amount.{most}
 use Rattle.reading.specs.Verdict.{Judged, accepted, refused}
 use Rattle.reading.specs.Judged.{judged}
-use Rattle.naming.specs.Key.{Keyed, keyed}
+use Rattle.naming.specs.Key.{keyed}
 use Rattle.documents.specs.Document.{Each}
 use Rattle.items.specs.Sums.{most_sum}
 use Rattle.items.proofs.Sums.{bulk_most}
 use Rattle.book.specs.declared.Entry.{Entry}
-use Rattle.book.specs.Book.{Key, Book, most_open, open_in, has_key, is_open, sum_of, open_total, is_book, without}
-use Rattle.book.specs.Calls.{Outcome, bulk, unfit, bulk_if, bulk_of, Call, enter, withdraw, called}
+use Rattle.book.specs.Book.{Key, Book, most_open, open_in, has_key, sum_of, is_book, without}
+use Rattle.book.specs.Calls.{Outcome, bulk, unfit, bulk_if, Call, enter, withdraw, called}
 use Rattle.days.specs.Day.{empty, after, Made, entering, withdrawing, AllMade}
 use Rattle.days.proofs.Open.{open_added, open_lessened}
 use Rattle.days.proofs.Kept.{Kept, Changed, same, more, less, changed, kept_called, is_book_lem}

@@ -1,17 +1,16 @@
 -- The stored total: every call keeps it equal to what summing gives, so no answer changes for a book made by calls from the empty one.
-use mathlib.Core.Path.{◌≡◌, refl, ap, sym, ◌∙◌}
+use mathlib.Core.Path.{◌≡◌, refl, ap}
 use mathlib.Core.Bool.{Bool, true, false}
 use mathlib.Core.List.{List, [], ◌∷◌}
-use Prim.Native.Nat.{ℕ, ◌+◌, ◌-◌, ◌≤◌}
+use Prim.Native.Nat.{ℕ, ◌+◌, ◌≤◌}
 use native.Mathlib.Omega.{arith}
 use borrow.Author.Tests.{eqb-true, eq-eqb}
-use lib.Dec.{eqb}
 use lib.ListN.{length}
 use Rattle.text.specs.Truth.{pick}
 use Rattle.book.specs.declared.Entry.{Entry}
-use Rattle.book.specs.Book.{Key, Book, most_open, open_total, is_book}
+use Rattle.book.specs.Book.{Book, most_open, open_total}
 use Rattle.book.specs.Calls.{Told, done, refusal, Call, enter, withdraw, called, asked, searched}
-use Rattle.book.specs.Stored.{Stored, agrees, Carried, as_lent, total_after, carried, kept}
+use Rattle.book.specs.Stored.{Stored, agrees, as_lent, total_after, carried, kept}
 use Rattle.days.specs.Day.{empty, after, entered_by, withdrawn_by, Any, change, ask, search, Answer, told, found, answers, stored_answers, empty_stored, after_stored, MadeAny}
 use Rattle.days.proofs.Kept.{refused_same}
 use Rattle.days.proofs.Total.{counts}

@@ -1,16 +1,15 @@
 -- After any calls the open total is the sum of all accepted entries less the sum of all accepted withdrawals.
-use mathlib.Core.Path.{◌≡◌, refl, ap, sym, ◌∙◌}
+use mathlib.Core.Path.{◌≡◌, refl, ap}
 use mathlib.Core.Bool.{Bool, true, false}
 use mathlib.Core.List.{List, [], ◌∷◌, ◌++◌}
 use Prim.Native.Nat.{ℕ, ◌+◌, ◌-◌, ◌≤◌, ◌<◌}
 use native.Mathlib.Omega.{arith}
 use borrow.Author.Tests.{leb-false}
 use lib.Dec.{leb}
-use lib.ListN.{length}
 use Rattle.text.specs.Truth.{pick}
 use Rattle.book.specs.declared.Entry.{Entry}
-use Rattle.book.specs.Book.{Key, Book, most_open, open_in, is_open, sum_of, open_total, is_book, without, cents_of}
-use Rattle.book.specs.Calls.{Told, done, refusal, Outcome, unchanged, Bulk, bulk, unfit, added, enters, entered, lessened, withdraws, withdrawn, Call, enter, withdraw, called}
+use Rattle.book.specs.Book.{Key, Book, most_open, open_in, is_open, sum_of, open_total, is_book, cents_of}
+use Rattle.book.specs.Calls.{Told, done, Outcome, unchanged, Bulk, bulk, unfit, added, enters, entered, lessened, withdraws, withdrawn, Call, enter, withdraw, called}
 use Rattle.days.specs.Day.{empty, after, if_done, entered_by, withdrawn_by, all_entered, all_withdrawn}
 use Rattle.days.proofs.Open.{Known, known, open_added, open_lessened, sum_more, sum_less}
 

@@ -1,5 +1,5 @@
 -- A day: any calls, one behind the other.
-use Rattle.std.specs.Prelude.{ℕ, ◌+◌, ◌≤◌, ◌≡◌, List, [], ◌∷◌}
+use Rattle.std.specs.Prelude.{ℕ, ◌+◌, List, [], ◌∷◌}
 use Rattle.naming.specs.Key.{keyed}
 use Rattle.book.specs.declared.Entry.{Entry}
 use Rattle.book.specs.Book.{Key, Book}

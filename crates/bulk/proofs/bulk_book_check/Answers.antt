@@ -1,5 +1,5 @@
 -- `bulk::bulk_book_check` meets its contract: a checked book stands where its sum is the stored total.
-use Rattle.std.proofs.Common.{◌≡◌, ap, ◌∙◌}
+use Rattle.std.proofs.Common.{ap, ◌∙◌}
 use Rattle.book.proofs.Answers.{sum_stands}
 use Rattle.bulk.specs.Told.{told_is, lent_book}
 use Rattle.bulk.proofs.bulk_book_check.Goals as goal

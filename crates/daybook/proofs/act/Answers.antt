@@ -1,5 +1,5 @@
 -- `daybook::act` meets its contract: what a call answers on the first 64 entries is what it answers on the lent list.
-use Rattle.std.proofs.Common.{◌≡◌, length, ap, sym, ◌∙◌, arith}
+use Rattle.std.proofs.Common.{◌≡◌, length, sym, ◌∙◌, arith}
 use Rattle.book.specs.Book.{most_open}
 use Rattle.book.specs.Code.{call_as}
 use Rattle.daybook.proofs.Lent.{lent_called}

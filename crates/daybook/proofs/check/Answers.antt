@@ -1,5 +1,5 @@
 -- `daybook::check` meets its contract: what is asked of the first 64 entries is what is asked of the lent list.
-use Rattle.std.proofs.Common.{◌≡◌, ap, ◌∙◌}
+use Rattle.std.proofs.Common.{ap, ◌∙◌}
 use Rattle.book.specs.Calls.{Told}
 use Rattle.book.specs.Code.{answer_for}
 use Rattle.daybook.proofs.Lent.{lent_asked}

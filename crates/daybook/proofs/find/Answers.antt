@@ -1,5 +1,5 @@
 -- `daybook::find` meets its contract: what a search answers of the lent list.
-use Rattle.std.proofs.Common.{◌≡◌, ◌∙◌}
+use Rattle.std.proofs.Common.{◌∙◌}
 use Rattle.daybook.proofs.Lent.{lent_found}
 use Rattle.daybook.proofs.find.Goals as goal
 
