@@ -84,17 +84,16 @@ example_record =
     ++ "2010-11-01" and 15
     ++ (10 ∷ [])
 
--- a message that is accepted with one item, whose record this is
-taken : (m a r : List ℕ) → judged m ≡ accepted 1 1234 → records_for (the_header m) (the_items m) ≡ r → record_length ≤ length a → recorded m a ≡ record { verdict = accepted 1 1234; area = r ++ drop record_length a }
-unfolding recorded
-taken m a r one its room = rw (one, le-ltb (length a) record_length room, its)
-
--- The example is accepted with one item and 1,234 cents; and an area with room for one record begins with the example's record afterwards, and goes on as lent.
--- Its verdict and its record are computed.
-pub whole_example : (a : List ℕ) → record_length ≤ length a → recorded example a ≡ record { verdict = accepted 1 1234; area = example_record ++ drop record_length a }
+-- it is accepted, and its one item has this record: computed
+computed : (judged example ≡ accepted 1 1234) × (records_for (the_header example) (the_items example) ≡ example_record)
 unfolding
     all_of among decimal digit capital small capital_or_digit letter_or_digit reference_set text_set as_space collapsed slash_rule reference_form reference_given end_to_end_form end_to_end_given text_form text_given code_given leap days_in real_day date_form
     date_given letter stands written clock_form offset_form zone_form end_form time_form time_given spell leaves_one in_range iban_checked identifier_checked count_form count_given point_form amount_form
     cents amount_given head bic_form bic_given lengths length_of iban_form iban_length iban_given identifier_form identifier_given white currency_place in_euro starts_question is_type profile simple_given closed valued opened behind_all
     message compared judged padded digits record_for
-whole_example a room = taken example a example_record refl refl room
+computed = (refl, refl)
+
+-- The example is accepted with one item and 1,234 cents; and an area with room for one record begins with the example's record afterwards, and goes on as lent.
+pub whole_example : (a : List ℕ) → record_length ≤ length a → recorded example a ≡ record { verdict = accepted 1 1234; area = example_record ++ drop record_length a }
+unfolding recorded
+whole_example a room = rw (computed.0, le-ltb (length a) record_length room, computed.1)
