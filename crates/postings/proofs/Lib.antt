@@ -1,2 +1,3 @@
+pub mod Example
 pub mod Long
 pub mod Once
