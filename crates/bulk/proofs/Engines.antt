@@ -34,7 +34,7 @@ one_records κs a v w s t d e =
     let o = one_outcome a.1.1.0.now a.0.now a.1.0.now v w s.1.0.now t.1.0.now d.0 d.1 e.0 e.1 in
     (o.0, o.1, d.2 ∙ sym e.2)
 
--- ---- the same by their names in C: the three words of the answer stand last
+-- ---- the same of the C face, whose names `bulk_c` exports: the three words of the answer stand last
 pub one_bulk_judge : (κs : Lfts 3) (a : Dens κs bulk-judge-kinds.ps) (s t : AtExit (ended_of 3 bulk-judge-kinds.ps bulk-judge-kinds.r) κs)
     → bulk-judge.Learnt κs a tt s → bulk-judge-by-table.Learnt κs a tt t → (s.1.0.now ≡ t.1.0.now) × (s.1.1.0.now ≡ t.1.1.0.now)
 one_bulk_judge κs a s t d e = (d.1 ∙ sym e.1, d.0 ∙ sym e.0)

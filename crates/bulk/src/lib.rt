@@ -1,4 +1,4 @@
-// The C face and nothing else: every public function once more, under its exported C name.
+// The C face and nothing else: every public function once more, by the name under which `bulk_c` exports it.
 // Each takes any bytes, and writes all three words of `answer`, `bulk_play` all ten, by the table of specs/Told.antt.
 #![tactic(auto)]
 
