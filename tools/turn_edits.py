@@ -44,17 +44,26 @@ NAMED = {
     ("accounts", "check_digits_99"): "n-gt98 n-gt99",
     ("accounts", "iban_of_35"): "s-gt34 s-gt35",
     ("judge", "longest_message_refused"): "m-gt-MOST_BYTES m-ge-MOST_BYTES",
+    ("keys", "b2b_without_service"): "service-eq2 service-eq3",
     ("notes", "item_10001_passes"): "self-lt-MOST_ITEMS self-le-MOST_ITEMS",
     ("notes", "services_mixed"): "first-mine first",
     ("notes", "type_beside_the_header"): "first-said first-eq0-2",
     ("play", "left_over_not_told"): "run-ends ends-run",
     ("recording", "padded_with_zeros"): "f-e-eq32 f-e-eq48",
+    ("records", "header_sequence_left_out"): "own-eq0 own-ne0",
+    ("records", "sequence_of_the_last_item"): "own-eq0 own-ge0",
     ("tags", "currency_of_any_letters"): "i-lt3 i-lt2",
     ("words", "cr_not_counted"): "c-eq13 c-eq12",
     ("words", "reference_of_36"): "s-gt35 s-gt36",
 }
 # Texts that are not spelled by rule.
 BY_HAND = {}
+# Lemmas that were not spelled by rule, by the crate and the spelling that the rule gives.
+LEMMAS = {
+    ("bulks", "records_of"): "records_of_lem",
+    ("faults", "behind_last"): "behind-last",
+    ("faults", "declared_comes"): "declared-comes",
+}
 # Names that stand in a new text alone, and what they are.
 IN_SCOPE = {
     ("documents", "suc"): "by its whole path",
@@ -122,7 +131,8 @@ def where(text, crate, name):
     """What a line `refused:` says, today."""
     found = re.fullmatch(r"proofs/(.+)/Proof\.antt(?: (\S+))?", text)
     if not found:
-        return " ".join(it if at == 0 else snake(it) for at, it in enumerate(text.split(" ")))
+        file, *names_in_it = text.split(" ")
+        return " ".join([file, *(LEMMAS.get((crate, snake(it)), it if file == "fn" else snake(it)) for it in names_in_it)])
     goal = GOALS.get((crate, name), found[2] and f"?{found[2]}")
     return f"fn {found[1].replace('/', '::')}" + (f" {goal}" if goal else "")
 
