@@ -123,6 +123,7 @@ fn run<R: Read, W: Write, E: Write>(input: &mut R, out: &mut W, errors: &mut E) 
     true
 }
 
+// The program over the system's own input and outputs.
 fn main(rt: HostRuntime) {
     run(&mut rt.stdin(), &mut rt.stdout(), &mut rt.stderr());
 }
