@@ -3,7 +3,7 @@ use mathlib.Core.Path.{◌≡◌, refl, ap, sym, ◌∙◌}
 use mathlib.Core.Bool.{Bool, true, false}
 use mathlib.Core.Logic.{⊎_elim}
 use mathlib.Core.List.{List, [], ◌∷◌, ◌++◌}
-use Prim.Native.Nat.{ℕ, ◌-◌, ◌%◌, ◌<◌, ◌≤◌}
+use Prim.Native.Nat.{ℕ, ◌-◌, ◌%◌, ◌≤◌}
 use native.Mathlib.Omega.{arith}
 use borrow.Author.Tests.{eqb-true}
 use lib.ListN.{length, take, drop, get_or}
@@ -12,7 +12,7 @@ use lib.Dec.{eqb}
 use Rattle.text.specs.Truth.{both, either, pick, between, every, only, part}
 use Rattle.text.specs.Quoted.{among, decimal}
 use Rattle.text.specs.Classes.{digit, capital, small, capital_or_digit, letter_or_digit, reference_set}
-use Rattle.text.proofs.Truths.{never, both_true, both_false, both_yes, either_true, either_same, between_true, between_of, between_under, between_over, passes}
+use Rattle.text.proofs.Truths.{never, both_true, both_false, both_yes, either_true, either_same, between_true, between_over, passes}
 use Rattle.text.proofs.Scan.{rest_of, two_at, only_append, only_all}
 use Rattle.text.proofs.Sets.{everywhere, among_high}
 use Rattle.text.proofs.Digits.{digit_range, capital_range, small_range}
@@ -57,20 +57,19 @@ unfolding identifier_form
 identifier_long s e = between_true 8 35 (length s) (passes _ e 0)
 
 -- ---- the check digits, as the code reads them
-pub range_under : (s : List ℕ) (a : Bool) (n : ℕ) → 4 ≤ length s → n ≡ decimal (get_or s 2 0 ∷ get_or s 3 0 ∷ []) → n < 2 → both a (in_range s) ≡ false
+in_range_is : (s : List ℕ) (n : ℕ) → 4 ≤ length s → n ≡ decimal (get_or s 2 0 ∷ get_or s 3 0 ∷ []) → in_range s ≡ between 2 98 n
 unfolding in_range
-range_under s a n h e g = rw (two_at s 2 h, ← e, between_under 2 98 n g) (both_false a)
+in_range_is s n h e = rw (two_at s 2 h, ← e)
 
-pub range_over : (s : List ℕ) (a : Bool) (n : ℕ) → 4 ≤ length s → n ≡ decimal (get_or s 2 0 ∷ get_or s 3 0 ∷ []) → 98 < n → both a (in_range s) ≡ false
-unfolding in_range
-range_over s a n h e g = rw (two_at s 2 h, ← e, between_over 2 98 n g) (both_false a)
+-- v is whether they are from 02 to 98, and r whether what is read leaves 1
+module _ (s : List ℕ) (m : ℕ) (h : 4 ≤ length s) {n : ℕ} (e : n ≡ decimal (get_or s 2 0 ∷ get_or s 3 0 ∷ [])) {v : Bool} (g : v ≡ between 2 98 n) where
+  pub checked_then : {r : Bool} → v ≡ true → r ≡ leaves_one (take (length s - m) (drop m s) ++ take 4 s) → r ≡ both (leaves_one (drop m s ++ take 4 s)) (in_range s)
+  checked_then t f =
+      rw (in_range_is s n h e, sym g ∙ t)
+      (f ∙ ap (λ (l : List ℕ). leaves_one (l ++ take 4 s)) (rest_of m s) ∙ sym (both_yes (leaves_one (drop m s ++ take 4 s))))
 
-pub range_within : (s : List ℕ) (m : ℕ) (r : Bool) (n : ℕ) → 4 ≤ length s → n ≡ decimal (get_or s 2 0 ∷ get_or s 3 0 ∷ []) → 2 ≤ n → n ≤ 98
-    → r ≡ leaves_one (take (length s - m) (drop m s) ++ take 4 s) → r ≡ both (leaves_one (drop m s ++ take 4 s)) (in_range s)
-unfolding in_range
-range_within s m r n h e lo hi f =
-    rw (two_at s 2 h, ← e, between_of 2 98 n lo hi)
-    (f ∙ ap (λ (l : List ℕ). leaves_one (l ++ take 4 s)) (rest_of m s) ∙ sym (both_yes (leaves_one (drop m s ++ take 4 s))))
+  pub checked_else : v ≡ false → v ≡ both (leaves_one (drop m s ++ take 4 s)) (in_range s)
+  checked_else t = rw (in_range_is s n h e, sym g ∙ t) (t ∙ sym (both_false (leaves_one (drop m s ++ take 4 s))))
 
 -- ---- what an identifier's check reads
 pub capital_counts : (c : ℕ) → capital c ≡ true → letter_or_digit c ≡ true
@@ -127,10 +126,3 @@ identifier_turned s e =
     (spelled_append (only letter_or_digit (drop 7 s)) (take 4 s)
     ∙ ap (λ (l : List ℕ). l ++ spelled (take 4 s)) (only_spelled (drop 7 s))
     ∙ sym (spelled_append (drop 7 s) (take 4 s))))
-
--- ---- two tests, of which the code asks the second only where the first passed
-pub both_go : (r a b : Bool) → a ≡ true → r ≡ b → r ≡ both a b
-both_go r a b e f = rw e f
-
-pub both_stop : (a b : Bool) → a ≡ false → false ≡ both a b
-both_stop a b e = rw e

@@ -1,8 +1,9 @@
 -- "A single checker asked alone answers with 7 to 9 and place 0." "Accepting, the amount's answers the cents and the count's the number, the others yes."
 -- Request 1: "Refusals: 19, .., also from the checker alone."
 use Rattle.std.specs.Prelude.{ℕ, Bool, true, false, List, [], ◌∷◌}
-use Rattle.answers.specs.declared.Answer.{Answer}
-use Rattle.answers.specs.declared.Answer.TheVariants.{Yes, Worth, Form, Length, CheckDigits, Range, Unlisted}
+use Rattle.std.specs.Prelude.{Result, Ok, Err, Option, None, Some}
+use Rattle.answers.specs.declared.Refusal.{Refusal}
+use Rattle.answers.specs.Refusals.{refusal_number}
 
 -- what is given: yes; a number, cents or a place in a list; or a refusal, by its number
 pub data Given : Type 0 where
@@ -10,15 +11,24 @@ pub data Given : Type 0 where
   worth : ℕ → Given
   refused : ℕ → Given
 
--- this paper's number and value for each case
-abbrev pub given : Answer → Given
-given Yes = yes
-given (Worth n) = worth n
-given Form = refused 7
-given Length = refused 19
-given CheckDigits = refused 8
-given Range = refused 9
-given Unlisted = refused 10
+-- of a result: what a value that passes is given, or the refusal by its number
+abbrev pub given_by : {A : Type 0} → (A → Given) → Result A Refusal → Given
+given_by f (Ok x) = f x
+given_by f (Err r) = refused (refusal_number r)
+
+-- of a checker that says yes; of one that tells a number, cents or a place in a list; and of any kind, where nothing may be told
+abbrev pub given_yes : Result Unit Refusal → Given
+given_yes r = given_by (λ _. yes) r
+
+abbrev pub given_worth : Result ℕ Refusal → Given
+given_worth r = given_by worth r
+
+abbrev pub told_of : Option ℕ → Given
+told_of None = yes
+told_of (Some n) = worth n
+
+abbrev pub given_any : Result (Option ℕ) Refusal → Given
+given_any r = given_by told_of r
 
 abbrev pub number_of : Given → ℕ
 number_of yes = 0
@@ -47,3 +57,8 @@ unless false g h = h
 abbrev pub in_order : List Rule → Given → Given
 in_order [] g = g
 in_order (r ∷ l) g = unless r.test (in_order l g) (refused r.number)
+
+-- what a rule's test says as a result: a yes, or the refusal where it fails
+abbrev pub required : Bool → Refusal → Result Unit Refusal
+required true why = Ok tt
+required false why = Err why

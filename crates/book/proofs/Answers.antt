@@ -1,32 +1,38 @@
--- What each function on values answers.
+-- What each function answers.
 use mathlib.Core.Path.{◌≡◌, refl, ap, sym, ◌∙◌}
 use mathlib.Core.Bool.{Bool, true, false, not}
-use mathlib.Core.List.{List}
+use mathlib.Core.List.{List, ◌++◌}
+use mathlib.Core.Logic.{◌≢◌}
 use Prim.Native.Nat.{ℕ, ◌+◌, ◌-◌, ◌≤◌, ◌<◌}
 use native.Mathlib.Omega.{arith}
-use borrow.Author.Tests.{lt-ltb, le-ltb, le-leb, lt-leb, leb-true, eqb-true}
-use lib.Dec.{ltb, leb, eqb}
-use lib.ListN.{length, take, get_or}
-use lib.Seq.{length-take-le}
+use borrow.Author.Tests.{le-leb, lt-leb, leb-true, ne_eqb, eq-eqb}
+use lib.Dec.{leb, eqb}
+use lib.ListN.{length, take, drop, get_or}
+use lib.Seq.{get_or-take, length-take-le}
+use Rattle.std.proofs.Common.{Some, None, Result, Ok, Err}
+use Rattle.std.specs.List.{copy_within}
+use Rattle.std.specs.Option.{ok_or}
 use Rattle.text.specs.Truth.{both, pick}
-use Rattle.text.proofs.Truths.{never, both_true, fails, passes, pass, lastly}
+use Rattle.text.proofs.Truths.{never, both_false, fails, passes, pass, lastly}
+use Rattle.answers.specs.declared.Refused.{Refused}
+use Rattle.answers.specs.declared.Refusal.TheVariants.{NoBook}
 use Rattle.money.specs.declared.Range.TheVariants.{Total}
 use Rattle.money.specs.Amount.{most}
 use Rattle.book.specs.declared.Entry.{Entry}
-use Rattle.book.specs.declared.Answer.{Answer}
-use Rattle.book.specs.declared.Outcome as acting
-use Rattle.book.specs.Book.{Key, Book, most_open, is_open, two_equal, sum_of, open_total, is_book, first_at, cents_of}
-use Rattle.book.specs.Calls.{done, refusal, Outcome, unchanged, Bulk, added, enters, entered, withdraws, withdrawn, Call, enter, withdraw, called, asked}
+use Rattle.book.specs.declared.Numbers.{Numbers}
+use Rattle.book.specs.Book.{Key, Book, most_open, two_equal, sum_of, is_book, open_in, open_total, without, cents_of}
+use Rattle.book.specs.Calls.{done, refusal, unchanged, Bulk, enters, entered, withdraws, withdrawn, Call, enter, withdraw, called, asked}
 use Rattle.book.specs.Stored.{Stored, agrees, as_lent, carried, kept, stands}
-use Rattle.book.specs.Code.{in_range, answer_for, outcome_of, no_entry, capped, book_of, stored_of, called_on, asked_on, sum_is, shifted}
-use Rattle.book.proofs.Lists.{open_first, shifted_is, cents_at, cents_within, capped_test}
+use Rattle.book.specs.Code.{told_as, place_in, capped, book_of, lent, leaves, sum_is}
+use Rattle.book.proofs.Lists.{found, cents_at, cents_within, first_out, closed_up}
 
--- ---- no book, or another total than summing gives: 29, whatever the call
+-- ---- no book: 29, whatever the call
 none_called : (c : Call) (b : Book) → is_book b ≡ false → called c b ≡ unchanged 29 0 b
 unfolding entered withdrawn
 none_called (enter x) b e = rw e
 none_called (withdraw k) b e = rw e
 
+-- or another total than summing gives
 pub none_kept : (c : Call) (s : Stored) → stands s ≡ false → kept c s ≡ as_lent 29 0 s
 unfolding kept
 none_kept c s = go (is_book s.book) (agrees s) refl
@@ -36,150 +42,127 @@ none_kept c s = go (is_book s.book) (agrees s) refl
     go true true z e = never (cc)
     go false true z e = rw (none_called c s.book z)
 
--- ---- a checked book, and whether its sum is what is stored
-pub sum_stands : (s : Stored) → sum_is (answer_for (asked s.book) s.book.number) s.total ≡ stands s
-unfolding asked
-sum_stands s = go (is_book s.book)
+-- ---- what a book is known by
+pub record Known (b : Book) : Type 0 where
+  pub room : most_open ≤ length b.entries
+  pub few : b.number ≤ most_open
+  pub different : two_equal (open_in b) ≡ false
+  pub within : open_total b ≤ most Total
+
+pub known : (b : Book) → is_book b ≡ true → Known b
+unfolding is_book
+known b e =
+    record {
+      room = leb-true most_open (length b.entries) (passes _ e 0);
+      few = leb-true b.number most_open (passes _ e 1);
+      different = not-true-of (two_equal (open_in b)) (passes _ e 2);
+      within = leb-true (open_total b) (most Total) (passes _ e 3);
+    }
   where
-    go : (i : Bool) → sum_is (answer_for (pick i (done (open_total s.book)) (refusal 29 0)) s.book.number) s.total ≡ both i (agrees s)
-    go true = refl
-    go false = refl
+    not-true-of : (t : Bool) → not t ≡ true → t ≡ false
+    not-true-of true h = never (cc)
+    not-true-of false h = refl
 
-module _ (b : List Entry) (n : ℕ) (long : length b ≡ most_open) where
-  -- ---- whether they are a book
-  pub too_many_lem : most_open < n → false ≡ is_book (book_of b n)
+module _ (l : List Entry) (n : ℕ) where
+  -- ---- what is asked of a list, by each test in turn
+  not_asked : is_book (book_of l n) ≡ false → refusal 29 0 ≡ asked (book_of l n)
+  unfolding asked
+  not_asked e = rw e
+
+  pub few_asked : length l < most_open → refusal 29 0 ≡ asked (book_of l n)
   unfolding is_book
-  too_many_lem h = sym (fails _ 1 (lt-leb n most_open h))
+  few_asked h = not_asked (fails _ 0 (lt-leb most_open (length l) h))
 
-  pub some_equal : (r : Bool) → r ≡ two_equal (take n b) → r ≡ true → false ≡ is_book (book_of b n)
+  pub many_asked : most_open < n → refusal 29 0 ≡ asked (book_of l n)
   unfolding is_book
-  some_equal r e h = sym (fails _ 2 (ap not (sym e ∙ h)))
+  many_asked h = not_asked (fails _ 1 (lt-leb n most_open h))
 
-  pub sum_tells : (r : Bool) (s : ℕ) → n ≤ most_open → r ≡ two_equal (take n b) → r ≡ false → s ≡ capped (sum_of (take n b)) → leb s (most Total) ≡ is_book (book_of b n)
+  pub equal_asked : two_equal (take n l) ≡ true → refusal 29 0 ≡ asked (book_of l n)
   unfolding is_book
-  sum_tells r s few e h g =
-      ap (λ (x : ℕ). leb x (most Total)) g ∙ (capped_test (sum_of (take n b))
-      ∙ sym (pass _ _ _ (le-leb most_open (length b) (omega arith)) (pass _ _ _ (le-leb n most_open few) (pass _ _ _ (ap not (sym e ∙ h)) (lastly _ _ refl)))))
+  equal_asked e = not_asked (fails _ 2 (ap not e))
 
-  -- what a book is known by
-  pub book_few : is_book (book_of b n) ≡ true → n ≤ most_open
-  unfolding is_book
-  book_few e = leb-true n most_open (passes _ e 1)
+  pub sum_asked : most_open ≤ length l → n ≤ most_open → two_equal (take n l) ≡ false → (r : Refused) → r ≡ record { why = NoBook; at = 0 }
+      → told_as (ok_or (capped (sum_of (take n l))) r) ≡ asked (book_of l n)
+  unfolding is_book asked
+  sum_asked h g e r f =
+      rw (pass _ _ _ (le-leb most_open (length l) h) (pass _ _ _ (le-leb n most_open g) (pass _ _ _ (ap not e) (lastly _ (leb (sum_of (take n l)) (most Total)) refl))), f)
+      (go (leb (sum_of (take n l)) (most Total)))
+    where
+      go : (b : Bool) → told_as (ok_or (pick b (Some (sum_of (take n l))) None) (record { why = NoBook; at = 0 })) ≡ pick b (done (sum_of (take n l))) (refusal 29 0)
+      go true = refl
+      go false = refl
 
-  is-least : is_book (book_of b n) ≡ true → leb (sum_of (take n b)) (most Total) ≡ true
-  unfolding is_book
-  is-least e = passes _ e 3
+  -- ---- what an answer tells: a sum is that of a book
+  pub record Sums (t : ℕ) : Type 0 where
+    pub one : is_book (book_of l n) ≡ true
+    pub sum : t ≡ sum_of (take n l)
 
-  module _ (few : n ≤ most_open) where
-    -- a key is open where the search for it ends before the number open
-    open_is : (k : Key) (r : ℕ) → r ≡ 0 + first_at k (take n b) → is_open k (take n b) ≡ ltb r n
-    open_is k r e =
-        let z : r ≡ first_at k (take n b) = omega arith in
-        open_first k (take n b) ∙ rw (z, length-take-le n b (omega arith))
+  pub sums : (t : ℕ) → done t ≡ asked (book_of l n) → Sums t
+  unfolding asked
+  sums t = go (is_book (book_of l n)) refl
+    where
+      go : (b : Bool) → is_book (book_of l n) ≡ b → done t ≡ pick b (done (sum_of (take n l))) (refusal 29 0) → Sums t
+      go true e h = record { one = e; sum = cc }
+      go false e h = never (cc)
 
-    module _ (t : ℕ) where
-      -- ---- an entry
-      module _ (e : Entry) where
-        abbrev Enters : acting.Outcome
-        Enters = outcome_of (carried (enter (in_range e)) t (enters (in_range e) (book_of b n)))
+-- a checked book, and whether its sum is what is stored
+pub sum_stands : (r : Result ℕ Refused) (s : Stored) → told_as r ≡ asked s.book → sum_is r s.total ≡ stands s
+unfolding asked
+sum_stands r s = go r (is_book s.book)
+  where
+    go : (r : Result ℕ Refused) (i : Bool) → told_as r ≡ pick i (done (sum_of (take s.book.number s.book.entries))) (refusal 29 0) → sum_is r s.total ≡ both i (agrees s)
+    go (Ok t) true h =
+        let z : t ≡ sum_of (take s.book.number s.book.entries) = cc in
+        rw z
+    go (Ok t) false h = never (cc)
+    go (Err r) true h = never (cc)
+    go (Err r) false h = refl
 
-        pub out_of_range : (o : acting.Outcome) → o ≡ outcome_of (as_lent 9 0 (stored_of b n t)) → most Total < e.cents → o ≡ Enters
-        out_of_range o f h = f ∙ rw (lt-leb e.cents (most Total) h)
+-- ---- any call
+module _ (l : List Entry) (s : Numbers) (c : Call) where
+  pub err_kept : (r : Refused) → told_as (Err r) ≡ asked (book_of l s.opened) → leaves (Err r) l s ≡ kept c (lent l s)
+  unfolding asked
+  err_kept r = go (is_book (book_of l s.opened)) refl
+    where
+      go : (b : Bool) → is_book (book_of l s.opened) ≡ b → told_as (Err r) ≡ pick b (done (sum_of (take s.opened l))) (refusal 29 0) → leaves (Err r) l s ≡ kept c (lent l s)
+      go true e h = never (cc)
+      go false e h = rw (none_kept c (lent l s) (rw e), h)
 
-        module _ (within : e.cents ≤ most Total) (r : ℕ) (at : r ≡ 0 + first_at e.key (take n b)) where
-          pub key_open : (o : acting.Outcome) → o ≡ outcome_of (as_lent 20 0 (stored_of b n t)) → r < n → o ≡ Enters
-          key_open o f h = f ∙ rw (le-leb e.cents (most Total) within, open_is e.key r at, lt-ltb r n h)
+  pub other_kept : (t : ℕ) → Sums l s.opened t → t ≢ s.total → as_lent 29 0 (lent l s) ≡ kept c (lent l s)
+  other_kept t i h =
+      let z : eqb s.total (sum_of (take s.opened l)) ≡ false = ne_eqb _ _ (λ e. h (i.sum ∙ sym e)) in
+      sym (none_kept c (lent l s) (rw z (both_false (is_book (book_of l s.opened)))))
 
-          pub all_open : (o : acting.Outcome) → o ≡ outcome_of (as_lent 21 0 (stored_of b n t)) → n ≤ r → most_open ≤ n → o ≡ Enters
-          all_open o f h g = f ∙ rw (le-leb e.cents (most Total) within, open_is e.key r at, le-ltb r n h, le-leb most_open n g)
+-- ---- a call on a book with what summing gives
+module _ (l : List Entry) (s : Numbers) where
+  pub stored_sums : (t : ℕ) → t ≡ s.total → Sums l s.opened t → Sums l s.opened s.total
+  stored_sums t e i = record { one = i.one; sum = sym e ∙ i.sum }
 
-          pub new_entry : n ≤ r → n < most_open → outcome_of (record { told = done e.cents; stored = record { book = added e (book_of b n); total = t + e.cents } }) ≡ Enters
-          new_entry h g = rw (le-leb e.cents (most Total) within, open_is e.key r at, le-ltb r n h, lt-leb most_open n g)
+  module _ (i : Sums l s.opened s.total) where
+    pub enter_kept : (x : Bulk) → carried (enter x) s.total (enters x (book_of l s.opened)) ≡ kept (enter x) (lent l s)
+    unfolding kept entered
+    enter_kept x = rw (eq-eqb s.total (sum_of (take s.opened l)) i.sum, i.one)
 
-      -- ---- a withdrawal
-      module _ (k : Key) (r : ℕ) (at : r ≡ 0 + first_at k (take n b)) where
-        abbrev Withdraws : acting.Outcome
-        Withdraws = outcome_of (carried (withdraw k) t (withdraws k (book_of b n)))
+    pub withdraw_kept : (k : Key) → carried (withdraw k) s.total (withdraws k (book_of l s.opened)) ≡ kept (withdraw k) (lent l s)
+    unfolding kept withdrawn
+    withdraw_kept k = rw (eq-eqb s.total (sum_of (take s.opened l)) i.sum, i.one)
 
-        pub not_open : (o : acting.Outcome) → o ≡ outcome_of (as_lent 22 0 (stored_of b n t)) → n ≤ r → o ≡ Withdraws
-        not_open o f h = f ∙ rw (open_is k r at, le-ltb r n h)
+-- ---- a withdrawal
+module _ (l : List Entry) (n t : ℕ) (h : n ≤ length l) (k : Key) (i : ℕ) (e : place_in k (take n l) ≡ Some i) where
+  pub found_below : i < n
+  found_below = omega (arith, (found k (take n l) i e).2, length-take-le n l h)
 
-        -- the cents found are those of the entry
-        cents-found : r < n → (get_or b r no_entry).cents ≡ cents_of k (take n b)
-        cents-found h =
-            let z : r ≡ first_at k (take n b) = omega arith in
-            rw z (cents_at k n b (omega arith) (omega arith))
+  cents-found : (d : Entry) → (get_or l i d).cents ≡ cents_of k (take n l)
+  cents-found d =
+      let f = found k (take n l) i e in
+      rw (sym (get_or-take n l i d found_below), f.1) (cents_at k (take n l) d (omega arith))
 
-        pub less_fits : t ≡ sum_of (take n b) → r < n → (get_or b r no_entry).cents ≤ t
-        less_fits e h = omega (arith, cents-found h, cents_within k (take n b))
+  pub less_fits : (d : Entry) → t ≡ sum_of (take n l) → (get_or l i d).cents ≤ t
+  less_fits d f = omega (arith, cents-found d, cents_within k (take n l))
 
-        pub gone : (l : List Entry) → r < n → l ≡ shifted r n b
-            → record {
-              kept = record { answer = record { number = 0; place = 0; opened = n - 1; cents = (get_or b r no_entry).cents }; total = t - (get_or b r no_entry).cents };
-              entries = l;
-            } ≡ Withdraws
-        gone l h g =
-            let z : r ≡ first_at k (take n b) = omega arith in
-            rw (open_is k r at, lt-ltb r n h, g, cents-found h, z, shifted_is k n b (omega arith) (omega arith))
-
-  -- ---- any call
-  module _ (t : ℕ) where
-    pub not_kept : is_book (book_of b n) ≡ false → false ≡ stands (stored_of b n t)
-    not_kept e = rw e
-
-    pub kept_tells : (s : ℕ) → is_book (book_of b n) ≡ true → s ≡ capped (sum_of (take n b)) → eqb t s ≡ stands (stored_of b n t)
-    kept_tells s is e = rw (is, e, is-least is)
-
-    module _ (places : ℕ) (c : Call) where
-      pub few_places : (o : acting.Outcome) → o ≡ outcome_of (as_lent 29 0 (stored_of b n t)) → places < most_open → o ≡ outcome_of (called_on places c (stored_of b n t))
-      unfolding called_on
-      few_places o f h = f ∙ rw (lt-leb most_open places h)
-
-      pub no_book : (o : acting.Outcome) → o ≡ outcome_of (as_lent 29 0 (stored_of b n t)) → stands (stored_of b n t) ≡ false → o ≡ outcome_of (called_on places c (stored_of b n t))
-      unfolding called_on
-      no_book o f h = f ∙ go (leb most_open places)
-        where
-          go : (u : Bool) → outcome_of (as_lent 29 0 (stored_of b n t)) ≡ outcome_of (pick u (kept c (stored_of b n t)) (as_lent 29 0 (stored_of b n t)))
-          go true = ap outcome_of (sym (none_kept c (stored_of b n t) h))
-          go false = refl
-
-    module _ (is : stands (stored_of b n t) ≡ true) where
-      book-is : is_book (book_of b n) ≡ true
-      book-is = (both_true (is_book (book_of b n)) (agrees (stored_of b n t)) is).0
-
-      pub kept_few : n ≤ most_open
-      kept_few = book_few book-is
-
-      pub kept_sum : t ≡ sum_of (take n b)
-      kept_sum = eqb-true t (sum_of (take n b)) (both_true (is_book (book_of b n)) (agrees (stored_of b n t)) is).1
-
-      pub kept_within : t ≤ most Total
-      kept_within = omega (arith, kept_sum, leb-true (sum_of (take n b)) (most Total) (is-least book-is))
-
-      module _ (places : ℕ) (enough : most_open ≤ places) (o : acting.Outcome) where
-        pub enter_called : (x : Bulk) → o ≡ outcome_of (carried (enter x) t (enters x (book_of b n))) → o ≡ outcome_of (called_on places (enter x) (stored_of b n t))
-        unfolding called_on kept entered
-        enter_called x f = f ∙ rw (le-leb most_open places enough, (both_true (is_book (book_of b n)) (agrees (stored_of b n t)) is).1, book-is)
-
-        pub withdraw_called : (k : Key) → o ≡ outcome_of (carried (withdraw k) t (withdraws k (book_of b n))) → o ≡ outcome_of (called_on places (withdraw k) (stored_of b n t))
-        unfolding called_on kept withdrawn
-        withdraw_called k f = f ∙ rw (le-leb most_open places enough, (both_true (is_book (book_of b n)) (agrees (stored_of b n t)) is).1, book-is)
-
-  -- ---- the open total
-  module _ (places : ℕ) (a : Answer) where
-    pub few_asked : a ≡ answer_for (refusal 29 0) n → places < most_open → a ≡ answer_for (asked_on places (book_of b n)) n
-    unfolding asked_on
-    few_asked f h = f ∙ rw (lt-leb most_open places h)
-
-    pub none_asked : a ≡ answer_for (refusal 29 0) n → is_book (book_of b n) ≡ false → a ≡ answer_for (asked_on places (book_of b n)) n
-    unfolding asked_on asked
-    none_asked f h = f ∙ rw h (go (leb most_open places))
-      where
-        go : (t : Bool) → answer_for (refusal 29 0) n ≡ answer_for (pick t (refusal 29 0) (refusal 29 0)) n
-        go true = refl
-        go false = refl
-
-  pub total_asked : (places s : ℕ) → most_open ≤ places → is_book (book_of b n) ≡ true → s ≡ capped (sum_of (take n b))
-      → answer_for (done s) n ≡ answer_for (asked_on places (book_of b n)) n
-  unfolding asked_on asked
-  total_asked places s h is e = rw (le-leb most_open places h, is, e, is-least is)
+  pub gone : (d : Entry) (r : List Entry) → r ≡ copy_within l (i + 1) n i
+      → leaves (Ok (get_or l i d).cents) r (record { opened = n - 1; total = t - (get_or l i d).cents }) ≡ carried (withdraw k) t (withdraws k (book_of l n))
+  gone d r f =
+      let g = found k (take n l) i e in
+      let z : copy_within l (i + 1) n i ≡ without k (take n l) ++ drop (n - 1) l = closed_up i n l found_below h ∙ ap (λ (m : List Entry). m ++ drop (n - 1) l) (rw g.1 (first_out k (take n l))) in
+      rw (cents-found d, f, z, g.0)

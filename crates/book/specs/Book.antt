@@ -1,6 +1,6 @@
 -- The day book: "The open bulks are a lent list of entries and the number open, the open ones first in order of entry".
-use Rattle.std.specs.Prelude.{ℕ, suc, ◌+◌, Bool, true, false, not, List, [], ◌∷◌, length, take, leb}
-use Rattle.text.specs.Truth.{both, either, pick, all_of}
+use Rattle.std.specs.Prelude.{ℕ, suc, ◌+◌, Bool, false, not, List, [], ◌∷◌, length, take, leb}
+use Rattle.text.specs.Truth.{either, pick, all_of}
 use Rattle.text.specs.Quoted.{alike}
 use Rattle.money.specs.declared.Range.TheVariants.{Total}
 use Rattle.money.specs.Amount.{most}

@@ -1,5 +1,5 @@
 -- What each call of the day book answers, and the book afterwards.
-use Rattle.std.specs.Prelude.{ℕ, ◌+◌, ◌-◌, Bool, List, [], ◌∷◌, ◌++◌, length, take, drop, set, leb}
+use Rattle.std.specs.Prelude.{ℕ, ◌+◌, ◌-◌, ◌++◌, drop, set, leb}
 use Rattle.text.specs.Truth.{pick}
 use Rattle.reading.specs.Verdict.{Judged, accepted, refused}
 use Rattle.naming.specs.Key.{Keyed}

@@ -5,7 +5,9 @@ use mathlib.Core.Path.{◌≡◌, sym, ◌∙◌}
 use contract.Lifetimes.{Lfts}
 use denote.Triple.Clauses.{AtExit}
 use borrow.Fn.Kinds.{Dens, ended_of}
-use Rattle.judge.specs.declared.Verdict.{Verdict}
+use Rattle.std.proofs.Common.{Result}
+use Rattle.answers.specs.declared.Refused.{Refused}
+use Rattle.judge.specs.declared.Accepted.{Accepted}
 use Rattle.judge.specs.Index.{judged_with}
 use Rattle.judge.proofs.One.{one_verdict}
 use Rattle.judge.proofs.judge.Kinds as judge-kinds
@@ -23,12 +25,12 @@ use Rattle.bulk.proofs.bulk_records.Reads as bulk-records
 use Rattle.bulk.proofs.bulk_records_by_table.Reads as bulk-records-by-table
 
 -- `judge` and `judge_by_table`: the verdict, and every number of the index
-pub one_judge : (κs : Lfts 2) (a : Dens κs judge-kinds.ps) (v w : Verdict) (s t : AtExit (ended_of 2 judge-kinds.ps judge-kinds.r) κs)
+pub one_judge : (κs : Lfts 2) (a : Dens κs judge-kinds.ps) (v w : Result Accepted Refused) (s t : AtExit (ended_of 2 judge-kinds.ps judge-kinds.r) κs)
     → judge.Learnt κs a v s → judge-by-table.Learnt κs a w t → (v ≡ w) × (s.1.0.now ≡ t.1.0.now)
 one_judge κs a v w s t d e = (one_verdict v w (judged_with a.1.0.now a.0.now) d.0 e.0, d.1 ∙ sym e.1)
 
 -- `records` and `records_by_table`: the verdict, every byte of the area, and every number of the index
-pub one_records : (κs : Lfts 3) (a : Dens κs records-kinds.ps) (v w : Verdict) (s t : AtExit (ended_of 3 records-kinds.ps records-kinds.r) κs)
+pub one_records : (κs : Lfts 3) (a : Dens κs records-kinds.ps) (v w : Result Accepted Refused) (s t : AtExit (ended_of 3 records-kinds.ps records-kinds.r) κs)
     → records.Learnt κs a v s → records-by-table.Learnt κs a w t → (v ≡ w) × (s.1.0.now ≡ t.1.0.now) × (s.1.1.0.now ≡ t.1.1.0.now)
 one_records κs a v w s t d e =
     let o = one_outcome a.1.1.0.now a.0.now a.1.0.now v w s.1.0.now t.1.0.now d.0 d.1 e.0 e.1 in

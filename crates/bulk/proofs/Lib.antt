@@ -1,4 +1,3 @@
-pub mod Tells
 pub mod One
 pub mod Played
 pub mod Engines

@@ -10,7 +10,6 @@ use Rattle.plain.proofs.Once.{one_written_with}
 use Rattle.book.specs.declared.Entry.{Entry}
 use Rattle.book.specs.Calls.{Call, Searched}
 use Rattle.book.specs.Stored.{Stored, kept}
-use Rattle.book.specs.Code.{kept_of, found_of}
 use Rattle.twice.specs.Twice.{cleared}
 use Rattle.play.specs.Play.{Played}
 use Rattle.bulk.specs.Told.{told, told_verdict, told_extent, told_written, PlainTold, told_call, told_found, told_played, numbers_of}
@@ -25,7 +24,8 @@ module _ (x y : List ℕ) where
   pub one_told_extent : (l : Located) → x ≡ told_extent l → y ≡ told_extent l → x ≡ y
   one_told_extent l e f = e ∙ sym f
 
-  pub one_told_records : (i m a b c : List ℕ) → x ≡ told_verdict (recorded_with i m a).verdict → b ≡ (recorded_with i m a).area → y ≡ told_verdict (recorded_with i m a).verdict → c ≡ (recorded_with i m a).area
+  pub one_told_records : (i m a b c : List ℕ) → x ≡ told_verdict (recorded_with i m a).verdict → b ≡ (recorded_with i m a).area → y ≡ told_verdict (recorded_with i m a).verdict → c ≡
+      (recorded_with i m a).area
       → (x ≡ y) × (b ≡ c)
   one_told_records i m a b c e f g h = (e ∙ sym g, f ∙ sym h)
 
@@ -36,11 +36,11 @@ module _ (x y : List ℕ) where
 
   -- a book: a change, with its numbers and its entries afterwards; and a search
   pub one_told_call : (c : Call) (b : Stored) (i j : List ℕ) (l k : List Entry)
-      → x ≡ told_call (kept_of (kept c b)).answer → i ≡ numbers_of (kept c b).stored → l ≡ (kept c b).stored.book.entries
-      → y ≡ told_call (kept_of (kept c b)).answer → j ≡ numbers_of (kept c b).stored → k ≡ (kept c b).stored.book.entries → (x ≡ y) × (i ≡ j) × (l ≡ k)
+      → x ≡ told_call (kept c b) → i ≡ numbers_of (kept c b).stored → l ≡ (kept c b).stored.book.entries
+      → y ≡ told_call (kept c b) → j ≡ numbers_of (kept c b).stored → k ≡ (kept c b).stored.book.entries → (x ≡ y) × (i ≡ j) × (l ≡ k)
   one_told_call c b i j l k d e f g h m = (d ∙ sym g, e ∙ sym h, f ∙ sym m)
 
-  pub one_told_found : (s : Searched) → x ≡ told_found (found_of s) → y ≡ told_found (found_of s) → x ≡ y
+  pub one_told_found : (s : Searched) → x ≡ told_found s → y ≡ told_found s → x ≡ y
   one_told_found s e f = e ∙ sym f
 
   -- a recording played back, with the numbers, the entries and the index t afterwards

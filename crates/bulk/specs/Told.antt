@@ -15,17 +15,14 @@
 -- and its ten words for a recording that is played back:
 --   played    0, the number of records, the eight sums of the table, row behind row
 --   refused   the refusal's number, its place, eight times 0
-use Rattle.std.specs.Prelude.{ℕ, ◌≡◌, Bool, true, false, List, [], ◌∷◌, eqb, get_or}
-use Rattle.text.specs.Truth.{pick}
+use Rattle.std.specs.Prelude.{ℕ, ◌≡◌, Bool, true, false, List, [], ◌∷◌, get_or}
 use Rattle.answers.specs.Given.{Given, yes, worth, refused}
 use Rattle.reading.specs.Verdict.{Judged, accepted, refused as denied, Located, lies, not_there}
 use Rattle.forms.specs.Written.{Answered, written, refused as not_written}
 use Rattle.plain.specs.Indexed.{WroteWith}
 use Rattle.book.specs.declared.Entry.{Entry}
-use Rattle.book.specs.declared.Answer.{Answer}
-use Rattle.book.specs.declared.Found.{Found}
-use Rattle.book.specs.Calls.{Told, done, refusal}
-use Rattle.book.specs.Stored.{Stored}
+use Rattle.book.specs.Calls.{Told, done, refusal, Searched, at, nowhere, none}
+use Rattle.book.specs.Stored.{Stored, Carried}
 use Rattle.book.specs.Code.{stored_of}
 use Rattle.accounts.specs.Lengths.{in_one}
 use Rattle.play.specs.Play.{Played}
@@ -53,15 +50,23 @@ pub record PlainTold (i m a words b : List ℕ) : Type 0 where
   pub wrote : WroteWith i m a (record { answer = answer; area = b })
   pub told : words ≡ told_written answer
 
-abbrev pub told_call : Answer → List ℕ
-told_call a = pick (eqb a.number 0) (0 ∷ a.opened ∷ a.cents ∷ []) (a.number ∷ a.place ∷ 0 ∷ [])
+-- of what a call tells, and the number open
+abbrev pub told_book : Told → ℕ → List ℕ
+told_book (done cents) opened = 0 ∷ opened ∷ cents ∷ []
+told_book (refusal number place) opened = number ∷ place ∷ 0 ∷ []
+
+-- of a call that is carried out or refused
+abbrev pub told_call : Carried → List ℕ
+told_call c = told_book c.told c.stored.book.number
 
 abbrev pub told_is : Bool → List ℕ
 told_is true = 0 ∷ 0 ∷ 0 ∷ []
 told_is false = 29 ∷ 0 ∷ 0 ∷ []
 
-abbrev pub told_found : Found → List ℕ
-told_found r = pick r.found (0 ∷ 1 ∷ r.at ∷ []) (r.number ∷ r.place ∷ 0 ∷ [])
+abbrev pub told_found : Searched → List ℕ
+told_found (at place) = 0 ∷ 1 ∷ place ∷ []
+told_found nowhere = 0 ∷ 0 ∷ 0 ∷ []
+told_found (none number place) = number ∷ place ∷ 0 ∷ []
 
 -- ---- a lent book: its entries, and beside them two numbers, the number open and the stored total
 abbrev pub lent_book : List Entry → List ℕ → Stored

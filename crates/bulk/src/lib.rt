@@ -3,7 +3,8 @@
 #![tactic(auto)]
 
 ghost use Rattle.std.specs.Prelude.{◌≡◌, List, [], ◌∷◌, get_or};
-ghost use Rattle.answers.specs.Given.{given};
+ghost use Rattle.answers.specs.Refusals.{refusal_number};
+ghost use Rattle.answers.specs.Given.{given_yes, given_worth};
 ghost use Rattle.words.specs.Reference.{reference_given};
 ghost use Rattle.words.specs.EndToEnd.{end_to_end_given};
 ghost use Rattle.words.specs.Text.{text_given};
@@ -14,32 +15,53 @@ ghost use Rattle.money.specs.Amount.{amount_given};
 ghost use Rattle.accounts.specs.Iban.{iban_given};
 ghost use Rattle.accounts.specs.Identifier.{identifier_given};
 ghost use Rattle.accounts.specs.Bic.{bic_given, bicfi_given};
-ghost use Rattle.bulk.specs.Told.{told, told_verdict, told_extent, told_written, PlainTold, told_call, told_is, told_found, told_played, lent_book, numbers_of};
+ghost use Rattle.bulk.specs.Told.{told, told_verdict, told_extent, told_written, PlainTold, told_book, told_call, told_is, told_found, told_played, lent_book, numbers_of};
 ghost use Rattle.plain.specs.Answer.{answered};
 ghost use Rattle.twice.specs.Twice.{cleared};
 ghost use Rattle.keys.specs.Indexed.{keyed_with};
 ghost use Rattle.book.specs.Calls.{bulk_of, enter, withdraw, searched};
 ghost use Rattle.book.specs.Stored.{kept, shown, stands};
-ghost use Rattle.book.specs.Code.{answer_for, kept_of, found_of, sum_is};
+ghost use Rattle.book.specs.Code.{call_as, told_as, searched_as, sum_is, lent};
 ghost use Rattle.judge.specs.Verdict.{meant, located};
 ghost use Rattle.reading.specs.Judged.{judged};
 ghost use Rattle.judge.specs.Index.{judged_with, item_with};
 ghost use Rattle.records.specs.Indexed.{recorded_with};
 ghost use Rattle.play.specs.Play.{played_with};
-ghost use Rattle.play.specs.Code.{played_on};
+ghost use Rattle.play.specs.Code.{played_as};
 
-use answers::Answer;
-use book::{Entry, Found, Kept};
+use answers::{Refusal, Refused};
+use book::{Call, Entry, Numbers};
 use judge::{Extent, Verdict};
 use money::Range;
-use plain::Written;
+use play::Played;
 use words::Field;
 
-// Writes the three words.
-fn tell(a: Answer, answer: &mut [u64; 3])
-    ensures { answer.new ≡ told (given a) }
+// Writes the three words of a refusal.
+fn tell_refused(r: Refused, answer: &mut [u64; 3])
+    ensures { answer.new ≡ refusal_number r.why ∷ r.at ∷ 0 ∷ [] }
 {
-    *answer = [answers::number(a) as u64, answers::value(a), 0];
+    *answer = [r.why.number() as u64, r.at as u64, 0];
+}
+
+// Writes the three words of a checker that says yes.
+// (One function for each answer that is told: each cites its own word of specs/Told.antt; a trait would state each of them once more, and be no plainer.)
+fn tell(r: Result<(), Refusal>, answer: &mut [u64; 3])
+    ensures { answer.new ≡ told (given_yes r) }
+{
+    match r {
+        Ok(()) => *answer = [0, 0, 0],
+        Err(why) => tell_refused(why.at(0), answer),
+    }
+}
+
+// Writes the three words of a checker that tells a number or cents.
+fn tell_worth(r: Result<u64, Refusal>, answer: &mut [u64; 3])
+    ensures { answer.new ≡ told (given_worth r) }
+{
+    match r {
+        Ok(n) => *answer = [0, n, 0],
+        Err(why) => tell_refused(why.at(0), answer),
+    }
 }
 
 // Writes the three words of a verdict.
@@ -47,40 +69,28 @@ fn tell_verdict(v: Verdict, answer: &mut [u64; 3])
     ensures { answer.new ≡ told_verdict (meant v) }
 {
     match v {
-        Verdict::Accepted(count, cents) => {
-            *answer = [0, count, cents];
-        }
-        Verdict::Refused(number, place) => {
-            *answer = [number as u64, place as u64, 0];
-        }
+        Ok(a) => *answer = [0, a.count, a.cents],
+        Err(r) => tell_refused(r, answer),
     }
 }
 
 // Writes the three words of where an item lies.
-fn tell_extent(x: Extent, answer: &mut [u64; 3])
+fn tell_extent(x: Result<Extent, Refused>, answer: &mut [u64; 3])
     ensures { answer.new ≡ told_extent (located x) }
 {
     match x {
-        Extent::Lies(from, to) => {
-            *answer = [0, from as u64, to as u64];
-        }
-        Extent::NotThere(number, place) => {
-            *answer = [number as u64, place as u64, 0];
-        }
+        Ok(e) => *answer = [0, e.from as u64, e.to as u64],
+        Err(r) => tell_refused(r, answer),
     }
 }
 
 // Writes the three words of a plain form.
-fn tell_written(w: Written, answer: &mut [u64; 3])
+fn tell_written(w: Result<usize, Refused>, answer: &mut [u64; 3])
     ensures { answer.new ≡ told_written (answered w) }
 {
     match w {
-        Written::Length(length) => {
-            *answer = [0, length as u64, 0];
-        }
-        Written::Refused(number, place) => {
-            *answer = [number as u64, place as u64, 0];
-        }
+        Ok(length) => *answer = [0, length as u64, 0],
+        Err(r) => tell_refused(r, answer),
     }
 }
 
@@ -215,84 +225,79 @@ pub fn bulk_text140(value: &[u8], answer: &mut [u64; 3])
 pub fn bulk_count(value: &[u8], answer: &mut [u64; 3])
     ensures { answer.new ≡ told (count_given value.now) }
 {
-    tell(money::count(value), answer);
+    tell_worth(money::count(value), answer);
 }
 
 // An item's amount: the second word is its cents.
 pub fn bulk_item_amount(value: &[u8], answer: &mut [u64; 3])
     ensures { answer.new ≡ told (amount_given Range.Item value.now) }
 {
-    tell(money::amount(Range::Item, value), answer);
+    tell_worth(money::amount(Range::Item, value), answer);
 }
 
 // The header total: the second word is its cents.
 pub fn bulk_header_amount(value: &[u8], answer: &mut [u64; 3])
     ensures { answer.new ≡ told (amount_given Range.Total value.now) }
 {
-    tell(money::amount(Range::Total, value), answer);
+    tell_worth(money::amount(Range::Total, value), answer);
 }
 
-// The number open, of the two numbers that are lent beside the entries.
-fn number_in(numbers: [u64; 2]) -> usize
-    ensures { result ≡ get_or numbers 0 0 }
+// The number open and the open total, which C lends as two words.
+fn numbers_in(numbers: &[u64; 2]) -> Numbers
+    ensures { result ≡ record { opened = get_or numbers.now 0 0; total = get_or numbers.now 1 0 } }
 {
-    numbers[0] as usize
-}
-
-// The stored total, of the same.
-fn total_in(numbers: [u64; 2]) -> u64
-    ensures { result ≡ get_or numbers 1 0 }
-{
-    numbers[1]
-}
-
-// The two numbers where they lie.
-fn numbers_at(numbers: &[u64; 2]) -> [u64; 2]
-    ensures { result ≡ numbers.now }
-{
-    *numbers
-}
-
-// Writes the three words of a call of the day book.
-fn tell_call(answer: &mut [u64; 3], a: book::Answer)
-    ensures { answer.new ≡ told_call a }
-{
-    if a.number == 0 {
-        *answer = [0, a.opened as u64, a.cents];
-        return;
+    Numbers {
+        opened: numbers[0] as usize,
+        total: numbers[1],
     }
-    *answer = [a.number as u64, a.place as u64, 0];
 }
 
-// The same, and the number open and the stored total afterwards.
-fn tell_kept<'a>(numbers: &'a mut [u64; 2], answer: &'a mut [u64; 3], k: Kept)
-    ensures { (numbers.new ≡ k.answer.opened ∷ k.total ∷ []) × (answer.new ≡ told_call k.answer) }
+// Writes the three words of a call of the day book that left so many open. (C's second word, and no length of a slice.)
+fn tell_book(told: Result<u64, Refused>, opened: usize, answer: &mut [u64; 3])
+    ensures { answer.new ≡ told_book (told_as told) opened }
 {
-    let a = k.answer;
-    *numbers = [a.opened as u64, k.total];
-    tell_call(answer, a);
-}
-
-// Writes the three words of whether a lent book is one.
-fn tell_is(answer: &mut [u64; 3], a: book::Answer, total: u64)
-    ensures { answer.new ≡ told_is (sum_is a total) }
-{
-    if a.number == 0 && total == a.cents {
-        *answer = [0, 0, 0];
-        return;
+    match told {
+        Ok(cents) => *answer = [0, opened as u64, cents],
+        Err(r) => tell_refused(r, answer),
     }
-    *answer = [29, 0, 0];
+}
+
+// Writes the three words of whether a lent book is one: it is checked, and its sum is the total that is stored.
+fn tell_is(sum: Result<u64, Refused>, total: u64, answer: &mut [u64; 3])
+    ensures { answer.new ≡ told_is (sum_is sum total) }
+{
+    match sum {
+        Ok(cents) if total == cents => *answer = [0, 0, 0],
+        _ => *answer = [Refusal::NoBook.number() as u64, 0, 0],
+    }
 }
 
 // Writes the three words of a search.
-fn tell_found(answer: &mut [u64; 3], r: Found)
-    ensures { answer.new ≡ told_found r }
+fn tell_found(found: Result<Option<usize>, Refused>, answer: &mut [u64; 3])
+    ensures { answer.new ≡ told_found (searched_as found) }
 {
-    if r.found {
-        *answer = [0, 1, r.at as u64];
-        return;
+    match found {
+        Ok(Some(at)) => *answer = [0, 1, at as u64],
+        Ok(None) => *answer = [0, 0, 0],
+        Err(r) => tell_refused(r, answer),
     }
-    *answer = [r.number as u64, r.place as u64, 0];
+}
+
+// Makes a call of the lent book; writes the two numbers, and the three words.
+fn change<'a>(
+    entries: &'a mut [Entry],
+    numbers: &'a mut [u64; 2],
+    call: Call,
+    answer: &'a mut [u64; 3],
+)
+    ensures { (answer.new ≡ told_call (kept (call_as call) (lent_book entries.old numbers.old)))
+        × (numbers.new ≡ numbers_of (kept (call_as call) (lent_book entries.old numbers.old)).stored)
+        × (entries.new ≡ (kept (call_as call) (lent_book entries.old numbers.old)).stored.book.entries) }
+{
+    let mut held = numbers_in(numbers);
+    let told = book::act(entries, &mut held, call);
+    *numbers = [held.opened as u64, held.total];
+    tell_book(told, held.opened, answer);
 }
 
 // A message is entered into the day book: 0, the number open, the bulk's cents; or number, place, 0, and the book as lent. `numbers` holds the number open and the open total.
@@ -304,15 +309,13 @@ pub fn bulk_book_enter<'a>(
     index: &'a mut [u32],
     answer: &'a mut [u64; 3],
 )
-    ensures { (answer.new ≡ told_call (kept_of (kept (enter (bulk_of (keyed_with index.old message.now))) (lent_book entries.old numbers.old))).answer)
+    ensures { (answer.new ≡ told_call (kept (enter (bulk_of (keyed_with index.old message.now))) (lent_book entries.old numbers.old)))
         × (numbers.new ≡ numbers_of (kept (enter (bulk_of (keyed_with index.old message.now))) (lent_book entries.old numbers.old)).stored)
         × (entries.new ≡ (kept (enter (bulk_of (keyed_with index.old message.now))) (lent_book entries.old numbers.old)).stored.book.entries)
         × (index.new ≡ cleared index.old) }
 {
     let call = keys::entering(message, index);
-    let o = *numbers;
-    let k = daybook::act(entries, number_in(o), total_in(o), call);
-    tell_kept(numbers, answer, k);
+    change(entries, numbers, call, answer);
 }
 
 // A key is withdrawn from the day book: 0, the number open, the bulk's cents; or number, 0, 0, and the book as lent.
@@ -322,14 +325,11 @@ pub fn bulk_book_withdraw<'a>(
     key: &'a [u8; 60],
     answer: &'a mut [u64; 3],
 )
-    ensures { (answer.new ≡ told_call (kept_of (kept (withdraw key.now) (lent_book entries.old numbers.old))).answer)
+    ensures { (answer.new ≡ told_call (kept (withdraw key.now) (lent_book entries.old numbers.old)))
         × (numbers.new ≡ numbers_of (kept (withdraw key.now) (lent_book entries.old numbers.old)).stored)
         × (entries.new ≡ (kept (withdraw key.now) (lent_book entries.old numbers.old)).stored.book.entries) }
 {
-    let call = book::withdrawing(book::key_at(key));
-    let o = *numbers;
-    let k = daybook::act(entries, number_in(o), total_in(o), call);
-    tell_kept(numbers, answer, k);
+    change(entries, numbers, Call::Withdraw(*key), answer);
 }
 
 // The first open entry with the key: 0, 1, its place; 0, 0, 0 where there is none; or 29, 0, 0. The stored total is not looked at.
@@ -339,74 +339,39 @@ pub fn bulk_book_find<'a>(
     key: &'a [u8; 60],
     answer: &'a mut [u64; 3],
 )
-    ensures { answer.new ≡ told_found (found_of (searched key.now (lent_book entries.now numbers.now).book)) }
+    ensures { answer.new ≡ told_found (searched key.now (lent_book entries.now numbers.now).book) }
 {
-    let k = book::key_at(key);
-    let o = numbers_at(numbers);
-    let r = daybook::find(entries, number_in(o), k);
-    tell_found(answer, r);
+    let lent = numbers_in(numbers);
+    tell_found(daybook::find(entries, lent.opened, key), answer);
 }
 
 // The open total as it is stored: 0, the number open, the cents. It is no sum, and no entry is looked at.
 pub fn bulk_book_total<'a>(numbers: &'a [u64; 2], answer: &'a mut [u64; 3])
-    ensures { (l : List Entry) → answer.new ≡ told_call (answer_for (shown (lent_book l numbers.now)) (get_or numbers.now 0 0)) }
+    ensures { (l : List Entry) → answer.new ≡ told_book (shown (lent_book l numbers.now)) (get_or numbers.now 0 0) }
 {
-    let o = numbers_at(numbers);
-    tell_call(answer, book::show(number_in(o), total_in(o)));
+    let lent = numbers_in(numbers);
+    *answer = [0, lent.opened as u64, book::show(lent)];
 }
 
 // Whether an entry and a withdrawal take the lent book for one: 0, 0, 0; or 29, 0, 0.
 pub fn bulk_book_check<'a>(entries: &'a [Entry], numbers: &'a [u64; 2], answer: &'a mut [u64; 3])
     ensures { answer.new ≡ told_is (stands (lent_book entries.now numbers.now)) }
 {
-    let o = numbers_at(numbers);
-    let a = daybook::check(entries, number_in(o));
-    tell_is(answer, a, total_in(o));
+    let lent = numbers_in(numbers);
+    tell_is(book::check(entries, lent.opened), lent.total, answer);
 }
 
-// Plays a recording back into the first 64 entries of a list that has so many places, and gives them back; writes the ten words and the two numbers.
-fn play_told<'a>(
-    recording: &'a [u8],
-    buffer: &'a [u8],
-    ends: &'a [u64],
-    b: [Entry; book::MOST],
-    places: usize,
-    numbers: &'a mut [u64; 2],
-    index: &'a mut [u32],
-    answer: &'a mut [u64; 10],
-) -> [Entry; book::MOST]
-    ensures { (answer.new ≡ told_played (played_on places index.old recording.now buffer.now ends.now (lent_book b numbers.old)))
-        × (numbers.new ≡ numbers_of (played_on places index.old recording.now buffer.now ends.now (lent_book b numbers.old)).stored)
-        × (result ≡ (played_on places index.old recording.now buffer.now ends.now (lent_book b numbers.old)).stored.book.entries)
-        × (index.new ≡ cleared index.old) }
+// Writes the ten words of a recording that was played back, or refused.
+fn tell_played(p: Result<Played, Refused>, answer: &mut [u64; 10])
+    ensures { (l : List Entry) (n : Numbers) → answer.new ≡ told_played (played_as l n p) }
 {
-    let o = *numbers;
-    let p = play::play(
-        recording,
-        buffer,
-        ends,
-        b,
-        places,
-        number_in(o),
-        total_in(o),
-        index,
-    );
-    let t = p.table;
-    *numbers = [p.opened as u64, p.total];
-    *answer = [
-        p.number as u64,
-        p.place as u64,
-        t[0],
-        t[1],
-        t[2],
-        t[3],
-        t[4],
-        t[5],
-        t[6],
-        t[7],
-    ];
-    let e = p.entries;
-    e
+    match p {
+        Ok(p) => {
+            let [a, b, c, d, e, f, g, h] = p.table;
+            *answer = [0, p.records as u64, a, b, c, d, e, f, g, h];
+        }
+        Err(r) => *answer = [r.why.number() as u64, r.at as u64, 0, 0, 0, 0, 0, 0, 0, 0],
+    }
 }
 
 // A recording is played back into the day book: 0, the number of records, the eight sums of the table; or number, place and eight times 0. The index is cleared.
@@ -424,8 +389,8 @@ pub fn bulk_play<'a>(
         × (entries.new ≡ (played_with index.old recording.now buffer.now ends.now (lent_book entries.old numbers.old)).stored.book.entries)
         × (index.new ≡ cleared index.old) }
 {
-    let places = entries.len();
-    let b = daybook::copy_in(entries);
-    let e = play_told(recording, buffer, ends, b, places, numbers, index, answer);
-    daybook::copy_out(entries, e);
+    let mut lent = numbers_in(numbers);
+    let played = play::play(recording, buffer, ends, entries, &mut lent, index);
+    *numbers = [lent.opened as u64, lent.total];
+    tell_played(played, answer);
 }

@@ -13,12 +13,11 @@ ghost use Rattle.money.specs.Amount.{amount_given};
 ghost use Rattle.accounts.specs.Iban.{iban_given};
 ghost use Rattle.accounts.specs.Identifier.{identifier_given};
 ghost use Rattle.accounts.specs.Bic.{bic_given, bicfi_given};
-ghost use Rattle.bulk.specs.Told.{told, told_verdict, told_extent, PlainTold, told_call, told_is, told_found, told_played, lent_book, numbers_of};
+ghost use Rattle.bulk.specs.Told.{told, told_verdict, told_extent, PlainTold, told_book, told_call, told_is, told_found, told_played, lent_book, numbers_of};
 ghost use Rattle.twice.specs.Twice.{cleared};
 ghost use Rattle.keys.specs.Indexed.{keyed_with};
 ghost use Rattle.book.specs.Calls.{bulk_of, enter, withdraw, searched};
 ghost use Rattle.book.specs.Stored.{kept, shown, stands};
-ghost use Rattle.book.specs.Code.{answer_for, kept_of, found_of};
 ghost use Rattle.reading.specs.Judged.{judged};
 ghost use Rattle.judge.specs.Index.{judged_with, item_with};
 ghost use Rattle.records.specs.Indexed.{recorded_with};
@@ -216,7 +215,7 @@ pub extern "C" fn bulk_book_enter<'a>(
     index: &'a mut [u32],
     answer: &'a mut [u64; 3],
 )
-    ensures { (answer.new ≡ told_call (kept_of (kept (enter (bulk_of (keyed_with index.old message.now))) (lent_book entries.old numbers.old))).answer)
+    ensures { (answer.new ≡ told_call (kept (enter (bulk_of (keyed_with index.old message.now))) (lent_book entries.old numbers.old)))
         × (numbers.new ≡ numbers_of (kept (enter (bulk_of (keyed_with index.old message.now))) (lent_book entries.old numbers.old)).stored)
         × (entries.new ≡ (kept (enter (bulk_of (keyed_with index.old message.now))) (lent_book entries.old numbers.old)).stored.book.entries)
         × (index.new ≡ cleared index.old) }
@@ -232,7 +231,7 @@ pub extern "C" fn bulk_book_withdraw<'a>(
     key: &'a [u8; 60],
     answer: &'a mut [u64; 3],
 )
-    ensures { (answer.new ≡ told_call (kept_of (kept (withdraw key.now) (lent_book entries.old numbers.old))).answer)
+    ensures { (answer.new ≡ told_call (kept (withdraw key.now) (lent_book entries.old numbers.old)))
         × (numbers.new ≡ numbers_of (kept (withdraw key.now) (lent_book entries.old numbers.old)).stored)
         × (entries.new ≡ (kept (withdraw key.now) (lent_book entries.old numbers.old)).stored.book.entries) }
 {
@@ -247,7 +246,7 @@ pub extern "C" fn bulk_book_find<'a>(
     key: &'a [u8; 60],
     answer: &'a mut [u64; 3],
 )
-    ensures { answer.new ≡ told_found (found_of (searched key.now (lent_book entries.now numbers.now).book)) }
+    ensures { answer.new ≡ told_found (searched key.now (lent_book entries.now numbers.now).book) }
 {
     bulk::bulk_book_find(entries, numbers, key, answer);
 }
@@ -255,7 +254,7 @@ pub extern "C" fn bulk_book_find<'a>(
 // The open total as it is stored: 0, the number open, the cents. It is no sum, and no entry is looked at.
 #[unsafe(no_mangle)]
 pub extern "C" fn bulk_book_total<'a>(numbers: &'a [u64; 2], answer: &'a mut [u64; 3])
-    ensures { (l : List Entry) → answer.new ≡ told_call (answer_for (shown (lent_book l numbers.now)) (get_or numbers.now 0 0)) }
+    ensures { (l : List Entry) → answer.new ≡ told_book (shown (lent_book l numbers.now)) (get_or numbers.now 0 0) }
 {
     bulk::bulk_book_total(numbers, answer);
 }

@@ -1,14 +1,18 @@
 -- A time's parts of a wrong length; the three ways that a zone is written; a fraction, which no zone begins with.
-use mathlib.Core.Path.{◌≡◌, refl, sym, ◌∙◌}
+use mathlib.Core.Path.{◌≡◌, refl, ap, sym, ◌∙◌}
 use mathlib.Core.Bool.{Bool, true, false}
 use mathlib.Core.List.{List, [], ◌∷◌}
+use mathlib.Core.Logic.{inl, inr}
 use Prim.Native.Nat.{ℕ, ◌<◌}
 use native.Mathlib.Omega.{arith}
 use lib.ListN.{length, take, drop, length-take, length-drop}
 use lib.Seq.{get_or-take}
+use Rattle.std.specs.Prelude.{◌==◌}
+use borrow.Author.Tests.{le-leb, eq-eqb, ne_eqb}
+use lib.Dec.{eqb, leb}
 use Rattle.text.specs.Truth.{both, either, all_of, first}
 use Rattle.text.specs.Quoted.{is, among, equal}
-use Rattle.text.proofs.Truths.{never, either_same, fails, either_none}
+use Rattle.text.proofs.Truths.{never, lt_or_ge, fails, either_none}
 use Rattle.text.proofs.Scan.{paired_length}
 use Rattle.calendar.specs.Pattern.{letter, written}
 use Rattle.calendar.specs.Time.{clock_form, offset_form, zone_form, end_form, time_form}
@@ -22,31 +26,51 @@ clock_length : (s : List ℕ) → (length s ≡ 8 → ⊥) → clock_form s ≡ 
 unfolding clock_form
 clock_length s ne = fails _ 0 (unwritten "hh:mm:ss" s (λ e. ne (sym e)))
 
-pub time_short : (s : List ℕ) → length s < 19 → false ≡ time_form s
+time_short : (s : List ℕ) → length s < 19 → false ≡ time_form s
 unfolding time_form
 time_short s h =
     sym (fails _ 2 (clock_length (take 8 (drop 11 s)) (λ e. omega (arith, e, length-take 8 (drop 11 s), length-drop 11 s))))
 
+-- ---- a test in front, without which another fails
+led : (b : Bool) (l : List Bool) → (b ≡ false → false ≡ all_of l) → all_of (b ∷ l) ≡ all_of l
+unfolding all_of
+led true l h = refl
+led false l h = h refl
+
+pub offset_led : (s : List ℕ) (l : List Bool) → offset_form s ≡ all_of l → all_of (eqb (length s) 6 ∷ l) ≡ offset_form s
+offset_led s l e = led (eqb (length s) 6) l (λ f. offset_length s (λ q. let t = eq-eqb (length s) 6 q in cc) ∙ e) ∙ sym e
+
+pub time_led : (s : List ℕ) (l : List Bool) → time_form s ≡ all_of l → all_of (leb 19 (length s) ∷ l) ≡ time_form s
+time_led s l e = led (leb 19 (length s)) l (λ f. elim (lt_or_ge (length s) 19) [ inl h ↦ time_short s h ∙ e | inr g ↦ never (let t = le-leb 19 (length s) g in cc) ]) ∙ sym e
+
 -- ---- a zone
-pub zone_none : (s : List ℕ) → length s ≡ 0 → true ≡ zone_form s
+pub no_bytes : (s : List ℕ) → (length s == 0) ≡ is "" s
+no_bytes [] = refl
+no_bytes (c ∷ s) = ne_eqb (length (c ∷ s)) 0 (omega arith)
+
+pub one_or_other : {v r a : Bool} (b : Bool) → r ≡ a → r ≡ true → v ≡ r → v ≡ either a b
+one_or_other b e t h = h ∙ t ∙ sym (ap (λ (x : Bool). either x b) (sym e ∙ t))
+
+yes_too : (a b d : Bool) → either a b ≡ true → either a (either b d) ≡ true
+yes_too true b d e = refl
+yes_too false b d e = rw e
+
+no_more : (a b d : Bool) → either a b ≡ false → d ≡ either a (either b d)
+no_more true b d e = cc
+no_more false b d e = rw e
+
+module _ (s : List ℕ) {v : Bool} (e : v ≡ either (is "" s) (is "Z" s)) where
+  pub zone_yes : v ≡ true → v ≡ zone_form s
+  unfolding zone_form
+  zone_yes t = t ∙ sym (yes_too (is "" s) (is "Z" s) (offset_form s) (sym e ∙ t))
+
+  pub zone_no : v ≡ false → offset_form s ≡ zone_form s
+  unfolding zone_form
+  zone_no t = no_more (is "" s) (is "Z" s) (offset_form s) (sym e ∙ t)
+
+pub zone_offset : (s : List ℕ) → (length s ≡ 0 → ⊥) → is "Z" s ≡ false → offset_form s ≡ zone_form s
 unfolding zone_form
-zone_none [] e = refl
-zone_none (c ∷ s) e = never (omega arith)
-
-second : (a b d : Bool) → b ≡ true → true ≡ either a (either b d)
-second a b d e = rw e (sym (either_same a))
-
-third : (a b d : Bool) → a ≡ false → b ≡ false → d ≡ either a (either b d)
-third a b d e f = rw (e, f)
-
-module _ (s : List ℕ) where
-  pub zone_z : is "Z" s ≡ true → true ≡ zone_form s
-  unfolding zone_form
-  zone_z e = second (is "" s) (is "Z" s) (offset_form s) e
-
-  pub zone_offset : (length s ≡ 0 → ⊥) → is "Z" s ≡ false → offset_form s ≡ zone_form s
-  unfolding zone_form
-  zone_offset ne e = third (is "" s) (is "Z" s) (offset_form s) (paired_length equal [] s (λ z. ne (sym z))) e
+zone_offset s ne e = no_more (is "" s) (is "Z" s) (offset_form s) (rw (paired_length equal [] s (λ z. ne (sym z)), e))
 
 -- ---- a fraction
 no_dot : (s : List ℕ) → first s ≡ 46 → zone_form s ≡ false

@@ -1,13 +1,12 @@
 -- What a value tells that is written as a pattern: its length, and what stands at each of its places.
-use mathlib.Core.Path.{◌≡◌, ap}
+use mathlib.Core.Path.{◌≡◌, ap, sym}
 use mathlib.Core.Bool.{true, false}
 use mathlib.Core.List.{List}
-use Prim.Native.Nat.{ℕ, ◌≤◌, ◌<◌}
+use Prim.Native.Nat.{ℕ, ◌<◌}
 use Prim.Native.String.{String}
-use native.Mathlib.Omega.{arith}
-use borrow.Author.Tests.{le-leb, lt-leb, eqb-true}
+use borrow.Author.Tests.{eqb-true}
 use lib.ListN.{length}
-use lib.Dec.{leb}
+use Rattle.std.specs.Char.{is_ascii_alphabetic}
 use Rattle.text.specs.Truth.{either, between, at}
 use Rattle.text.specs.Quoted.{bytes, among}
 use Rattle.text.specs.Classes.{digit}
@@ -19,13 +18,9 @@ pub letter_range : (p : ℕ) → letter p ≡ either (between 65 90 p) (between 
 unfolding letter among
 letter_range p = ap (either (between 65 90 p)) (either_none (between 97 122 p))
 
--- a call returned r, which is the number n, and a branch compared r: what the test of n is
-module _ {r n : ℕ} (k : ℕ) (e : r ≡ n) where
-  pub within : r ≤ k → leb n k ≡ true
-  within h = le-leb n k (omega arith)
-
-  pub over : k < r → leb n k ≡ false
-  over h = lt-leb n k (omega arith)
+-- the library's word for a letter
+pub letter_ascii : (p : ℕ) → is_ascii_alphabetic p ≡ letter p
+letter_ascii p = sym (letter_range p)
 
 module _ (t : String) (s : List ℕ) where
   pub unwritten : (length (bytes t) ≡ length s → ⊥) → written t s ≡ false

@@ -1,15 +1,38 @@
--- Where a code stands in a list: at the entry that it is, or further on.
-use mathlib.Core.Path.{◌≡◌}
-use mathlib.Core.Bool.{Bool, true, false}
-use Prim.Native.Nat.{ℕ}
-use Rattle.text.proofs.Truths.{yes_of, no_of}
-use Rattle.answers.specs.Given.{Given, worth}
-use Rattle.codes.specs.Listed.{or_else}
+-- The place of the first code that a value is, told by the library's search of a slice of codes.
+use mathlib.Core.Path.{◌≡◌, refl, ap, ◌∙◌}
+use mathlib.Core.Bool.{Bool, true, false, cond}
+use mathlib.Core.List.{List, [], ◌∷◌, map}
+use Prim.Native.Nat.{ℕ, suc}
+use Prim.Native.String.{String}
+use native.Mathlib.Numerals.{add-one}
+use lib.Dec.{eqb}
+use lib.Pointwise.{pointwise}
+use denote.Ref.{Bor}
+use Rattle.std.specs.Prelude.{Option, Some, None}
+use Rattle.std.specs.List.{position_from}
+use Rattle.text.specs.Quoted.{bytes, alike, is}
+use Rattle.text.proofs.Chains.{alike_pointwise}
+use Rattle.answers.specs.Given.{Given, worth, refused}
+use Rattle.codes.specs.Listed.{or_else, place}
 
--- a call returned r, worth is whether s is the entry at i, and a branch went by r; g is what the rest of the list gives
-module _ {r b : Bool} (e : r ≡ b) (i : ℕ) (g : Given) where
-  pub here : r ≡ true → worth i ≡ or_else b i g
-  here t = rw (yes_of e t)
+-- a code of the slice is the value
+abbrev pub meets : List ℕ → Bor (List ℕ) → Bool
+meets s t = pointwise eqb t.now s
 
-  pub beyond : (h : Given) → r ≡ false → h ≡ g → h ≡ or_else b i g
-  beyond h t f = rw (no_of e t) f
+abbrev pub told : Option ℕ → Given
+told (Some n) = worth n
+told None = refused 10
+
+one : (b : Bool) (i : ℕ) (o : Option ℕ) (g : Given) → told o ≡ g → told (cond b (Some i) o) ≡ or_else b i g
+one true i o g e = refl
+one false i o g e = e
+
+pub listed : (s : List ℕ) (i : ℕ) (l : List (Bor (List ℕ))) (ts : List String) → map (λ t. t.now) l ≡ map bytes ts → told (position_from (meets s) i l) ≡ place i ts s
+listed s i [] [] e = refl
+listed s i [] (t ∷ ts) e = cc
+listed s i (x ∷ l) [] e = cc
+listed s i (x ∷ l) (t ∷ ts) e =
+    let h : x.now ≡ bytes t = cc in
+    let g : map (λ t. t.now) l ≡ map bytes ts = cc in
+    let k : meets s x ≡ is t s = alike_pointwise x.now s ∙ ap (λ w. alike w s) h in
+    rw (k, add-one i) (one (is t s) i _ _ (listed s (suc i) l ts g))

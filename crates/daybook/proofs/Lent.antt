@@ -6,22 +6,46 @@ use mathlib.Core.Logic.{inl, inr}
 use Prim.Native.Nat.{ℕ, zero, suc, ◌+◌, ◌-◌, ◌≤◌, ◌<◌}
 use native.Mathlib.Omega.{arith}
 use borrow.Author.Tests.{le-leb, lt-leb, leb-true, leb-false}
-use lib.Dec.{leb, ltb}
+use lib.Dec.{leb}
 use lib.ListN.{length, take, drop, set, replicate, take-append-drop, drop_of_length-le}
 use lib.Seq.{take-take, take-append-le, take_all, length-take-le}
+use Rattle.std.proofs.Common.{Some, None, Ok, Err}
 use Rattle.text.specs.Truth.{pick}
+use Rattle.answers.specs.declared.Refused.{Refused}
+use Rattle.answers.specs.Refusals.{refusal_number}
 use Rattle.text.proofs.Truths.{never, lt_or_ge, fails, passes}
 use Rattle.book.specs.declared.Entry.{Entry}
-use Rattle.book.specs.declared.Outcome as acting
-use Rattle.book.specs.Book.{Key, Book, most_open, open_in, is_open, sum_of, open_total, is_book, first_at, without, cents_of}
-use Rattle.book.specs.Calls.{done, refusal, Outcome, unchanged, Bulk, bulk, unfit, enters, entered, withdraws, withdrawn, Call, enter, withdraw, called, asked, at}
-use Rattle.book.specs.Calls.{nowhere, none, searched}
+use Rattle.book.specs.Book.{Key, Book, most_open, open_in, is_open, open_total, is_book, first_at, without, cents_of}
+use Rattle.book.specs.Calls.{done, refusal, Outcome, unchanged, Bulk, bulk, unfit, enters, entered, withdraws, withdrawn, Call, enter, withdraw, called, asked, at, nowhere, none, searched}
 use Rattle.book.specs.Stored.{Stored, agrees, Carried, as_lent, carried, kept}
-use Rattle.book.specs.Code.{answer_for, kept_of, outcome_of, found_of, blank_entry, book_of, stored_of, called_on, asked_on, found_for}
-use Rattle.book.proofs.Lists.{open_first}
+use Rattle.book.specs.Code.{told_as, searched_as, place_in, book_of, stored_of}
 use Rattle.book.proofs.Answers.{none_kept}
-use Rattle.daybook.specs.Lent.{first_places, replaced}
+use Rattle.daybook.specs.Lent.{blank_entry, first_places, replaced}
 
+-- ---- a search of a checked book
+pub searched_err : (k : Key) (b : Book) (r : Refused) → told_as (Err r) ≡ asked b → searched_as (Err r) ≡ searched k b
+unfolding asked searched
+searched_err k b r = go (is_book b)
+  where
+    go : (t : Bool) → told_as (Err r) ≡ pick t (done (open_total b)) (refusal 29 0)
+        → searched_as (Err r) ≡ pick t (pick (is_open k (open_in b)) (at (first_at k (open_in b))) nowhere) (none 29 0)
+    go true h = never (cc)
+    go false h =
+        let z : refusal_number r.why ≡ 29 = cc in
+        let y : r.at ≡ 0 = cc in
+        rw (z, y)
+
+pub searched_ok : (k : Key) (b : Book) (t : ℕ) → done t ≡ asked b → searched_as (Ok (place_in k (open_in b))) ≡ searched k b
+unfolding asked searched
+searched_ok k b t = go (is_book b) (is_open k (open_in b))
+  where
+    go : (i o : Bool) → done t ≡ pick i (done (open_total b)) (refusal 29 0)
+        → searched_as (Ok (pick o (Some (first_at k (open_in b))) None)) ≡ pick i (pick o (at (first_at k (open_in b))) nowhere) (none 29 0)
+    go true true h = refl
+    go true false h = refl
+    go false o h = never (cc)
+
+-- ---- the first 64 places
 module _ (ys : List Entry) (n : ℕ) where
   abbrev lent : Book
   lent = book_of ys n
@@ -159,52 +183,3 @@ module _ (ys : List Entry) (n : ℕ) where
           go : (i : Bool) → is_book lent ≡ i → Agree (kept c held_stored) (kept c lent_stored)
           go true is = rw (open-same room (book_few room is)) (then (agrees lent_stored) is refl)
           go false e = rw (none_kept c held_stored (rw (book-same room, e)), none_kept c lent_stored (rw e)) (lent-agree 29 0)
-
-    pub lent_called : (c : Call) (o : acting.Outcome) → o ≡ outcome_of (called_on (length ys) c (stored_of (first_places ys) n t)) → length o.entries ≡ most_open
-        → (o.kept ≡ kept_of (kept c lent_stored)) × (replaced o.entries ys ≡ (kept c lent_stored).stored.book.entries)
-    unfolding called_on
-    lent_called c o e long = elim (lt_or_ge (length ys) most_open) [ inl h ↦ small h | inr h ↦ large h ]
-      where
-        small : length ys < most_open → (o.kept ≡ kept_of (kept c lent_stored)) × (replaced o.entries ys ≡ (kept c lent_stored).stored.book.entries)
-        small h =
-            let z : o ≡ outcome_of (as_lent 29 0 (stored_of (first_places ys) n t)) = e ∙ rw (lt-leb most_open (length ys) h) in
-            rw (none_kept c lent_stored (rw (few-none h)), z) (refl, few_same h)
-
-        large : most_open ≤ length ys → (o.kept ≡ kept_of (kept c lent_stored)) × (replaced o.entries ys ≡ (kept c lent_stored).stored.book.entries)
-        large h =
-            let z : o ≡ outcome_of (kept c (held_stored h c)) = e ∙ rw (le-leb most_open (length ys) h, first_is h) in
-            let a = agree h c in (
-              ap (λ (u : acting.Outcome). u.kept) z ∙ rw (a.told, a.number, a.total),
-              filled h o.entries long ∙ (ap (λ (u : acting.Outcome). u.entries ++ drop most_open
-                  ys) z ∙ a.entries),
-            )
-
-  -- ---- the open total
-  pub lent_asked : asked_on (length ys) (book_of (first_places ys) n) ≡ asked lent
-  unfolding asked_on asked
-  lent_asked = elim (lt_or_ge (length ys) most_open) [
-    | inl h ↦ rw (lt-leb most_open (length ys) h, few-none h)
-    | inr h ↦ rw (le-leb most_open (length ys) h, first_is h, book-same h) (go h (is_book lent) refl)
-  ]
-    where
-      go : (h : most_open ≤ length ys) (t : Bool) → is_book lent ≡ t → pick t (done (open_total (held h))) (refusal 29 0) ≡ pick t (done (open_total lent)) (refusal 29 0)
-      go h true is = ap (λ (l : List Entry). done (sum_of l)) (open-same h (book_few h is))
-      go h false is = refl
-
-  -- ---- a search
-  long : is_book lent ≡ true → length (take n ys) ≡ n
-  unfolding is_book
-  long is = length-take-le n ys (omega (arith, leb-true most_open (length ys) (passes _ is 0), leb-true n most_open (passes _ is 1)))
-
-  pub lent_found : (k : Key) → found_for (answer_for (asked lent) n) (first_at k (take n ys)) ≡ found_of (searched k lent)
-  unfolding found_for asked searched
-  lent_found k = go (is_book lent) refl
-    where
-      go : (t : Bool) → is_book lent ≡ t → found_for (answer_for (pick t (done (open_total lent)) (refusal 29 0)) n) (first_at k (take n ys))
-          ≡ found_of (pick t (pick (is_open k (open_in lent)) (at (first_at k (open_in lent))) nowhere) (none 29 0))
-      go true is = rw (open_first k (take n ys), long is) (then (ltb (first_at k (take n ys)) n))
-        where
-          then : (a : Bool) → pick a (found_of (at (first_at k (take n ys)))) (found_of nowhere) ≡ found_of (pick a (at (first_at k (take n ys))) nowhere)
-          then true = refl
-          then false = refl
-      go false is = refl

@@ -1,9 +1,13 @@
 -- A lent list of any number of places, and the first 64 of them by value.
-use Rattle.std.specs.Prelude.{ℕ, List, ◌++◌, length, take, drop, replicate, leb}
-use Rattle.text.specs.Truth.{pick}
+use Rattle.std.specs.Prelude.{List, ◌++◌, length, take, drop, replicate}
+use Rattle.text.specs.Quoted.{byte}
+use Rattle.naming.specs.Key.{key_length}
 use Rattle.book.specs.declared.Entry.{Entry}
 use Rattle.book.specs.Book.{most_open}
-use Rattle.book.specs.Code.{blank_entry}
+
+-- an entry of no bulk
+abbrev pub blank_entry : Entry
+blank_entry = record { key = replicate key_length (byte " "); cents = 0 }
 
 -- the first 64 entries, and blank ones where they are fewer
 unfoldable pub first_places : List Entry → List Entry
@@ -12,6 +16,3 @@ first_places l = take most_open (l ++ replicate most_open blank_entry)
 -- the first 64 places, or as many as there are, replaced by those of b
 unfoldable pub replaced : List Entry → List Entry → List Entry
 replaced b l = take (length l) b ++ drop most_open l
-
-abbrev pub fewer : ℕ → ℕ → ℕ
-fewer a b = pick (leb a b) a b

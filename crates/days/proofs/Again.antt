@@ -6,7 +6,7 @@ use Prim.Native.Nat.{ℕ, zero, suc, ◌-◌, ◌≤◌}
 use native.Mathlib.Omega.{arith}
 use borrow.Author.Tests.{lt-leb}
 use lib.ListN.{length, take}
-use Rattle.text.specs.Truth.{either, pick}
+use Rattle.text.specs.Truth.{pick}
 use Rattle.text.proofs.Truths.{never}
 use Rattle.money.specs.declared.Range.TheVariants.{Total}
 use Rattle.money.specs.Amount.{most}
@@ -14,12 +14,9 @@ use Rattle.reading.proofs.Lists.{alike_same}
 use Rattle.book.specs.declared.Entry.{Entry}
 use Rattle.book.specs.Book.{Key, Book, most_open, open_in, has_key, is_open, two_equal, sum_of, open_total, is_book, without, cents_of}
 use Rattle.book.specs.Calls.{done, unchanged, bulk, enters, entered, lessened, withdraws, withdrawn}
-use Rattle.days.proofs.Open.{known, open_lessened, sum_less}
-use Rattle.days.proofs.Kept.{kept_of_lem, kept_lessened, is_book_lem}
-
-either_no : (a b : Bool) → either a b ≡ false → (a ≡ false) × (b ≡ false)
-either_no true b e = never (cc)
-either_no false b e = (refl, e)
+use Rattle.book.proofs.Answers.{known}
+use Rattle.days.proofs.Open.{open_lessened, sum_less}
+use Rattle.days.proofs.Kept.{either_no, kept_of_lem, kept_lessened, is_book_lem}
 
 -- where the keys are all different, the key is open no more
 gone : (k : Key) (l : List Entry) → two_equal l ≡ false → is_open k (without k l) ≡ false

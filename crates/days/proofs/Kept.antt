@@ -17,7 +17,8 @@ use Rattle.book.specs.declared.Entry.{Entry}
 use Rattle.book.specs.Book.{Key, Book, most_open, open_in, has_key, is_open, two_equal, open_total, is_book, without, cents_of}
 use Rattle.book.specs.Calls.{done, refusal, Outcome, unchanged, Bulk, bulk, unfit, added, enters, entered, lessened, withdraws, withdrawn, Call, enter, withdraw, called}
 use Rattle.days.specs.Day.{empty, after}
-use Rattle.days.proofs.Open.{known, open_added, open_lessened, length_lessened}
+use Rattle.book.proofs.Answers.{known}
+use Rattle.days.proofs.Open.{open_added, open_lessened, length_lessened}
 
 -- ---- keys told apart either way round
 eqb_same : (a b : ℕ) → eqb a b ≡ eqb b a
@@ -33,7 +34,7 @@ alike_either [] (d ∷ b) = refl
 alike_either (c ∷ a) [] = refl
 alike_either (c ∷ a) (d ∷ b) = rw (eqb_same d c, alike_either a b)
 
-either_no : (a b : Bool) → either a b ≡ false → (a ≡ false) × (b ≡ false)
+pub either_no : (a b : Bool) → either a b ≡ false → (a ≡ false) × (b ≡ false)
 either_no true b e = never (cc)
 either_no false b e = (refl, e)
 

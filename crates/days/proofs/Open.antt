@@ -1,41 +1,17 @@
 -- The open entries after a call.
 use mathlib.Core.Path.{◌≡◌, refl, ap, ◌∙◌}
-use mathlib.Core.Bool.{Bool, true, false, not}
+use mathlib.Core.Bool.{Bool, true, false}
 use mathlib.Core.List.{List, [], ◌∷◌, ◌++◌}
 use Prim.Native.Nat.{suc, ◌+◌, ◌-◌, ◌≤◌, ◌<◌}
 use native.Mathlib.Numerals.{add-one}
 use native.Mathlib.Omega.{arith}
-use borrow.Author.Tests.{leb-true}
 use lib.ListN.{length, drop, length-append, length-drop}
 use lib.Seq.{take-suc-set, take_at, length-take-le}
 use Rattle.text.specs.Truth.{either, pick}
-use Rattle.text.proofs.Truths.{never, passes}
-use Rattle.money.specs.declared.Range.TheVariants.{Total}
-use Rattle.money.specs.Amount.{most}
+use Rattle.text.proofs.Truths.{never}
 use Rattle.book.specs.declared.Entry.{Entry}
-use Rattle.book.specs.Book.{Key, Book, most_open, open_in, has_key, is_open, two_equal, sum_of, open_total, is_book, without, cents_of}
+use Rattle.book.specs.Book.{Key, Book, open_in, has_key, is_open, sum_of, without, cents_of}
 use Rattle.book.specs.Calls.{added, lessened}
-
--- ---- what a book is known by
-pub record Known (b : Book) : Type 0 where
-  pub room : most_open ≤ length b.entries
-  pub few : b.number ≤ most_open
-  pub different : two_equal (open_in b) ≡ false
-  pub within : open_total b ≤ most Total
-
-pub known : (b : Book) → is_book b ≡ true → Known b
-unfolding is_book
-known b e =
-    record {
-      room = leb-true most_open (length b.entries) (passes _ e 0);
-      few = leb-true b.number most_open (passes _ e 1);
-      different = not-true-of (two_equal (open_in b)) (passes _ e 2);
-      within = leb-true (open_total b) (most Total) (passes _ e 3);
-    }
-  where
-    not-true-of : (t : Bool) → not t ≡ true → t ≡ false
-    not-true-of true h = never (cc)
-    not-true-of false h = refl
 
 -- ---- one entry more: behind the others
 pub open_added : (e : Entry) (b : Book) → b.number < length b.entries → open_in (added e b) ≡ open_in b ++ (e ∷ [])

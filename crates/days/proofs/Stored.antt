@@ -17,8 +17,8 @@ use Rattle.days.proofs.Total.{counts}
 use Rattle.days.proofs.Stays.{Fair, fair_empty, fair_called, fair_is}
 
 -- a book with what summing gives
-abbrev with_sum_lem : Book → Stored
-with_sum_lem b = record { book = b; total = open_total b }
+abbrev with_sum : Book → Stored
+with_sum b = record { book = b; total = open_total b }
 
 -- what a call makes of the stored total is what summing gives afterwards
 sum_after : (c : Call) (t : Told) (old new : ℕ) → new + withdrawn_by c t ≡ old + entered_by c t → total_after c t old ≡ new
@@ -27,11 +27,11 @@ sum_after (enter x) (refusal n p) old new e = omega (arith, e)
 sum_after (withdraw k) (done cents) old new e = omega (arith, e)
 sum_after (withdraw k) (refusal n p) old new e = omega (arith, e)
 
-kept_is : (c : Call) (b : Book) → kept c (with_sum_lem b) ≡ record { told = (called c b).told; stored = with_sum_lem (called c b).book }
+kept_is : (c : Call) (b : Book) → kept c (with_sum b) ≡ record { told = (called c b).told; stored = with_sum (called c b).book }
 unfolding kept
 kept_is c b = rw (eq-eqb (open_total b) (open_total b) refl, sum_after c (called c b).told (open_total b) (open_total (called c b).book) (counts c b))
 
-sum_stored : (s : Stored) → agrees s ≡ true → s ≡ with_sum_lem s.book
+sum_stored : (s : Stored) → agrees s ≡ true → s ≡ with_sum s.book
 sum_stored s e = ap (λ (t : ℕ). record { book = s.book; total = t }) (eqb-true s.total (open_total s.book) e)
 
 -- **Every entry, withdrawal and refusal keeps the stored total equal to what summing gives.**
@@ -52,7 +52,7 @@ refused_stored c s n p = go (agrees s)
     go false e = refl
 
 -- **After any calls from the empty book** it is request 5's book, and what summing gives is stored.
-days_on : (l : List Call) (b : Book) → after_stored l (with_sum_lem b) ≡ with_sum_lem (after l b)
+days_on : (l : List Call) (b : Book) → after_stored l (with_sum b) ≡ with_sum (after l b)
 days_on [] b = refl
 days_on (c ∷ l) b = rw (kept_is c b) (days_on l (called c b).book)
 
@@ -64,7 +64,7 @@ asked_is : (b : Book) → Fair b → done (open_total b) ≡ asked b
 unfolding asked
 asked_is b f = rw (fair_is b f)
 
-alike_on : (l : List Any) (b : Book) → MadeAny l → Fair b → stored_answers l (with_sum_lem b) ≡ answers l b
+alike_on : (l : List Any) (b : Book) → MadeAny l → Fair b → stored_answers l (with_sum b) ≡ answers l b
 alike_on [] b m f = refl
 alike_on (change c ∷ l) b m f = rw (kept_is c b) (ap (λ (x : List Answer). told (called c b).told ∷ x) (alike_on l (called c b).book m.1 (fair_called c b m.0 f)))
 alike_on (ask ∷ l) b m f = rw (asked_is b f) (ap (λ (x : List Answer). told (asked b) ∷ x) (alike_on l b m f))

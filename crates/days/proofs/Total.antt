@@ -11,7 +11,8 @@ use Rattle.book.specs.declared.Entry.{Entry}
 use Rattle.book.specs.Book.{Key, Book, most_open, open_in, is_open, sum_of, open_total, is_book, cents_of}
 use Rattle.book.specs.Calls.{Told, done, Outcome, unchanged, Bulk, bulk, unfit, added, enters, entered, lessened, withdraws, withdrawn, Call, enter, withdraw, called}
 use Rattle.days.specs.Day.{empty, after, if_done, entered_by, withdrawn_by, all_entered, all_withdrawn}
-use Rattle.days.proofs.Open.{Known, known, open_added, open_lessened, sum_more, sum_less}
+use Rattle.book.proofs.Answers.{Known, known}
+use Rattle.days.proofs.Open.{open_added, open_lessened, sum_more, sum_less}
 
 -- what a call does to the open total
 abbrev pub Counts : (Told → ℕ) → (Told → ℕ) → Book → Outcome → Type 0

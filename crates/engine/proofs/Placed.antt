@@ -1,11 +1,11 @@
 -- Where the TxIds begin that were read, along parts of a trace: only a value adds one.
-use mathlib.Core.Path.{◌≡◌, refl, sym, ap, ◌∙◌}
+use mathlib.Core.Path.{◌≡◌, refl, ap, ◌∙◌}
 use mathlib.Core.Bool.{Bool, true, false}
 use mathlib.Core.List.{List}
 use Prim.Native.Nat.{ℕ, suc, ◌+◌, ◌≤◌, ◌<◌}
 use native.Mathlib.Numerals.{add-one}
 use native.Mathlib.Omega.{arith}
-use borrow.Author.Tests.{eq-eqb, ne_eqb, lt-ltb, le-ltb}
+use borrow.Author.Tests.{lt-ltb, le-ltb}
 use Prim.Native.String.{String}
 use lib.Dec.{ltb}
 use lib.ListN.{length, drop, get_or, set}
@@ -18,7 +18,8 @@ use Rattle.tags.specs.Values.{value_at, behind_value}
 use Rattle.profile.specs.declared.Kind.{Kind}
 use Rattle.profile.specs.declared.Field.{Field}
 use Rattle.profile.specs.declared.Field.TheVariants.{TxId}
-use Rattle.profile.specs.Fields.{field_number, same_field}
+use Rattle.profile.specs.Fields.{same_field}
+use Rattle.profile.proofs.Fields.{same_field_lem}
 use Rattle.profile.specs.Limits.{most_items}
 use Rattle.profile.specs.Tree.{Occ, once, optional, many, more}
 use Rattle.profile.specs.Profile.{is_type}
@@ -28,34 +29,35 @@ use Rattle.notes.specs.declared.Notes.{Notes}
 use Rattle.notes.specs.Notes.{value_noted, added_up, item_noted, type_noted, in_notes}
 use Rattle.notes.specs.Steps.{reads}
 use Rattle.notes.proofs.Notings.{here}
-use Rattle.engine.specs.Engine.{closed_by, valued_by, filed_by, filed_of, or_else, placed}
+use Rattle.engine.specs.Engine.{closed_by, valued_by, filed, filed_by, filed_of, or_else, placed}
 
 -- ---- one place more, where the field is TxId's and there is room
-module _ (f : Field) (p : ℕ) (l : List ℕ) (n : ℕ) (e : n ≡ field_number f) where
-  pub file_other : (n ≡ 9 → ⊥) → l ≡ filed_by f p l
+module _ (f : Field) (p : ℕ) (l : List ℕ) where
+  pub file_other : (f ≡ TxId → ⊥) → l ≡ filed_by f p l
   unfolding filed_by
-  file_other h = rw (ne_eqb (field_number f) 9 (λ z. h (e ∙ z)))
+  file_other h = go (same_field f TxId) refl
+    where
+      go : (b : Bool) → same_field f TxId ≡ b → l ≡ pick b (filed p l) l
+      go true e = absurd (h (same_field_lem f TxId e))
+      go false e = refl
 
-  module _ (h : n ≡ 9) where
-    is-id : same_field f TxId ≡ true
-    is-id = eq-eqb (field_number f) 9 (sym e ∙ h)
-
+  module _ (h : f ≡ TxId) where
     pub file_none : length l ≡ 0 → l ≡ filed_by f p l
     unfolding filed_by
-    file_none z = rw (is-id, le-ltb (suc (get_or l 0 0)) (length l) (omega (arith, z)), both_false (ltb (get_or l 0 0) most_items))
+    file_none z = rw (h, le-ltb (suc (get_or l 0 0)) (length l) (omega (arith, z)), both_false (ltb (get_or l 0 0) most_items))
 
     pub file_full : most_items ≤ get_or l 0 0 → l ≡ filed_by f p l
     unfolding filed_by
-    file_full z = rw (is-id, le-ltb (get_or l 0 0) most_items z)
+    file_full z = rw (h, le-ltb (get_or l 0 0) most_items z)
 
     module _ (z : get_or l 0 0 < most_items) where
       pub file_last : length l ≤ get_or l 0 0 + 1 → l ≡ filed_by f p l
       unfolding filed_by
-      file_last y = rw (is-id, lt-ltb (get_or l 0 0) most_items z, ← add-one (get_or l 0 0), le-ltb (get_or l 0 0 + 1) (length l) y)
+      file_last y = rw (h, lt-ltb (get_or l 0 0) most_items z, ← add-one (get_or l 0 0), le-ltb (get_or l 0 0 + 1) (length l) y)
 
       pub file_more : get_or l 0 0 + 1 < length l → set (set l 0 (get_or l 0 0 + 1)) (get_or l 0 0 + 1) p ≡ filed_by f p l
       unfolding filed_by
-      file_more y = rw (is-id, lt-ltb (get_or l 0 0) most_items z, ← add-one (get_or l 0 0), lt-ltb (get_or l 0 0 + 1) (length l) y)
+      file_more y = rw (h, lt-ltb (get_or l 0 0) most_items z, ← add-one (get_or l 0 0), lt-ltb (get_or l 0 0 + 1) (length l) y)
 
 -- ---- one part behind another
 pub then_placed : (t : Trace) (u : ℕ → Trace) (n : Notes) (l : List ℕ)

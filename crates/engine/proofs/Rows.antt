@@ -7,13 +7,12 @@ use native.Mathlib.Omega.{arith}
 use borrow.Author.Tests.{le-leb, lt-leb}
 use borrow.Rule.Slice.PartMut.{put_mid, mid_len, same_len_mid}
 use lib.ListN.{length, take, drop, get_or, set, length-append, length-drop, length-set, drop_of_length-le}
-use lib.Seq.{paste, paste-suc, take_all, take_at, drop_at, drop-drop, drop-cons, set_at}
+use lib.Seq.{paste-suc, take_all, take_at, drop_at, drop-drop, drop-cons, set_at}
 use Rattle.profile.specs.declared.Version.{Version}
 use Rattle.profile.specs.Limits.{most_bytes}
 use Rattle.profile.specs.Listed.{many_fields}
 use Rattle.reading.specs.Noted.{Reading, on, stop, Ended}
 use Rattle.notes.specs.declared.Notes.{Notes}
-use Rattle.engine.specs.declared.Several.{Several}
 use Rattle.engine.specs.Engine.{item_at}
 use Rattle.engine.specs.Several.{items_from, behind, row_length, row_of, rows_of, told_in, Tells}
 use Rattle.engine.proofs.Whole.{item_long, item_far}

@@ -20,15 +20,12 @@ use Rattle.reading.specs.Noted.{Reading, on, stop, onward, Ended}
 use Rattle.reading.proofs.Flat.{never}
 use Rattle.items.specs.Sums.{most_sum, of_amount}
 use Rattle.notes.specs.declared.Notes.{Notes}
-use Rattle.notes.specs.declared.State.{State}
-use Rattle.notes.specs.declared.Met.{Met}
-use Rattle.notes.specs.declared.Met.TheVariants.{On, Stopped}
 use Rattle.notes.specs.Notes.{value_noted, added_up}
-use Rattle.notes.specs.Steps.{stated, met_in, staying, reads, Good, Room, Fine}
+use Rattle.notes.specs.Steps.{staying, reads, Good, Room, Fine}
 use Rattle.notes.proofs.Notings.{here}
 use Rattle.notes.proofs.Stays.{later, good_at, added_good, value_fine}
 use Rattle.notes.proofs.Room.{value_within}
-use Rattle.engine.specs.Engine.{stops, closed_by, valued_by, filed_by, or_else, placed}
+use Rattle.engine.specs.Engine.{closed_by, valued_by, filed_by, or_else, placed}
 use Rattle.engine.proofs.Placed.{valued_placed}
 use Rattle.reading.specs.Trace.{closed}
 
@@ -46,18 +43,10 @@ fine_on m p r s e f = rw (sym e) at f
 pub fine_stop : (m : List ℕ) (p : ℕ) (r : Found) (n q : ℕ) → stop n q ≡ r → Fine m p r → q ≤ length m
 fine_stop m p r n q e f = rw (sym e) at f
 
--- whether it is one that stops, as the code asks of a step
+-- whether it is one that stops, as the code asks of a step by `is_err`
 abbrev pub halts : Found → Bool
 halts (on s) = false
 halts (stop n q) = true
-
-pub halted : (x : Met) (s : State) → stops x ≡ true → halts (met_in x s) ≡ true
-halted On s h = h
-halted (Stopped n q) s h = refl
-
-pub went_on : (x : Met) (s : State) → stops x ≡ false → on (stated s) ≡ met_in x s
-went_on On s h = refl
-went_on (Stopped n q) s h = never (cc)
 
 -- ---- white space
 pub spaces_fit : (m : List ℕ) (p n : ℕ) → p ≤ length m → n ≡ lead white (take (length m - p) (drop p m)) → p + n ≤ length m

@@ -1,5 +1,5 @@
 -- What an engine reads, and what it answers, whatever leads it.
-use Rattle.std.specs.Prelude.{ℕ, suc, ◌+◌, Bool, true, false, List, length, drop, get_or, set, leb, ltb}
+use Rattle.std.specs.Prelude.{ℕ, suc, ◌+◌, Bool, List, length, drop, get_or, set, leb, ltb}
 use Rattle.text.specs.Truth.{both, pick}
 use Rattle.tags.specs.Tags.{look, on_look}
 use Rattle.tags.specs.Values.{value_at, behind_value}
@@ -14,15 +14,8 @@ use Rattle.reading.specs.Trace.{What, item_begins, item_ends, there, absent, val
 use Rattle.reading.specs.Noted.{Reading, on, stop, Ended}
 use Rattle.items.specs.Alone.{alone}
 use Rattle.notes.specs.declared.Notes.{Notes}
-use Rattle.notes.specs.declared.Met.{Met}
-use Rattle.notes.specs.declared.Met.TheVariants.{On, Stopped}
 use Rattle.notes.specs.Notes.{fresh, in_notes}
 use Rattle.notes.specs.Steps.{reads}
-
--- whether a step ended the reading
-abbrev pub stops : Met → Bool
-stops On = false
-stops (Stopped n p) = true
 
 -- an end tag that is due at a place
 unfoldable pub closed_by : List (ℕ → Bool) → List ℕ → ℕ → Trace

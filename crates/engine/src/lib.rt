@@ -1,53 +1,31 @@
-// What every engine does, whatever leads it: where TxIds begin is filed; a step is asked whether it ended the reading; what an item noted is told in a row.
+// What every engine does, whatever leads it: where TxIds begin is filed; what an item noted is told in a row.
 #![tactic(auto)]
 
 ghost use Rattle.std.specs.Prelude.{◌≡◌};
-ghost use Rattle.engine.specs.Engine.{stops, filed_by};
+ghost use Rattle.engine.specs.Engine.{filed_by};
 ghost use Rattle.engine.specs.Several.{told_in};
 
-use notes::{Met, Notes, Step};
+use notes::Notes;
 use profile::Field;
 
-// The number of the field that a TxId is.
-const TX_ID: usize = 9;
-
-// How many items there are at most.
-const MOST: u32 = 10_000;
-
 // Where a TxId begins, behind those that were read before it; the first number says how many there are.
+// (The caller lends the list, of fixed memory, and gets it back: a list that keeps its own count is a Vec, which needs a heap.)
 pub fn file(f: Field, at: u32, places: &mut [u32])
     ensures { places.new ≡ filed_by f at places.old }
 {
-    if profile::number_of(f) != TX_ID {
-        return;
-    }
-    if places.len() == 0 {
+    if f != Field::TxId || places.is_empty() {
         return;
     }
     let many = places[0];
-    if MOST <= many {
-        return;
-    }
     let next = many as usize + 1;
-    if next < places.len() {
+    if many < profile::MOST_ITEMS as u32 && next < places.len() {
         places[0] = many + 1;
         places[next] = at;
     }
 }
 
-// Whether a step ended the reading.
-pub fn is_stopped(s: Step) -> bool
-    ensures { result ≡ stops s.met }
-{
-    let met = s.met;
-    match met {
-        Met::On => false,
-        Met::Stopped(_, _) => true,
-    }
-}
-
 // How many numbers are told of an item.
-pub const ROW: usize = 28;
+pub const ROW: usize = profile::FIELDS + 1;
 
 // How many items were read in one call, and the place behind the last.
 #[derive(Clone, Copy)]
@@ -63,11 +41,8 @@ pub fn tell(part: &mut [u64], n: Notes)
     if part.len() < ROW {
         return;
     }
-    let starts = n.starts;
-    let mut i = 0;
-    while i < profile::FIELDS {
-        part[i] = starts[i] as u64;
-        i += 1;
+    for i in 0..profile::FIELDS {
+        part[i] = n.starts[i] as u64;
     }
     part[profile::FIELDS] = n.cents;
 }

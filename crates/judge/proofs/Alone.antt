@@ -1,6 +1,5 @@
 -- An item that stands in a message, read again by the engine: it goes to its end, and the notes are the sum of what it holds.
 use mathlib.Core.Path.{◌≡◌, refl, sym, ap, ◌∙◌}
-use mathlib.Core.Bool.{true}
 use mathlib.Core.Option.{Option, none, some}
 use mathlib.Core.List.{List, []}
 use Prim.Native.Nat.{ℕ, ◌≤◌}
@@ -8,7 +7,7 @@ use borrow.Author.Tests.{le-leb}
 use lib.ListN.{length}
 use Rattle.profile.specs.declared.Version.{Version}
 use Rattle.profile.specs.Limits.{most_bytes}
-use Rattle.reading.specs.Noted.{Reading, on, stop, Ended, noted}
+use Rattle.reading.specs.Noted.{Reading, on, Ended, noted}
 use Rattle.reading.specs.Items.{Item}
 use Rattle.reading.specs.Trace.{Entry, Trace}
 use Rattle.reading.specs.Judged.{listed}

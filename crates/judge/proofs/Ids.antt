@@ -3,25 +3,23 @@ use mathlib.Core.Path.{◌≡◌, refl, sym, ap, ◌∙◌}
 use mathlib.Core.Bool.{Bool, true, false}
 use mathlib.Core.Option.{Option, none, some}
 use mathlib.Core.List.{List, [], ◌∷◌, ◌++◌, append-nil, append_assoc}
-use Prim.Native.Nat.{ℕ, zero, suc, ◌+◌, ◌-◌, ◌≤◌, ◌<◌}
+use Prim.Native.Nat.{ℕ, zero, suc, ◌-◌, ◌≤◌, ◌<◌}
 use native.Mathlib.Omega.{arith}
-use borrow.Author.Tests.{eq-eqb, ne_eqb, lt-ltb, le-ltb}
-use lib.Dec.{eqb, ltb}
-use lib.ListN.{length, take, drop, get_or, set, replicate, length-append, length-replicate}
-use Rattle.text.specs.Truth.{either, pick}
-use Rattle.text.specs.Quoted.{alike}
+use borrow.Author.Tests.{ne_eqb, lt-ltb}
+use lib.Dec.{ltb}
+use Rattle.std.specs.Prelude as rattle
+use lib.ListN.{length, take, drop, set, replicate, length-append, length-replicate}
+use Rattle.text.specs.Truth.{pick}
 use Rattle.text.proofs.Scan.{rest_of}
 use Rattle.text.proofs.Truths.{never}
-use Rattle.tags.specs.Values.{value_at}
 use Rattle.profile.specs.declared.Field.TheVariants.{TxId}
-use Rattle.profile.specs.declared.Version.{Version}
 use Rattle.profile.specs.Fields.{same_field}
 use Rattle.profile.specs.Limits.{most_bytes, most_items}
 use Rattle.profile.specs.Profile.{profile}
 use Rattle.reading.specs.Trace.{What, item_begins, item_ends, there, absent, value, Entry, Trace, met, up_to, fault, trace, Opened, from, faulty, opened, behind_all, inside, message}
-use Rattle.reading.specs.Noted.{Reading, on, stop, Ended, noted}
-use Rattle.reading.specs.Rules.{items_in, of_field, values_at, stands_in}
-use Rattle.reading.specs.Judged.{whats, listed}
+use Rattle.reading.specs.Noted.{Reading, noted}
+use Rattle.reading.specs.Rules.{items_in, of_field, stands_in}
+use Rattle.reading.specs.Judged.{whats}
 use Rattle.reading.proofs.Each.{AllIn}
 use Rattle.reading.proofs.Simulates.{Alike, going, stopped}
 use Rattle.reading.proofs.More.{lenient, read_then, read_on, Lying as Id, lying_at, ids_of, bytes_of, second_in, twice_or, bytes_append, ids_append, ids_bytes, twice_or_lem}
@@ -29,10 +27,9 @@ use Rattle.items.proofs.Ids.{one_more, still_few, Fair, trace_fair, few_ids, Lie
 use Rattle.notes.specs.declared.Notes.{Notes}
 use Rattle.notes.specs.Notes.{fresh, in_notes}
 use Rattle.notes.proofs.Sums.{Summed, summed_fresh, sums}
-use Rattle.twice.specs.Twice.{stands_among, second_from, second}
+use Rattle.twice.specs.Twice.{stands_among, second_from, second, if_any}
 use Rattle.engine.specs.Engine.{filed, filed_by, filed_of as filed_with, or_else, placed}
-use Rattle.judge.specs.Found.{denied}
-use Rattle.judge.specs.Survey.{Surveyed, without, survey_by, survey}
+use Rattle.judge.specs.Survey.{Surveyed, survey_by, survey}
 use Rattle.judge.specs.Engine.{survey_but, filed_in, filed_of, unless_second}
 
 -- ---- the places of TxIds, and the list of them as the code has it: how many, each, and zeros
@@ -172,11 +169,16 @@ module _ (m : List ℕ) where
       ∙ (ap (second m) (rest_of 1 l) ∙ (ap (λ (y : List ℕ). second m (drop 1 y)) a ∙ second_from_lem [] (ids_in m) (most_items - length (places_of (ids_in m))) tt (ids_lie m))))
 
   -- **With the earliest second one, what is found without the rule of 24 is what is found.**
-  pub found_second : (s : Surveyed) → s ≡ survey_but m → (l : List ℕ) → length l ≡ 10001 → l ≡ filed_of m (zeros 10001) → (i : ℕ) → i ≡ second m (take (10001 - 1) (drop 1 l)) → unless_second i s ≡ survey m
-  unfolding survey_but survey unless_second
-  found_second s e l n f i g =
-      rw (e, second-lent l n f i g, twice_or_lem (message m)) (go (second_in [] (ids_in m)) refl)
+  pub found_second : (s : Surveyed) → s ≡ survey_but m → (l : List ℕ) → length l ≡ 10001 → l ≡ filed_of m (zeros 10001) → (o : rattle.Option ℕ) → o ≡ if_any (second m (take (10001 - 1) (drop 1 l)))
+      → unless_second o s ≡ survey m
+  unfolding survey_but survey
+  found_second s e l n f o g =
+      rw (e, g, second-lent l n f (second m (take (10001 - 1) (drop 1 l))) refl, twice_or_lem (message m)) (go (second_in [] (ids_in m)) refl)
     where
-      go : (o : Option ℕ) → second_in [] (ids_in m) ≡ o → pick (eqb (or_zero o) 0) (survey_by (noted lenient (message m) [])) (without (denied 24 (or_zero o))) ≡ survey_by (twice_or o (noted lenient (message m) []))
+      there : (p : ℕ) → 1 ≤ p → if_any p ≡ rattle.Some p
+      there zero h = never (omega arith)
+      there (suc p) h = refl
+
+      go : (o : Option ℕ) → second_in [] (ids_in m) ≡ o → unless_second (if_any (or_zero o)) (survey_by (noted lenient (message m) [])) ≡ survey_by (twice_or o (noted lenient (message m) []))
       go none z = refl
-      go (some p) z = rw (ne_eqb p 0 (λ y. omega (arith, positive [] (ids_in m) p (ids_lie m) z)))
+      go (some p) z = rw (there p (positive [] (ids_in m) p (ids_lie m) z))

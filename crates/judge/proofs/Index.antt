@@ -1,24 +1,22 @@
 -- The lent index: too short, or with room.
-use mathlib.Core.Path.{◌≡◌, refl, ap, sym, ◌∙◌}
+use mathlib.Core.Path.{◌≡◌, refl, ap, ◌∙◌}
 use mathlib.Core.Bool.{Bool, true, false}
 use mathlib.Core.List.{List}
+use Rattle.std.specs.Prelude.{Ok}
 use Prim.Native.Nat.{ℕ, ◌≤◌, ◌<◌}
-use native.Mathlib.Omega.{arith}
-use borrow.Author.Tests.{lt-ltb, le-ltb, lt-leb, eq-eqb, ne_eqb}
+use borrow.Author.Tests.{lt-ltb, le-ltb, lt-leb}
 use lib.Dec.{ltb}
 use lib.ListN.{length}
 use Rattle.text.specs.Truth.{pick}
 use Rattle.text.proofs.Truths.{never}
 use Rattle.reading.specs.Verdict.{Judged, accepted, refused}
 use Rattle.twice.specs.Twice.{least_index, cleared}
-use Rattle.judge.specs.declared.Verdict.{Verdict}
-use Rattle.judge.specs.declared.Verdict.TheVariants.{Accepted}
+use Rattle.judge.specs.declared.Accepted.{Accepted}
 use Rattle.judge.specs.declared.Survey.{Survey}
 use Rattle.judge.specs.Verdict.{meant}
 use Rattle.judge.specs.Found.{denied}
 use Rattle.judge.specs.Survey.{Surveyed, surveyed_as, without, survey}
 use Rattle.judge.specs.Index.{or_short, survey_with}
-use Rattle.judge.specs.Engine.{unless_second}
 
 module _ {A : Type 0} (index : List ℕ) (a b : A) where
   pub too_short_lem : length index < 16384 → a ≡ or_short index a b
@@ -43,15 +41,6 @@ pub as_lent_lem : (index : List ℕ) → length index < 16384 → index ≡ clea
 unfolding cleared least_index
 as_lent_lem index h = rw (lt-leb 16384 (length index) h)
 
--- ---- 24, or what is found without it
-pub no_second : (p : ℕ) (s : Surveyed) → p ≡ 0 → s ≡ unless_second p s
-unfolding unless_second
-no_second p s h = rw (eq-eqb p 0 h)
-
-pub a_second : (p : ℕ) (s : Surveyed) → (p ≡ 0 → ⊥) → without (denied 24 p) ≡ unless_second p s
-unfolding unless_second
-a_second p s h = rw (ne_eqb p 0 h)
-
 -- ---- either way
 pub data Indexed (index : List ℕ) : Type 0 where
   short : ltb (length index) least_index ≡ true → Indexed index
@@ -74,18 +63,17 @@ module _ {A : Type 0} (index : List ℕ) (a b : A) where
   in_room e = rw e
 
 -- who accepts had one with room
-pub accepted_room : (index : List ℕ) (v : Verdict) (j : Judged) → meant v ≡ or_short index (refused 25 0) j → (n c : ℕ) → v ≡ Accepted n c → ltb (length index) least_index ≡ false
-accepted_room index v j e n c f = go (indexed index)
+pub accepted_room : (index : List ℕ) (a : Accepted) (j : Judged) → meant (Ok a) ≡ or_short index (refused 25 0) j → ltb (length index) least_index ≡ false
+accepted_room index a j e = go (indexed index)
   where
     go : Indexed index → ltb (length index) least_index ≡ false
     go (short h) =
-        let d : accepted n c ≡ refused 25 0 = ap meant (sym f) ∙ (e ∙ in_short index (refused 25 0) j h) in
+        let d : accepted a.count a.cents ≡ refused 25 0 = e ∙ in_short index (refused 25 0) j h in
         never (cc)
     go (roomy h) = h
 
 -- in a survey
-pub survey_verdict : (index m : List ℕ) (s : Survey) → surveyed_as s ≡ survey_with index m → meant s.finding.verdict ≡ or_short index (refused 25 0) (survey m).found.verdict
-survey_verdict index m s e = ap (λ (x : Surveyed). x.found.verdict) e ∙ made_of (λ (x : Surveyed). x.found.verdict) index (without (denied 25 0)) (survey m)
-
-pub survey_room : (index m : List ℕ) (s : Survey) → surveyed_as s ≡ survey_with index m → (n c : ℕ) → s.finding.verdict ≡ Accepted n c → ltb (length index) least_index ≡ false
-survey_room index m s e = accepted_room index s.finding.verdict (survey m).found.verdict (survey_verdict index m s e)
+pub survey_room : (index m : List ℕ) (s : Survey) → surveyed_as (Ok s) ≡ survey_with index m → ltb (length index) least_index ≡ false
+survey_room index m s e =
+    accepted_room index s.finding.accepted (survey m).found.verdict
+    (ap (λ (x : Surveyed). x.found.verdict) e ∙ made_of (λ (x : Surveyed). x.found.verdict) index (without (denied 25 0)) (survey m))

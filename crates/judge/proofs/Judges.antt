@@ -20,7 +20,7 @@ use Rattle.profile.specs.Listed.{fields, many_fields}
 use Rattle.profile.specs.Limits.{most_bytes}
 use Rattle.profile.specs.Profile.{profile}
 use Rattle.reading.specs.Trace.{Entry, up_to, fault, Opened, from, faulty, opened, trace, behind_all, inside, message}
-use Rattle.reading.specs.Noted.{Reading, on, stop, onward, Ended, noted}
+use Rattle.reading.specs.Noted.{Reading, on, onward, Ended, noted}
 use Rattle.reading.specs.Verdict.{Judged, accepted, refused}
 use Rattle.reading.specs.Rules.{items_in, cents_in, values_of, first_of}
 use Rattle.reading.specs.Judged.{whats, listed, only_of, place_of, compared}
@@ -33,10 +33,8 @@ use Rattle.notes.specs.declared.Notes.{Notes}
 use Rattle.notes.specs.Notes.{fresh, in_notes}
 use Rattle.notes.specs.Steps.{reads}
 use Rattle.notes.proofs.Sums.{Served, Summed, summed_fresh, sums}
-use Rattle.judge.specs.declared.Verdict.TheVariants.{Accepted, Refused}
-use Rattle.judge.specs.declared.Finding.{Finding}
-use Rattle.judge.specs.Found.{Found, found_as, denied, found_in, found_by, found}
-use Rattle.judge.specs.Survey.{place_from_one, service_number, places_of, places, without, surveyed_if, surveyed, survey_by, survey}
+use Rattle.judge.specs.Found.{Found, denied, found_in, found_by, found}
+use Rattle.judge.specs.Survey.{from_one, place_from_one, service_number, places_of, places, without, surveyed_if, surveyed, survey_by, survey}
 use Rattle.judge.specs.Engine.{through_in, compared_in, finished_in, concluded_in, found_but, survey_but, filed_in, filed_of}
 
 compares : (es : List Entry) (n : Notes) → Summed es n → found_in (compared es) es ≡ compared_in n
@@ -57,22 +55,14 @@ compares es n r =
     go true false = refl
     go false b = refl
 
--- ---- a finding, with what was noted where it is accepted
-module _ (f : Finding) (s : ℕ) (l : List ℕ) where
-  pub with_refused : (n p : ℕ) → f.verdict ≡ Refused n p → without (found_as f) ≡ surveyed (found_as f) s l
-  with_refused n p e = rw e
-
-  pub with_accepted : (n c : ℕ) → f.verdict ≡ Accepted n c → record { found = found_as f; service = s; places = l } ≡ surveyed (found_as f) s l
-  with_accepted n c e = rw e
-
 -- ---- the notes of the service and of the places
-service_is : (es : List Entry) (n : Notes) → Summed es n → n.service ≡ service_number (whats es)
+service_is : (es : List Entry) (n : Notes) → Summed es n → from_one n.service ≡ service_number (whats es)
 unfolding service_number code_given
 service_is es n r = go (values_of (Code LclInstrm) (whats es)) r.service
   where
-    go : (ss : List (List ℕ)) → Served ss n.service → n.service ≡ place_from_one (code_given LclInstrm (first_of [] ss))
-    go [] h = h
-    go (w ∷ l) h = h.2 ∙ sym (ap place_from_one h.1)
+    go : (ss : List (List ℕ)) → Served ss n.service → from_one n.service ≡ place_from_one (code_given LclInstrm (first_of [] ss))
+    go [] h = ap from_one h
+    go (w ∷ l) h = ap from_one h.2 ∙ sym (ap place_from_one h.1)
 
 -- a list of so many numbers is its numbers from the first on
 along : List ℕ → ℕ → ℕ → List ℕ
@@ -128,7 +118,7 @@ module _ (m : List ℕ) where
 
   -- ---- and what was noted
   finishes-noted : (es : List Entry) (n : Notes) (p : ℕ) → Summed es n
-      → surveyed (found_by (noted lenient (behind_all m p) es)) n.service n.starts ≡ survey_by (noted lenient (behind_all m p) es)
+      → surveyed (found_by (noted lenient (behind_all m p) es)) (from_one n.service) n.starts ≡ survey_by (noted lenient (behind_all m p) es)
   unfolding behind_all
   finishes-noted es n p r = rw (service_is es n r, places_are es n r) (go (ltb (skipped m p) (length m)))
     where
@@ -140,7 +130,7 @@ module _ (m : List ℕ) where
       go false = refl
 
   concludes-noted : (x : Reading (Ended (List Entry))) (y : Reading (Ended Notes)) → Alike (Beside Summed) x y → (s : Ended Notes) → y ≡ on s
-      → surveyed (found_by (onward x (λ r. noted lenient (behind_all m r.at) r.notes))) s.notes.service s.notes.starts
+      → surveyed (found_by (onward x (λ r. noted lenient (behind_all m r.at) r.notes))) (from_one s.notes.service) s.notes.starts
       ≡ survey_by (onward x (λ r. noted lenient (behind_all m r.at) r.notes))
   concludes-noted x y (going {s = a} {t = b} h) s e =
       let z : b ≡ s = same_end b s e in
@@ -148,7 +138,7 @@ module _ (m : List ℕ) where
   concludes-noted x y stopped s e = never (cc)
 
   inside-noted : (o : Opened) (s : Ended Notes) → through_in m o ≡ on s
-      → surveyed (found_by (noted lenient (inside m o) [])) s.notes.service s.notes.starts ≡ survey_by (noted lenient (inside m o) [])
+      → surveyed (found_by (noted lenient (inside m o) [])) (from_one s.notes.service) s.notes.starts ≡ survey_by (noted lenient (inside m o) [])
   inside-noted (faulty n q) s e = never (cc)
   inside-noted (from v p) s e =
       rw (noted_then lenient (trace (profile v) m p) (behind_all m) [])
@@ -161,11 +151,16 @@ module _ (m : List ℕ) where
   noted_none n p f d e = rw (d, ← e)
 
   pub noted_in : ltb most_bytes (length m) ≡ false → (s : Ended Notes) → on s ≡ through_in m (opened m) → (f : Found) → f ≡ finished_in m s
-      → surveyed f s.notes.service s.notes.starts ≡ survey_but m
+      → surveyed f (from_one s.notes.service) s.notes.starts ≡ survey_but m
   unfolding found_but survey_but message
   noted_in e s g f d =
       let h = inside_found (opened m) in
-      rw (e, d) (ap (λ (x : Found). surveyed x s.notes.service s.notes.starts) (ap (concluded_in m) g ∙ sym h) ∙ inside-noted (opened m) s (sym g))
+      rw (e, d) (ap (λ (x : Found). surveyed x (from_one s.notes.service) s.notes.starts) (ap (concluded_in m) g ∙ sym h) ∙ inside-noted (opened m) s (sym g))
+
+  -- refused behind the end
+  pub noted_behind : ltb most_bytes (length m) ≡ false → (s : Ended Notes) → on s ≡ through_in m (opened m) → (n p : ℕ) → denied n p ≡ finished_in m s
+      → without (denied n p) ≡ survey_but m
+  noted_behind e s g n p d = noted_none n p (denied n p) refl (d ∙ (ap (concluded_in m) g ∙ found_in_lem e))
 
   -- where TxIds begin
   pub filed_long : ltb most_bytes (length m) ≡ true → (l : List ℕ) → l ≡ filed_of m l

@@ -2,18 +2,18 @@
 use mathlib.Core.Path.{◌≡◌, refl, sym, ap, ◌∙◌}
 use mathlib.Core.Bool.{Bool, true, false}
 use mathlib.Core.List.{List, []}
-use Prim.Native.Nat.{ℕ, zero, suc, ◌-◌, ◌≤◌, ◌<◌}
+use Rattle.std.specs.Prelude.{Ok, Err}
+use Prim.Native.Nat.{ℕ, zero, suc, ◌≤◌, ◌<◌}
 use native.Mathlib.Omega.{arith}
 use lib.Dec.{ltb}
 use lib.ListN.{length}
 use Rattle.text.specs.Truth.{pick}
 use Rattle.text.proofs.Truths.{never}
-use Rattle.tags.specs.Tags.{skipped}
 use Rattle.profile.specs.declared.Version.{Version}
 use Rattle.profile.specs.Limits.{most_bytes}
 use Rattle.reading.specs.Trace.{Entry, message}
-use Rattle.reading.specs.Noted.{Reading, on, stop, Ended, noted}
-use Rattle.reading.specs.Verdict.{Judged, accepted, refused, Located, lies, not_there}
+use Rattle.reading.specs.Noted.{Reading, on, Ended, noted}
+use Rattle.reading.specs.Verdict.{Judged, accepted, refused, Located, not_there}
 use Rattle.reading.specs.Judged.{listed, verdict, judged}
 use Rattle.reading.specs.Items.{Item, notes_of, item_from, the_items, item}
 use Rattle.items.specs.Alone.{first_in}
@@ -22,13 +22,17 @@ use Rattle.items.proofs.Accepted.{accepted_chained, item_asked, item_past}
 use Rattle.notes.specs.declared.Notes.{Notes}
 use Rattle.engine.specs.Engine.{item_at}
 use Rattle.twice.specs.Twice.{least_index}
-use Rattle.judge.specs.declared.Verdict.TheVariants.{Accepted, Refused}
+use Rattle.answers.specs.declared.Refused.{Refused}
+use Rattle.answers.specs.Refusals.{refusal_number}
 use Rattle.judge.specs.declared.Finding.{Finding}
-use Rattle.judge.specs.Verdict.{meant, version_of}
-use Rattle.judge.specs.Found.{Found, found_as, denied, found_in, found_by, found}
-use Rattle.judge.specs.Index.{or_short, item_with, found_with}
+use Rattle.judge.specs.Verdict.{version_of}
+use Rattle.judge.specs.Found.{Found, found_as, denied, found_in, found}
+use Rattle.judge.specs.Survey.{Surveyed, without, survey}
+use Rattle.judge.specs.Index.{or_short, judged_with, item_with, found_with, survey_with}
 use Rattle.judge.specs.Engine.{behind_in, walked_in}
 use Rattle.judge.proofs.Alone.{stands_again}
+use Rattle.judge.proofs.Index.{made_of}
+use Rattle.judge.proofs.Judges.{survey_found}
 
 -- ---- the verdict in what is found
 pub found_verdict : (m : List ℕ) → (found m).verdict ≡ judged m
@@ -43,28 +47,26 @@ pub found_first : (m : List ℕ) (n c : ℕ) → judged m ≡ accepted n c → (
 unfolding found judged
 found_first m n c e = rw e
 
--- ---- from item to item, as the code goes: what is asked at the start is what is asked here
-module _ (v : Version) (m : List ℕ) (i first left at : ℕ) (same : walked_in left v m at ≡ walked_in i v m first) where
-  pub walk_stops : (n q : ℕ) → stop n q ≡ item_at v m at → not_there n q ≡ walked_in i v m first
-  walk_stops n q e = go left same
-    where
-      go : (k : ℕ) → walked_in k v m at ≡ walked_in i v m first → not_there n q ≡ walked_in i v m first
-      go zero f = ap (λ (r : Reading (Ended Notes)). behind_in r (lies (skipped m at))) e ∙ f
-      go (suc k) f = ap (λ (r : Reading (Ended Notes)). behind_in r (walked_in k v m)) e ∙ f
+-- ---- and both in a survey, with an index and without
+pub verdict_surveyed : (m : List ℕ) (s : Surveyed) → s ≡ survey m → s.found.verdict ≡ judged m
+verdict_surveyed m s e = ap (λ (x : Surveyed). x.found.verdict) e ∙ (ap (λ (f : Found). f.verdict) (survey_found m) ∙ found_verdict m)
 
-  module _ (s : Ended Notes) (e : on s ≡ item_at v m at) where
-    pub walk_here : left ≡ 0 → (b : ℕ) → b ≡ skipped m at → lies b s.at ≡ walked_in i v m first
-    walk_here z b w =
-        ap (λ (k : ℕ). lies k s.at) w ∙ ap (λ (r : Reading (Ended Notes)). behind_in r (lies (skipped m at))) e ∙ (rw z at same)
+module _ (index m : List ℕ) (s : Surveyed) (e : s ≡ survey_with index m) where
+  pub found_with_index : s.found ≡ found_with index m
+  found_with_index =
+      ap (λ (x : Surveyed). x.found) e
+      ∙ (made_of (λ (x : Surveyed). x.found) index (without (denied 25 0)) (survey m) ∙ ap (or_short index (denied 25 0)) (survey_found m))
 
-    pub walk_on : (left ≡ 0 → ⊥) → walked_in (left - 1) v m s.at ≡ walked_in i v m first
-    walk_on z = go left z same
-      where
-        go : (k : ℕ) → (k ≡ 0 → ⊥) → walked_in k v m at ≡ walked_in i v m first → walked_in (k - 1) v m s.at ≡ walked_in i v m first
-        go zero z f = absurd (z refl)
-        go (suc k) z f =
-            let y : suc k - 1 ≡ k = omega arith in
-            rw y (ap (λ (r : Reading (Ended Notes)). behind_in r (walked_in k v m)) e ∙ f)
+  pub judged_with_index : s.found.verdict ≡ judged_with index m
+  judged_with_index =
+      ap (λ (x : Surveyed). x.found.verdict) e
+      ∙ (made_of (λ (x : Surveyed). x.found.verdict) index (without (denied 25 0)) (survey m)
+      ∙ ap (or_short index (refused 25 0)) (verdict_surveyed m (survey m) refl))
+
+-- ---- from item to item, as the code goes: with k items left to pass, what is asked at the start is what is asked here
+pub walk_on : (v : Version) (m : List ℕ) (k at : ℕ) (t : Located) → walked_in k v m at ≡ t → (s : Ended Notes) → on s ≡ item_at v m at
+    → (j : ℕ) → k ≡ suc j → walked_in j v m s.at ≡ t
+walk_on v m k at t same s e j z = ap (λ (r : Reading (Ended Notes)). behind_in r (walked_in j v m)) e ∙ (rw z at same)
 
 -- ---- the items of an accepted message, read again one behind the other
 module _ (v : Version) (m : List ℕ) (small : length m ≤ most_bytes) where
@@ -107,30 +109,30 @@ unfolding item
 item_refused m n p i e = rw e
 
 -- ---- with an index: one that is too short is 25; an accepted message had one with room
-module _ (index m : List ℕ) (f : Finding) (e : found_as f ≡ found_with index m) where
-  pub refused_with : (n p i : ℕ) → f.verdict ≡ Refused n p → not_there n p ≡ item_with index i m
+module _ (index m : List ℕ) where
+  pub refused_with : (r : Refused) (i : ℕ) → found_as (Err r) ≡ found_with index m → not_there (refusal_number r.why) r.at ≡ item_with index i m
   unfolding or_short
-  refused_with n p i z = go (ltb (length index) least_index) e
+  refused_with r i e = go (ltb (length index) least_index) e
     where
-      go : (b : Bool) → found_as f ≡ pick b (denied 25 0) (found m) → not_there n p ≡ pick b (not_there 25 0) (item i m)
+      go : (b : Bool) → found_as (Err r) ≡ pick b (denied 25 0) (found m) → not_there (refusal_number r.why) r.at ≡ pick b (not_there 25 0) (item i m)
       go true y =
-          let d : refused n p ≡ refused 25 0 = ap meant (sym z) ∙ ap (λ (x : Found). x.verdict) y in
+          let d : refused (refusal_number r.why) r.at ≡ refused 25 0 = ap (λ (x : Found). x.verdict) y in
           cc
-      go false y = item_refused m n p i (sym (found_verdict m) ∙ (ap (λ (x : Found). x.verdict) (sym y) ∙ ap meant z))
+      go false y = item_refused m (refusal_number r.why) r.at i (sym (found_verdict m) ∙ ap (λ (x : Found). x.verdict) (sym y))
 
-  module _ (n c : ℕ) (z : f.verdict ≡ Accepted n c) where
-    with-room : (found_as f ≡ found m) × (ltb (length index) least_index ≡ false)
+  module _ (f : Finding) (e : found_as (Ok f) ≡ found_with index m) where
+    with-room : (found_as (Ok f) ≡ found m) × (ltb (length index) least_index ≡ false)
     unfolding or_short
     with-room = go (ltb (length index) least_index) refl e
       where
-        go : (b : Bool) → ltb (length index) least_index ≡ b → found_as f ≡ pick b (denied 25 0) (found m) → (found_as f ≡ found m) × (ltb (length index) least_index ≡ false)
+        go : (b : Bool) → ltb (length index) least_index ≡ b → found_as (Ok f) ≡ pick b (denied 25 0) (found m) → (found_as (Ok f) ≡ found m) × (ltb (length index) least_index ≡ false)
         go true x y =
-            let d : accepted n c ≡ refused 25 0 = ap meant (sym z) ∙ ap (λ (x : Found). x.verdict) y in
+            let d : accepted f.accepted.count f.accepted.cents ≡ refused 25 0 = ap (λ (x : Found). x.verdict) y in
             never (cc)
         go false x y = (y, x)
 
-    pub accepted_with : judged m ≡ accepted n c
-    accepted_with = sym (found_verdict m) ∙ (ap (λ (x : Found). x.verdict) (sym with-room.0) ∙ ap meant z)
+    pub accepted_with : judged m ≡ accepted f.accepted.count f.accepted.cents
+    accepted_with = sym (found_verdict m) ∙ ap (λ (x : Found). x.verdict) (sym with-room.0)
 
     pub first_with : f.first ≡ (found m).first
     first_with = ap (λ (x : Found). x.first) with-room.0

@@ -1,5 +1,5 @@
 -- What each function of the judge finds, by the engine's notes.
-use Rattle.std.specs.Prelude.{ℕ, zero, suc, ◌+◌, ◌≤◌, List, [], length, drop, eqb, ltb}
+use Rattle.std.specs.Prelude.{ℕ, zero, suc, ◌+◌, ◌≤◌, Option, Some, None, List, [], length, drop, eqb, ltb}
 use Rattle.text.specs.Truth.{pick}
 use Rattle.tags.specs.Tags.{skipped, look, on_look, exactly}
 use Rattle.profile.specs.declared.Version.{Version}
@@ -70,6 +70,7 @@ filed_in m (faulty n q) l = l
 unfoldable pub filed_of : List ℕ → List ℕ → List ℕ
 filed_of m l = pick (ltb most_bytes (length m)) l (filed_in m (opened m) l)
 
--- 24 at a place, or what is found without it where the place is 0
-unfoldable pub unless_second : ℕ → Surveyed → Surveyed
-unless_second p s = pick (eqb p 0) s (without (denied 24 p))
+-- 24 where the earliest second TxId begins, or where there is none what is found without it
+abbrev pub unless_second : Option ℕ → Surveyed → Surveyed
+unless_second (Some p) s = without (denied 24 p)
+unless_second None s = s

@@ -1,5 +1,7 @@
 -- What a message is found to be, and of an accepted one its service and where the last value of each field begins.
-use Rattle.std.specs.Prelude.{ℕ, suc, List, [], ◌∷◌, replicate}
+use Rattle.std.specs.Prelude.{ℕ, suc, List, [], ◌∷◌, replicate, Option, Some, None, Result, Ok, Err}
+use Rattle.answers.specs.declared.Refused.{Refused}
+use Rattle.answers.specs.Refusals.{refusal_number}
 use Rattle.answers.specs.Given.{Given, yes, worth, refused as no}
 use Rattle.codes.specs.declared.Element.TheVariants.{LclInstrm}
 use Rattle.codes.specs.Listed.{code_given}
@@ -14,15 +16,12 @@ use Rattle.reading.specs.Judged.{whats, listed}
 use Rattle.reading.specs.Items.{notes_of}
 use Rattle.items.specs.Places.{field_place}
 use Rattle.judge.specs.declared.Survey.{Survey}
-use Rattle.judge.specs.Found.{Found, found_as, found_by}
+use Rattle.judge.specs.Found.{Found, denied, found_as, found_by}
 
 pub record Surveyed : Type 0 where
   pub found : Found
   pub service : ℕ
   pub places : List ℕ
-
-abbrev pub surveyed_as : Survey → Surveyed
-surveyed_as s = record { found = found_as s.finding; service = s.service; places = s.starts }
 
 -- the service: the first LclInstrm's place in its list, counted from 1
 abbrev pub place_from_one : Given → ℕ
@@ -44,6 +43,15 @@ places es = places_of fields es
 -- of a message that is refused, nothing
 abbrev pub without : Found → Surveyed
 without f = record { found = f; service = 0; places = replicate many_fields 0 }
+
+-- a place in a list, counted from 1: 0 where there is none
+abbrev pub from_one : Option ℕ → ℕ
+from_one (Some i) = suc i
+from_one None = 0
+
+abbrev pub surveyed_as : Result Survey Refused → Surveyed
+surveyed_as (Ok s) = record { found = found_as (Ok s.finding); service = from_one s.service; places = s.starts }
+surveyed_as (Err r) = without (denied (refusal_number r.why) r.at)
 
 abbrev pub surveyed_if : Judged → Found → ℕ → List ℕ → Surveyed
 surveyed_if (accepted count cents) f s l = record { found = f; service = s; places = l }

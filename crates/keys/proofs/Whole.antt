@@ -4,8 +4,10 @@ use mathlib.Core.Bool.{Bool, true, false}
 use mathlib.Core.Option.{Option, none, some}
 use mathlib.Core.List.{List, [], ◌∷◌}
 use Prim.Native.Nat.{ℕ, suc}
-use lib.ListN.{replicate}
+use Rattle.std.specs.Prelude as rattle
+use Rattle.std.specs.Prelude.{Result, Ok, Err}
 use Rattle.text.specs.Quoted.{bytes, is}
+use Rattle.answers.specs.declared.Refused.{Refused}
 use Rattle.text.proofs.Truths.{never}
 use Rattle.answers.specs.Given.{Given, worth, refused as no}
 use Rattle.codes.specs.declared.Element.TheVariants.{LclInstrm}
@@ -29,18 +31,16 @@ use Rattle.items.proofs.Places.{accepted_there}
 use Rattle.notes.specs.declared.Notes.{Notes}
 use Rattle.notes.specs.Notes.{fresh, in_notes}
 use Rattle.notes.proofs.Sums.{Served, Summed, summed_fresh, sums}
-use Rattle.naming.specs.Key.{key_length, service_of, key_of, key_if, keyed, Keyed as KeyedBulk}
-use Rattle.judge.specs.declared.Verdict.TheVariants.{Accepted, Refused}
+use Rattle.naming.specs.Key.{service_of, key_of, key_if, keyed, Keyed as KeyedBulk}
 use Rattle.judge.specs.declared.Survey.{Survey}
-use Rattle.judge.specs.Verdict.{meant}
 use Rattle.judge.specs.Index.{or_short, survey_with}
 use Rattle.judge.proofs.Index.{made_of}
 use Rattle.keys.specs.Indexed.{keyed_with}
 use Rattle.judge.specs.Found.{denied, Found, found_by, found}
-use Rattle.judge.specs.Survey.{without, Surveyed, surveyed_as, place_from_one, service_number, places, surveyed, survey}
+use Rattle.judge.specs.Survey.{without, Surveyed, surveyed_as, from_one, place_from_one, service_number, places, surveyed, survey}
 use Rattle.judge.proofs.Judges.{survey_found}
 use Rattle.judge.proofs.Walks.{found_verdict}
-use Rattle.keys.specs.Engine.{service_text, key_from, made_if, keyed_from}
+use Rattle.keys.specs.Engine.{keyed_as, service_text, key_from, made_if, keyed_from}
 
 -- ---- the header's values of the key are surely there
 id_sure : (v : Version) → sure MsgId (profile v) ≡ true
@@ -72,7 +72,7 @@ code_text w i = go (is "CORE" w) (is "B2B" w) refl refl
         rw z (alike_same (bytes "B2B") w q)
     go false false p q e = never (cc)
 
-served_text : (ss : List (List ℕ)) (n : ℕ) → Served ss n → service_text (place_from_one (code_given LclInstrm (first_of [] ss))) ≡ first_of [] ss
+served_text : (ss : List (List ℕ)) (n : rattle.Option ℕ) → Served ss n → service_text (place_from_one (code_given LclInstrm (first_of [] ss))) ≡ first_of [] ss
 unfolding code_given
 served_text [] n h = refl
 served_text (w ∷ l) n h = ap (λ (g : Given). service_text (place_from_one g)) h.1 ∙ code_text w h.0 h.1
@@ -140,13 +140,16 @@ from_survey_with index m s e =
     none : or_short index (keyed_from m (without (denied 25 0))) (keyed m) ≡ keyed_with index m
     none = refl
 
--- ---- one match of the code each
-module _ (m : List ℕ) (s : Survey) where
-  pub no_key : (n p : ℕ) → s.finding.verdict ≡ Refused n p → record { verdict = meant s.finding.verdict; key = replicate key_length 32 } ≡ keyed_from m (surveyed_as s)
-  unfolding keyed_from
-  no_key n p f = rw f
+-- from what the code read: a refusal's, and an acceptance's
+pub keyed_unread : (m : List ℕ) (r : Refused) → keyed_as (Err r) ≡ keyed_from m (surveyed_as (Err r))
+unfolding keyed_from
+keyed_unread m r = refl
 
-  pub the_key : (n c : ℕ) → s.finding.verdict ≡ Accepted n c → (k : List ℕ) → k ≡ key_from m s.service s.starts
-      → record { verdict = meant s.finding.verdict; key = k } ≡ keyed_from m (surveyed_as s)
-  unfolding keyed_from
-  the_key n c f k g = rw (f, g)
+pub keyed_refused : (index m : List ℕ) (r : Refused) → surveyed_as (Err r) ≡ survey_with index m → keyed_as (Err r) ≡ keyed_with index m
+unfolding keyed_from
+keyed_refused index m r e = from_survey_with index m (surveyed_as (Err r)) e
+
+pub keyed_accepted : (m : List ℕ) (s : Survey) (k : List ℕ) → k ≡ key_from m (from_one s.service) s.starts
+    → keyed_as (Ok (record { accepted = s.finding.accepted; key = k })) ≡ keyed_from m (surveyed_as (Ok s))
+unfolding keyed_from
+keyed_accepted m s k e = rw e

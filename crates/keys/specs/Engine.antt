@@ -1,5 +1,7 @@
 -- What each function of the keys writes, by what the judge noted.
-use Rattle.std.specs.Prelude.{ℕ, zero, suc, List, [], get_or, replicate}
+use Rattle.std.specs.Prelude.{ℕ, zero, suc, List, [], get_or, replicate, Result, Ok, Err}
+use Rattle.answers.specs.declared.Refused.{Refused}
+use Rattle.answers.specs.Refusals.{refusal_number}
 use Rattle.text.specs.Quoted.{bytes, byte}
 use Rattle.tags.specs.Values.{value_at}
 use Rattle.profile.specs.declared.Field.{Field}
@@ -7,12 +9,13 @@ use Rattle.profile.specs.declared.Field.TheVariants.{MsgId, InstgBic, IntrBkSttl
 use Rattle.profile.specs.Fields.{field_number}
 use Rattle.reading.specs.Verdict.{Judged, accepted, refused}
 use Rattle.naming.specs.Key.{key_length, Keyed as KeyedBulk, key_with}
-use Rattle.judge.specs.Verdict.{meant}
 use Rattle.judge.specs.Survey.{Surveyed}
 use Rattle.keys.specs.declared.Keyed.{Keyed}
+use Rattle.keys.specs.Indexed.{unkeyed}
 
-abbrev pub keyed_as : Keyed → KeyedBulk
-keyed_as k = record { verdict = meant k.verdict; key = k.key }
+abbrev pub keyed_as : Result Keyed Refused → KeyedBulk
+keyed_as (Ok k) = record { verdict = accepted k.accepted.count k.accepted.cents; key = k.key }
+keyed_as (Err r) = unkeyed (refusal_number r.why) r.at
 
 -- the service, by its number: LclInstrm's place in its list, counted from 1
 abbrev pub service_text : ℕ → List ℕ

@@ -7,10 +7,10 @@ use Prim.Native.Nat.{ℕ, ◌+◌, ◌-◌, ◌*◌, ◌^◌, ◌<◌, ◌≤◌
 use native.Mathlib.Omega.{arith}
 use borrow.Author.Tests.{eqb-true, eq-eqb, ne_eqb}
 use lib.ListN.{length, take, drop, length-drop}
-use Rattle.text.specs.Truth.{either, every, first}
+use Rattle.text.specs.Truth.{either, every, between, first}
 use Rattle.text.specs.Quoted.{is, equal, byte, decimal}
 use Rattle.text.specs.Classes.{digit}
-use Rattle.text.proofs.Truths.{never, both_true, between_true, between_of, fails, passes, pass, between_under, between_over, lastly}
+use Rattle.text.proofs.Truths.{never, both_true, between_true, fails, passes, pass, lastly}
 use Rattle.text.proofs.Scan.{rest_of, paired_length}
 use Rattle.text.proofs.Digits.{digit_bounds}
 use Rattle.text.proofs.Decimal.{followed_append}
@@ -32,21 +32,20 @@ module _ (s : List ℕ) (ne : length s ≢ 0) where
   unfolding point_form
   no_point h = sym (something s ne ∙ fails _ 0 (ne_eqb (first s) (byte ".") h))
 
-  pub too_short_lem : length s < 2 → false ≡ fractional s
-  unfolding point_form
-  too_short_lem h = sym (something s ne ∙ fails _ 1 (between_under 1 2 (length (drop 1 s)) (omega (arith, length-drop 1 s))))
+  -- what `&s[1..]` holds is of one or two bytes, or not; and r is the test of its digits
+  module _ (d : first s ≡ byte ".") {v : Bool} (e : v ≡ between 1 2 (length (take (length s - 1) (drop 1 s)))) where
+    pub point_else : v ≡ false → v ≡ fractional s
+    unfolding point_form
+    point_else h =
+        let b : between 1 2 (length (drop 1 s)) ≡ false = sym (ap (λ (l : List ℕ). between 1 2 (length l)) (rest_of 1 s)) ∙ sym e ∙ h in
+        h ∙ sym (something s ne ∙ fails _ 1 b)
 
-  pub too_long_lem : 3 < length s → false ≡ fractional s
-  unfolding point_form
-  too_long_lem h = sym (something s ne ∙ fails _ 1 (between_over 1 2 (length (drop 1 s)) (omega (arith, length-drop 1 s))))
-
-  -- r is the test of what `&s[1..]` holds
-  pub point_and_digits : first s ≡ byte "." → 2 ≤ length s → length s ≤ 3 → (r : Bool) → r ≡ every digit (take (length s - 1) (drop 1 s)) → r ≡ fractional s
-  unfolding point_form
-  point_and_digits d lo hi r e =
-      let b = between_of 1 2 (length (drop 1 s)) (omega (arith, length-drop 1 s)) (omega (arith, length-drop 1 s)) in
-      let t = pass (every digit (drop 1 s)) _ _ (eq-eqb (first s) (byte ".") d) (pass _ _ _ b (lastly _ _ refl)) in
-      e ∙ ap (every digit) (rest_of 1 s) ∙ sym (something s ne ∙ t)
+    pub point_then : v ≡ true → (r : Bool) → r ≡ every digit (take (length s - 1) (drop 1 s)) → r ≡ fractional s
+    unfolding point_form
+    point_then h r g =
+        let b : between 1 2 (length (drop 1 s)) ≡ true = sym (ap (λ (l : List ℕ). between 1 2 (length l)) (rest_of 1 s)) ∙ sym e ∙ h in
+        let t = pass (every digit (drop 1 s)) _ _ (eq-eqb (first s) (byte ".") d) (pass _ _ _ b (lastly _ _ refl)) in
+        g ∙ ap (every digit) (rest_of 1 s) ∙ sym (something s ne ∙ t)
 
 -- what the form of a point and digits tells
 pub record Point (s : List ℕ) : Type 0 where

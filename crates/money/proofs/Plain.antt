@@ -1,19 +1,19 @@
 -- A number in its plain spelling: as much as before, of the form where it was, and one spelling for each number.
 use mathlib.Core.Path.{◌≡◌, refl, sym, ap, ◌∙◌}
-use mathlib.Core.Logic.{◌⊎◌, inl, inr, ◌≢◌}
+use mathlib.Core.Logic.{◌⊎◌, inl, inr}
 use mathlib.Core.Bool.{Bool, true, false}
 use mathlib.Core.List.{List, [], ◌∷◌, ◌++◌}
-use Prim.Native.Nat.{ℕ, zero, suc, ◌+◌, ◌-◌, ◌*◌, ◌≤◌, ◌<◌}
+use Prim.Native.Nat.{ℕ, zero, suc, min, ◌+◌, ◌-◌, ◌*◌, ◌≤◌, ◌<◌}
 use native.Mathlib.Omega.{arith}
-use borrow.Author.Tests.{eqb-true, ne_eqb}
-use lib.ListN.{length, take, drop, get_or, replicate, length-append, length-replicate, length-drop, length-take}
+use borrow.Author.Tests.{eqb-true}
+use lib.ListN.{length, drop, replicate, length-append, length-replicate, length-take}
 use lib.Seq.{take_at, drop_at}
 use lib.Dec.{eqb}
 use Rattle.text.specs.Truth.{either, pick, every, lead}
 use Rattle.text.specs.Quoted.{byte, is, followed_by, decimal, among}
 use Rattle.text.specs.Classes.{digit}
 use Rattle.text.proofs.Truths.{never, both_true, between_true, between_of, passes, pass, done, lt_or_ge}
-use Rattle.text.proofs.Scan.{next, lead_every, lead_before, every_take, every_drop, every_append}
+use Rattle.text.proofs.Scan.{lead_every, lead_before, every_take, every_drop, every_append}
 use Rattle.text.proofs.Digits.{digit_bounds}
 use Rattle.money.specs.Count.{count_form, count_given}
 use Rattle.money.specs.Amount.{euros, behind_euros, as_two_digits, point_form, amount_form, cents, amount_given}
@@ -55,24 +55,22 @@ zeros_twice (c ∷ d ∷ s) = go (eqb c (byte "0")) refl (zeros_twice (d ∷ s))
     go true e h = h
     go false e h = rw e
 
--- ---- how the loop counts them
-module _ (s : List ℕ) (i : ℕ) where
-  two-more : i + 1 < length s → drop i s ≡ get_or s i 0 ∷ get_or s (i + 1) 0 ∷ drop (i + 1 + 1) s
-  two-more h = rw (next s i (omega arith), next s (i + 1) h)
+-- ---- told by how many zeros lead: all of them are needless but a last digit
+abbrev pub zero_byte : ℕ → Bool
+zero_byte c = eqb c 48
 
-  pub zeros_turn : i + 1 < length s → get_or s i 0 ≡ byte "0" → without_zeros (drop i s) ≡ without_zeros (drop (i + 1) s)
-  zeros_turn h e = rw (two-more h, next s (i + 1) h, e)
-
-  pub zeros_stop : i + 1 < length s → get_or s i 0 ≢ byte "0" → without_zeros (drop i s) ≡ drop i s
-  zeros_stop h ne = rw (two-more h, ne_eqb (get_or s i 0) (byte "0") ne)
-
-  pub zeros_end : length s ≤ i + 1 → without_zeros (drop i s) ≡ drop i s
-  zeros_end h = go (drop i s) (omega (arith, length-drop i s))
-    where
-      go : (t : List ℕ) → length t ≤ 1 → without_zeros t ≡ t
-      go [] g = refl
-      go (c ∷ []) g = refl
-      go (c ∷ d ∷ t) g = never (omega arith)
+pub zeros_lead : (s : List ℕ) → without_zeros s ≡ drop (min (lead zero_byte s) (length s - 1)) s
+zeros_lead [] = let z : min 0 (length {A = ℕ} [] - 1) ≡ 0 = omega arith in ap (λ (k : ℕ). drop {A = ℕ} k []) (sym z)
+zeros_lead (c ∷ []) = let z : min (lead zero_byte (c ∷ [])) (1 - 1) ≡ 0 = omega arith in ap (λ (k : ℕ). drop k (c ∷ [])) (sym z)
+zeros_lead (c ∷ d ∷ s) = go (eqb c 48) (zeros_lead (d ∷ s))
+  where
+    go : (b : Bool) → without_zeros (d ∷ s) ≡ drop (min (lead zero_byte (d ∷ s)) (length (d ∷ s) - 1)) (d ∷ s)
+        → pick b (without_zeros (d ∷ s)) (c ∷ d ∷ s) ≡ drop (min (pick b (suc (lead zero_byte (d ∷ s))) 0) (length (c ∷ d ∷ s) - 1)) (c ∷ d ∷ s)
+    go true h =
+        let k = min (lead zero_byte (d ∷ s)) (length (d ∷ s) - 1) in
+        let z : min (suc (lead zero_byte (d ∷ s))) (length (c ∷ d ∷ s) - 1) ≡ suc k = omega arith in
+        rw z h
+    go false h = let z : min 0 (length (c ∷ d ∷ s) - 1) ≡ 0 = omega arith in ap (λ (k : ℕ). drop k (c ∷ d ∷ s)) (sym z)
 
 -- ---- one spelling for each number
 -- as many digits that write one number are the same digits

@@ -1,2 +1,4 @@
 pub mod Own
 pub mod Parts
+pub mod Written
+pub mod Filled

@@ -10,8 +10,7 @@ use Rattle.text.proofs.Truths.{never}
 use Rattle.codes.specs.declared.Element.TheVariants.{LclInstrm}
 use Rattle.profile.specs.declared.Kind.{Kind}
 use Rattle.profile.specs.declared.Kind.TheVariants.{Code}
-use Rattle.profile.specs.declared.Simple.{Simple}
-use Rattle.profile.specs.declared.Simple.TheVariants.{Reference, Date, Bic, Bicfi}
+use Rattle.profile.specs.declared.Simple.TheVariants.{Reference, Date}
 use Rattle.profile.specs.declared.Field.{Field}
 use Rattle.profile.specs.declared.Field.TheVariants.{MsgId, InstgBic, IntrBkSttlmDt, TxId}
 use Rattle.profile.specs.Kinds.{same_kind}
@@ -20,15 +19,14 @@ use Rattle.profile.specs.declared.Version.TheVariants.{V02, V08}
 use Rattle.profile.specs.Profile.{is_type, profile}
 use Rattle.kinds.specs.Given.{kind_given}
 use Rattle.reading.specs.Trace.{What, Entry, trace, message}
-use Rattle.reading.specs.Noted.{Ended, on, noted}
+use Rattle.reading.specs.Noted.{Ended}
 use Rattle.reading.specs.Verdict.{accepted}
 use Rattle.reading.specs.Rules.{items_in, values_of, values_at, first_of}
-use Rattle.reading.specs.Judged.{whats, last_of, listed, judged}
+use Rattle.reading.specs.Judged.{whats, last_of, judged}
 use Rattle.reading.specs.Items.{notes_of}
 use Rattle.reading.proofs.Flat.{flat, goes_flat, goes_whole}
-use Rattle.documents.specs.Document.{Doc, Proper, Each}
+use Rattle.documents.specs.Document.{Proper, Each}
 use Rattle.documents.specs.Said.{said}
-use Rattle.documents.specs.Message.{Message, whole, Lawful}
 use Rattle.documents.specs.Holds.{Passes, Alike, TypeStands, in_header, in_items, Holds}
 use Rattle.documents.proofs.Often.{fixed, times, even, balance, as_often, any_item, a_field, a_stranger, weight_items, weight_kind, weight_field}
 use Rattle.documents.proofs.Typed.{InType, once_above, once_each}
@@ -43,7 +41,7 @@ use Rattle.items.proofs.Accepted.{accepted_chained}
 use Rattle.padding.proofs.Padded.{padded_one, first_field}
 use Rattle.padding.proofs.Legal.{Written, each_legal, each_of, service_fits, a_plain, Fits, plain_fits, a_bic, bic_fits}
 use Rattle.naming.specs.Key.{key_with, service_of, key_of, read_in, keyed}
-use Rattle.naming.specs.Own.{Four, key_for, Names, Named}
+use Rattle.naming.specs.Own.{Four, key_for, Named}
 
 -- ---- each stands once in the header, and is of its kind
 pub id_once : (v : Version) → OnceAt MsgId (profile v)

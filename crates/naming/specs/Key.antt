@@ -4,7 +4,7 @@ use Rattle.text.specs.Quoted.{byte}
 use Rattle.codes.specs.declared.Element as code
 use Rattle.profile.specs.declared.Kind.TheVariants.{Code}
 use Rattle.profile.specs.declared.Field.TheVariants.{MsgId, InstgBic, IntrBkSttlmDt}
-use Rattle.reading.specs.Trace.{What, Entry, message}
+use Rattle.reading.specs.Trace.{What, message}
 use Rattle.reading.specs.Noted.{noted}
 use Rattle.reading.specs.Verdict.{Judged, accepted, refused}
 use Rattle.reading.specs.Rules.{values_of, first_of}

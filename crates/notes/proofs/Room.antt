@@ -2,10 +2,10 @@
 use mathlib.Core.Path.{◌≡◌, refl}
 use mathlib.Core.Bool.{Bool, true, false}
 use mathlib.Core.List.{List, [], ◌∷◌}
-use Prim.Native.Nat.{ℕ, suc, ◌+◌, ◌*◌, ◌≤◌}
+use Prim.Native.Nat.{ℕ, ◌+◌, ◌*◌, ◌≤◌}
 use native.Mathlib.Omega.{arith}
-use lib.Dec.{ltb, eqb}
-use Rattle.text.specs.Truth.{either, pick, between}
+use lib.Dec.{ltb}
+use Rattle.text.specs.Truth.{pick, between}
 use Rattle.text.proofs.Truths.{between_true}
 use Rattle.answers.specs.Given.{Given, yes, worth, refused, ◌else◌, in_order}
 use Rattle.codes.specs.declared.Element.{Element}
@@ -24,8 +24,8 @@ use Rattle.reading.specs.Rules.{begun}
 use Rattle.items.specs.Sums.{most_sum, of_amount, an_amount}
 use Rattle.items.proofs.Room.{paid}
 use Rattle.notes.specs.declared.Notes.{Notes}
-use Rattle.notes.specs.Notes.{with_item, type_number, with_type, with_cents, with_service, with_start}
-use Rattle.notes.specs.Notes.{service_kept, coded, kept, on_given, value_noted, added_up, item_noted, type_refusal, type_noted, what_noted, in_notes}
+use Rattle.notes.specs.Notes.{with_item, with_type, with_cents, with_service, with_start}
+use Rattle.notes.specs.Notes.{may_follow, service_kept, coded, kept, on_given, value_noted, added_up, item_noted, type_refusal, unsaid, said_by, type_noted, what_noted, in_notes}
 use Rattle.notes.specs.Steps.{Room}
 
 module _ (n : Notes) where
@@ -49,12 +49,11 @@ module _ (n : Notes) where
     type-adds : (b c : Bool) → Adds 0 0 (pick c (type_noted b p n) (on n))
     unfolding type_noted
     type-adds b false = nothing 0 n refl refl
-    type-adds b true = go (eqb n.typed 0) (eqb n.typed (type_number b))
+    type-adds b true = go (unsaid n.typed b)
       where
-        go : (x y : Bool) → Adds 0 0 (pick x (on (with_type (type_number b) n)) (pick y (stop (type_refusal b) p) (on n)))
-        go true y = nothing 0 (with_type (type_number b) n) refl refl
-        go false true = tt
-        go false false = nothing 0 n refl refl
+        go : (x : Bool) → Adds 0 0 (pick x (on (with_type (said_by n.typed b) n)) (stop (type_refusal b) p))
+        go true = nothing 0 (with_type (said_by n.typed b) n) refl refl
+        go false = tt
 
     -- ---- a value: an amount that passed is in its range
     module _ (f : Field) (v : List ℕ) where
@@ -78,10 +77,10 @@ module _ (n : Notes) where
       code-adds SeqTp a c = nothing a n refl refl
       code-adds ChrgBr a c = nothing a n refl refl
       code-adds Prtry a c = nothing a n refl refl
-      code-adds LclInstrm a c = go (either (eqb n.service 0) (eqb n.service (suc c)))
+      code-adds LclInstrm a c = go (may_follow n.service c)
         where
-          go : (b : Bool) → Adds a 0 (pick b (on (with_service (suc c) n)) (stop 11 p))
-          go true = nothing a (with_service (suc c) n) refl refl
+          go : (b : Bool) → Adds a 0 (pick b (on (with_service c n)) (stop 11 p))
+          go true = nothing a (with_service c n) refl refl
           go false = tt
 
       pub value_adds : (k : Kind) → Adds (of_amount k) 0 (onward (value_noted k f v p n) (λ u. on (added_up k u)))

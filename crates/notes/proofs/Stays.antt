@@ -2,12 +2,12 @@
 use mathlib.Core.Path.{◌≡◌, refl}
 use mathlib.Core.Bool.{Bool, true, false}
 use mathlib.Core.List.{List}
-use Prim.Native.Nat.{ℕ, suc, ◌≤◌}
+use Prim.Native.Nat.{ℕ, ◌≤◌}
 use native.Mathlib.Omega.{arith}
 use borrow.Author.Tests.{ltb-true}
-use lib.Dec.{ltb, eqb}
+use lib.Dec.{ltb}
 use lib.ListN.{length}
-use Rattle.text.specs.Truth.{either, pick}
+use Rattle.text.specs.Truth.{pick}
 use Rattle.answers.specs.Given.{Given, yes, worth, refused}
 use Rattle.codes.specs.declared.Element.{Element}
 use Rattle.codes.specs.declared.Element.TheVariants.{SttlmMtd, SvcLvl, LclInstrm, SeqTp, ChrgBr, Prtry}
@@ -18,7 +18,7 @@ use Rattle.profile.specs.Limits.{most_items}
 use Rattle.kinds.specs.Given.{kind_given}
 use Rattle.reading.specs.Noted.{Reading, on, stop, onward, Ended}
 use Rattle.notes.specs.declared.Notes.{Notes}
-use Rattle.notes.specs.Notes.{on_given, with_item, type_number, with_type, with_service, with_start, service_kept, coded, kept, value_noted, added_up, item_noted, type_refusal, type_noted}
+use Rattle.notes.specs.Notes.{on_given, with_item, with_type, with_service, with_start, may_follow, service_kept, coded, kept, value_noted, added_up, item_noted, type_refusal, unsaid, said_by, type_noted}
 use Rattle.notes.specs.Steps.{staying, Good, Fine}
 use Rattle.notes.proofs.Notings.{here}
 
@@ -48,10 +48,10 @@ module _ (m : List ℕ) (p : ℕ) (n : Notes) (g : Good m (here p n)) where
 
   service-stays : (i : ℕ) → Stays (service_kept i p n)
   unfolding service_kept
-  service-stays i = go (either (eqb n.service 0) (eqb n.service (suc i)))
+  service-stays i = go (may_follow n.service i)
     where
-      go : (b : Bool) → Stays (pick b (on (with_service (suc i) n)) (stop 11 p))
-      go true = stays (with_service (suc i) n) refl
+      go : (b : Bool) → Stays (pick b (on (with_service i n)) (stop 11 p))
+      go true = stays (with_service i n) refl
       go false = g.within
 
   coded-stays : (e : Element) (i : ℕ) → Stays (coded e i p n)
@@ -92,9 +92,8 @@ module _ (m : List ℕ) (p : ℕ) (n : Notes) (g : Good m (here p n)) where
 
   pub type_fine : (b : Bool) → Stays (type_noted b p n)
   unfolding type_noted
-  type_fine b = go (eqb n.typed 0) (eqb n.typed (type_number b))
+  type_fine b = go (unsaid n.typed b)
     where
-      go : (x y : Bool) → Stays (pick x (on (with_type (type_number b) n)) (pick y (stop (type_refusal b) p) (on n)))
-      go true y = stays (with_type (type_number b) n) refl
-      go false true = g.within
-      go false false = stays n refl
+      go : (x : Bool) → Stays (pick x (on (with_type (said_by n.typed b) n)) (stop (type_refusal b) p))
+      go true = stays (with_type (said_by n.typed b) n) refl
+      go false = g.within

@@ -8,12 +8,12 @@ use native.Mathlib.Nat.{zero-add}
 use native.Mathlib.Omega.{arith}
 use borrow.Author.Tests.{eqb-true, eqb-false, ne_eqb}
 use lib.Dec.{eqb, ltb}
-use lib.ListN.{length, get_or, set, replicate, length-set}
+use lib.ListN.{length, get_or, replicate, length-set}
 use lib.Seq.{get_or-set_same, get_or-set_other}
-use Rattle.text.specs.Truth.{either, pick, between}
+use Rattle.std.specs.Prelude.{Option, None, Some}
+use Rattle.text.specs.Truth.{pick, between}
 use Rattle.text.specs.Quoted.{bytes, alike, is, decimal}
 use Rattle.answers.specs.Given.{Given, yes, worth, refused as no, ◌else◌, in_order}
-use Rattle.codes.specs.declared.Element.{Element}
 use Rattle.codes.specs.declared.Element.TheVariants.{SttlmMtd, SvcLvl, LclInstrm, SeqTp, ChrgBr, Prtry}
 use Rattle.codes.specs.Listed.{or_else, code_given}
 use Rattle.money.specs.declared.Range.TheVariants.{Item as an_item, Total as the_total}
@@ -28,11 +28,11 @@ use Rattle.profile.specs.Listed.{many_fields}
 use Rattle.profile.specs.Kinds.{same_kind}
 use Rattle.profile.specs.Profile.{is_type}
 use Rattle.profile.proofs.Fields.{number_below}
-use Rattle.kinds.specs.Given.{simple_given, kind_given}
+use Rattle.kinds.specs.Given.{simple_given}
 use Rattle.reading.specs.Trace.{What, item_begins, item_ends, there, absent, value, Entry, ◌at◌}
-use Rattle.reading.specs.Noted.{Reading, on, stop, onward}
+use Rattle.reading.specs.Noted.{on, stop, onward}
 use Rattle.reading.specs.Rules.{begun as one, items_in, of_kind, values_of, of_field, sum_of, cents_in, of_type, types_in, first_of, ◌so◌, unlike_first, fitting}
-use Rattle.reading.specs.Judged.{whats, or_refused, last_of, only_of, place_in, place_from, place_of}
+use Rattle.reading.specs.Judged.{whats, or_refused, last_of, only_of, place_in, place_of}
 use Rattle.reading.proofs.Lists.{whats_append, items_append, values_append, types_append, sum_append, place_append, last_more, alike_itself, alike_same}
 use Rattle.reading.proofs.Flat.{never}
 use Rattle.reading.proofs.More.{lenient}
@@ -40,16 +40,16 @@ use Rattle.reading.proofs.Simulates.{Alike, going, stopped, Keeps}
 use Rattle.items.specs.Alone.{begin_or, first_in}
 use Rattle.items.specs.Places.{field_from, field_place}
 use Rattle.notes.specs.declared.Notes.{Notes}
-use Rattle.notes.specs.Notes.{fresh, with_item, with_number, with_total, type_number, with_type, with_cents, with_service, started, with_start}
-use Rattle.notes.specs.Notes.{added_up, service_kept, on_given, value_noted, item_noted, type_refusal, type_noted, in_notes}
+use Rattle.notes.specs.Notes.{fresh, with_item, with_number, with_total, with_type, with_cents, with_service, started, with_start}
+use Rattle.notes.specs.Notes.{added_up, may_follow, service_kept, on_given, value_noted, item_noted, type_refusal, unsaid, said_by, type_noted, in_notes}
 
 -- ---- two codes that are listed are the same bytes where they stand at the same place
-code_same : (w v : List ℕ) (j i : ℕ) → code_given LclInstrm w ≡ worth j → code_given LclInstrm v ≡ worth i → alike w v ≡ eqb (suc j) (suc i)
+code_same : (w v : List ℕ) (j i : ℕ) → code_given LclInstrm w ≡ worth j → code_given LclInstrm v ≡ worth i → alike w v ≡ eqb j i
 unfolding code_given
 code_same w v j i = first (is "CORE" w) (is "B2B" w) refl refl
   where
     then : (t : List ℕ) (n : ℕ) (b c : Bool) → is "CORE" v ≡ b → is "B2B" v ≡ c → or_else b 0 (or_else c 1 (no 10)) ≡ worth i
-        → alike t (bytes "CORE") ≡ eqb (suc n) 1 → (is "CORE" v ≡ false → is "B2B" v ≡ true → alike t v ≡ eqb (suc n) 2) → alike t v ≡ eqb (suc n) (suc i)
+        → alike t (bytes "CORE") ≡ eqb n 0 → (is "CORE" v ≡ false → is "B2B" v ≡ true → alike t v ≡ eqb n 1) → alike t v ≡ eqb n i
     then t n true c p q e h g =
         let z : i ≡ 0 = cc in
         rw (z, ← alike_same (bytes "CORE") v p) h
@@ -59,7 +59,7 @@ code_same w v j i = first (is "CORE" w) (is "B2B" w) refl refl
     then t n false false p q e h g = never (cc)
 
     first : (b c : Bool) → is "CORE" w ≡ b → is "B2B" w ≡ c → or_else b 0 (or_else c 1 (no 10)) ≡ worth j
-        → or_else (is "CORE" v) 0 (or_else (is "B2B" v) 1 (no 10)) ≡ worth i → alike w v ≡ eqb (suc j) (suc i)
+        → or_else (is "CORE" v) 0 (or_else (is "B2B" v) 1 (no 10)) ≡ worth i → alike w v ≡ eqb j i
     first true c p q e d =
         let z : j ≡ 0 = cc in
         rw (z, ← alike_same (bytes "CORE") w p) (then (bytes "CORE") 0 (is "CORE" v) (is "B2B" v) refl refl d refl (λ x y. x))
@@ -78,19 +78,16 @@ code_no v = go (is "CORE" v) (is "B2B" v)
     go false true e = cc
     go false false e = cc
 
-positive : (n : ℕ) → eqb (suc n) 0 ≡ false
-positive n = ne_eqb (suc n) 0 (λ e. omega arith)
-
 -- ---- what the notes hold
--- no service yet; or the first one's, by its place in its list counted from 1
-abbrev pub Served : List (List ℕ) → ℕ → Type 0
-Served [] n = n ≡ 0
-Served (w ∷ l) n = (i : ℕ) × (code_given LclInstrm w ≡ worth i) × (n ≡ suc i)
+-- no service yet; or the first one's, by its place in its list
+abbrev pub Served : List (List ℕ) → Option ℕ → Type 0
+Served [] n = n ≡ None
+Served (w ∷ l) n = (i : ℕ) × (code_given LclInstrm w ≡ worth i) × (n ≡ Some i)
 
--- what is said first of the payment type, as a number
-abbrev pub typed_by : List Bool → ℕ
-typed_by [] = 0
-typed_by (b ∷ l) = type_number b
+-- what is said first of the payment type
+abbrev pub typed_by : List Bool → Option Bool
+typed_by [] = None
+typed_by (b ∷ l) = Some b
 
 abbrev lcl_instrm : Kind
 lcl_instrm = Code LclInstrm
@@ -221,9 +218,9 @@ module _ (es : List Entry) (n : Notes) (r : Summed es n) where
       go true = going told
       go false = stopped
 
-  -- an entry that says nothing but of the payment type, by its number
+  -- an entry that says nothing but of the payment type
   mark-keeps : (e : Entry) → one e.what ≡ 0 → ((k : Kind) → of_kind k e.what ≡ []) → ((f : Field) → of_field f e.what ≡ [])
-      → (i : ℕ) → i ≡ typed_by (types_in (whats es) ++ of_type e.what) → Summed (es ++ (e ∷ [])) (with_type i n)
+      → (i : Option Bool) → i ≡ typed_by (types_in (whats es) ++ of_type e.what) → Summed (es ++ (e ∷ [])) (with_type i n)
   mark-keeps e z v w i t =
       record {
         count = omega (arith, items_more es e, r.count);
@@ -256,27 +253,27 @@ module _ (es : List Entry) (n : Notes) (r : Summed es n) where
     saying true = there s at p
     saying false = absent s at p
 
-    said-keeps : (b c : Bool) → is_type s ≡ c → (i : ℕ) → i ≡ typed_by (types_in (whats es) ++ pick c (b ∷ []) []) → Summed (es ++ (saying b ∷ [])) (with_type i n)
+    said-keeps : (b c : Bool) → is_type s ≡ c → (i : Option Bool) → i ≡ typed_by (types_in (whats es) ++ pick c (b ∷ []) []) → Summed (es ++ (saying b ∷ [])) (with_type i n)
     said-keeps true c h i t = mark-keeps (there s at p) refl (λ k. refl) (λ f. refl) i (rw h t)
     said-keeps false c h i t = mark-keeps (absent s at p) refl (λ k. refl) (λ f. refl) i (rw h t)
 
-    abbrev Says : Bool → Bool → List Bool → ℕ → Type 0
+    abbrev Says : Bool → Bool → List Bool → Option Bool → Type 0
     Says b c ts i =
         Alike Summed (or_refused (in_order ((c so unlike_first b ts) else type_refusal b ∷ []) yes) p (es ++ (saying b ∷ [])))
-        (pick c (pick (eqb i 0) (on (with_type (type_number b) n)) (pick (eqb i (type_number b)) (stop (type_refusal b) p) (on n))) (on n))
+        (pick c (pick (unsaid i b) (on (with_type (said_by i b) n)) (stop (type_refusal b) p)) (on n))
 
     type_keeps : (b : Bool) → Says b (is_type s) (types_in (whats es)) n.typed
     type_keeps b = go (is_type s) refl
       where
         first : is_type s ≡ true → (ts : List Bool) → types_in (whats es) ≡ ts → (b : Bool) → Says b true ts (typed_by ts)
-        first h [] e b = going (said-keeps b true h (type_number b) (rw e))
+        first h [] e b = going (said-keeps b true h (Some b) (rw e))
         first h (true ∷ l) e true = stopped
-        first h (true ∷ l) e false = going (said-keeps false true h n.typed (r.typed ∙ rw e))
-        first h (false ∷ l) e true = going (said-keeps true true h n.typed (r.typed ∙ rw e))
+        first h (true ∷ l) e false = going (said-keeps false true h (Some true) (rw e))
+        first h (false ∷ l) e true = going (said-keeps true true h (Some false) (rw e))
         first h (false ∷ l) e false = stopped
 
         go : (c : Bool) → is_type s ≡ c → Says b c (types_in (whats es)) n.typed
-        go true h = subst (λ (i : ℕ). Says b true (types_in (whats es)) i) (sym r.typed) (first h (types_in (whats es)) refl b)
+        go true h = subst (λ (i : Option Bool). Says b true (types_in (whats es)) i) (sym r.typed) (first h (types_in (whats es)) refl b)
         go false h = going (said-keeps b false h n.typed still-typed)
 
   -- a value more, which its kind and then the rules let pass
@@ -405,19 +402,19 @@ module _ (es : List Entry) (n : Notes) (r : Summed es n) where
         ss : List (List ℕ)
         ss = values_of lcl_instrm (whats es)
 
-        asked : (ss : List (List ℕ)) (c i : ℕ) → Served ss c → code_given LclInstrm v ≡ worth i → either (eqb c 0) (eqb c (suc i)) ≡ alike (first_of v ss) v
+        asked : (ss : List (List ℕ)) (c : Option ℕ) (i : ℕ) → Served ss c → code_given LclInstrm v ≡ worth i → may_follow c i ≡ alike (first_of v ss) v
         asked [] c i h e = rw h (sym (alike_itself v))
-        asked (w ∷ l) c i h e = rw (h.2, positive h.0) (sym (code_same w v h.0 i h.1 e))
+        asked (w ∷ l) c i h e = rw h.2 (sym (code_same w v h.0 i h.1 e))
 
-        still : (ss : List (List ℕ)) (c i : ℕ) → Served ss c → code_given LclInstrm v ≡ worth i → either (eqb c 0) (eqb c (suc i)) ≡ true → Served (ss ++ (v ∷ [])) (suc i)
+        still : (ss : List (List ℕ)) (c : Option ℕ) (i : ℕ) → Served ss c → code_given LclInstrm v ≡ worth i → may_follow c i ≡ true → Served (ss ++ (v ∷ [])) (Some i)
         still [] c i h e z = (i, e, refl)
-        still (w ∷ l) c i h e z = (h.0, h.1, sym (eqb-true (suc h.0) (suc i) (rw (h.2, positive h.0) at z)))
+        still (w ∷ l) c i h e z = (h.0, h.1, ap Some (sym (eqb-true h.0 i (rw h.2 at z))))
 
-        serving : (i : ℕ) → code_given LclInstrm v ≡ worth i → (b : Bool) → either (eqb n.service 0) (eqb n.service (suc i)) ≡ b
+        serving : (i : ℕ) → code_given LclInstrm v ≡ worth i → (b : Bool) → may_follow n.service i ≡ b
             → Alike Summed (or_refused (in_order (b else 11 ∷ []) yes) p (es ++ (entry lcl_instrm ∷ [])))
-            (onward (onward (pick b (on (with_service (suc i) n)) (stop 11 p)) (λ u. on (with_start f p u))) on)
+            (onward (onward (pick b (on (with_service i n)) (stop 11 p)) (λ u. on (with_start f p u))) on)
         serving i e true z =
-            going (kept-summed lcl_instrm (with_service (suc i) n) refl refl refl refl
+            going (kept-summed lcl_instrm (with_service i n) refl refl refl refl
             (rw (none (values_of Amount (whats es))) r.cents) (rw (none (values_of Amount (whats es))) r.sum)
             (rw (none (values_of Count (whats es))) r.number) r.numberat
             (rw (none (values_of Total (whats es))) r.total) r.totalat
@@ -426,9 +423,9 @@ module _ (es : List Entry) (n : Notes) (r : Summed es n) where
 
         go : (g : Given) → code_given LclInstrm v ≡ g
             → Alike Summed (or_refused (fitting g (in_order (alike (first_of v ss) v else 11 ∷ []) yes)) p (es ++ (entry lcl_instrm ∷ [])))
-            (onward (on_given g p (λ i. onward (pick (either (eqb n.service 0) (eqb n.service (suc i))) (on (with_service (suc i) n)) (stop 11 p)) (λ u. on (with_start f p u)))) on)
+            (onward (on_given g p (λ i. onward (pick (may_follow n.service i) (on (with_service i n)) (stop 11 p)) (λ u. on (with_start f p u)))) on)
         go yes e = never (code_no v e)
-        go (worth i) e = rw (← asked ss n.service i r.service e) (serving i e (either (eqb n.service 0) (eqb n.service (suc i))) refl)
+        go (worth i) e = rw (← asked ss n.service i r.service e) (serving i e (may_follow n.service i) refl)
         go (no i) e = stopped
 
     value_keeps : (k : Kind) → Keeping k

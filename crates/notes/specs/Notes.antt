@@ -1,6 +1,6 @@
 -- The code's own way of noting what a message holds: a few sums, and where the last value of each field begins. That it says no more and no less than the list is proofs/Sums.antt.
-use Rattle.std.specs.Prelude.{ℕ, suc, ◌+◌, ◌≤◌, Bool, true, false, List, set, replicate, eqb, ltb}
-use Rattle.text.specs.Truth.{either, pick}
+use Rattle.std.specs.Prelude.{ℕ, ◌+◌, Bool, true, false, not, Option, None, Some, List, set, replicate, eqb, ltb}
+use Rattle.text.specs.Truth.{pick}
 use Rattle.answers.specs.Given.{Given, yes, worth, refused}
 use Rattle.codes.specs.declared.Element.{Element}
 use Rattle.codes.specs.declared.Element.TheVariants.{SttlmMtd, SvcLvl, LclInstrm, SeqTp, ChrgBr, Prtry}
@@ -27,8 +27,8 @@ fresh = record {
   numberat = 0;
   total = 0;
   totalat = 0;
-  typed = 0;
-  service = 0;
+  typed = None;
+  service = None;
   starts = replicate many_fields 0;
 }
 
@@ -111,12 +111,8 @@ with_sum s n = record {
   starts = n.starts;
 }
 
--- what is said of the payment type first: 1 that it is there, 2 that it is absent
-abbrev pub type_number : Bool → ℕ
-type_number true = 1
-type_number false = 2
-
-abbrev pub with_type : ℕ → Notes → Notes
+-- what is said of the payment type first: whether it is there
+abbrev pub with_type : Option Bool → Notes → Notes
 with_type i n = record {
   count = n.count;
   first = n.first;
@@ -131,7 +127,7 @@ with_type i n = record {
   starts = n.starts;
 }
 
--- the service: LclInstrm's place in its list, counted from 1
+-- the service: LclInstrm's place in its list
 abbrev pub with_service : ℕ → Notes → Notes
 with_service i n = record {
   count = n.count;
@@ -143,7 +139,7 @@ with_service i n = record {
   total = n.total;
   totalat = n.totalat;
   typed = n.typed;
-  service = i;
+  service = Some i;
   starts = n.starts;
 }
 
@@ -167,8 +163,13 @@ with_start f p n = record {
 }
 
 -- ---- what is noted of a value that passed its kind's checker with this worth, at this place
+-- LclInstrm is the first one's, or the first
+abbrev pub may_follow : Option ℕ → ℕ → Bool
+may_follow None i = true
+may_follow (Some j) i = eqb j i
+
 unfoldable pub service_kept : ℕ → ℕ → Notes → Reading Notes
-service_kept i p n = pick (either (eqb n.service 0) (eqb n.service (suc i))) (on (with_service (suc i) n)) (stop 11 p)
+service_kept i p n = pick (may_follow n.service i) (on (with_service i n)) (stop 11 p)
 
 abbrev pub coded : Element → ℕ → ℕ → Notes → Reading Notes
 coded LclInstrm i p n = service_kept i p n
@@ -184,14 +185,6 @@ kept Count c p n = on (with_number c p n)
 kept Total c p n = on (with_total c p n)
 kept Amount c p n = on (with_cents c n)
 kept (Code e) c p n = coded e c p n
-
--- a code's worth is its place in a list of at most four
-abbrev pub Listed : Kind → ℕ → Type 0
-Listed (Plain s) c = Unit {0}
-Listed Count c = Unit {0}
-Listed Total c = Unit {0}
-Listed Amount c = Unit {0}
-Listed (Code e) c = c ≤ 4
 
 -- a refusal at the value's place, or on with its worth
 abbrev pub on_given : {S : Type 0} → Given → ℕ → (ℕ → Reading S) → Reading S
@@ -218,11 +211,19 @@ abbrev pub type_refusal : Bool → ℕ
 type_refusal true = 23
 type_refusal false = 4
 
+-- of the payment type the same is not said twice
+abbrev pub unsaid : Option Bool → Bool → Bool
+unsaid None b = true
+unsaid (Some true) b = not b
+unsaid (Some false) b = b
+
+-- what is said first is kept
+abbrev pub said_by : Option Bool → Bool → Option Bool
+said_by None b = Some b
+said_by (Some c) b = Some c
+
 unfoldable pub type_noted : Bool → ℕ → Notes → Reading Notes
-type_noted b p n =
-    pick (eqb n.typed 0)
-    (on (with_type (type_number b) n))
-    (pick (eqb n.typed (type_number b)) (stop (type_refusal b) p) (on n))
+type_noted b p n = pick (unsaid n.typed b) (on (with_type (said_by n.typed b) n)) (stop (type_refusal b) p)
 
 abbrev pub what_noted : What → ℕ → Notes → Reading Notes
 what_noted item_begins p n = item_noted p n

@@ -1,5 +1,8 @@
 -- What a step of the code means, and the bounds that it keeps.
 use Rattle.std.specs.Prelude.{ℕ, ◌+◌, ◌*◌, ◌≤◌, List, length}
+use Rattle.std.specs.Prelude.{Result, Ok, Err}
+use Rattle.answers.specs.declared.Refused.{Refused}
+use Rattle.answers.specs.Refusals.{refusal_number}
 use Rattle.money.specs.declared.Range.TheVariants.{Item as an_item}
 use Rattle.money.specs.Amount.{most}
 use Rattle.profile.specs.Limits.{most_bytes, most_items}
@@ -7,20 +10,15 @@ use Rattle.reading.specs.Trace.{Trace}
 use Rattle.reading.specs.Noted.{Reading, on, stop, onward, Ended, noted}
 use Rattle.notes.specs.declared.Notes.{Notes}
 use Rattle.notes.specs.declared.State.{State}
-use Rattle.notes.specs.declared.Met.{Met}
-use Rattle.notes.specs.declared.Met.TheVariants.{On, Stopped}
-use Rattle.notes.specs.declared.Step.{Step}
 use Rattle.notes.specs.Notes.{in_notes}
 
 abbrev pub stated : State → Ended Notes
 stated st = record { at = st.at; notes = st.notes }
 
-abbrev pub met_in : Met → State → Reading (Ended Notes)
-met_in On st = on (stated st)
-met_in (Stopped n p) st = stop n p
-
-abbrev pub stepped : Step → Reading (Ended Notes)
-stepped s = met_in s.met s.state
+-- a step that is taken goes on; a refusal ends the reading, with this paper's number and its place
+abbrev pub stepped : Result State Refused → Reading (Ended Notes)
+stepped (Ok st) = on (stated st)
+stepped (Err r) = stop (refusal_number r.why) r.at
 
 -- the notes of one entry, at a place
 abbrev pub staying : ℕ → Reading Notes → Reading (Ended Notes)

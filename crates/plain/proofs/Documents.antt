@@ -2,18 +2,18 @@
 use mathlib.Core.Path.{◌≡◌, refl, sym, ap, ◌∙◌}
 use mathlib.Core.Bool.{Bool, true, false, not}
 use mathlib.Core.List.{List, [], ◌∷◌, ◌++◌, append-nil, append_assoc}
-use Prim.Native.Nat.{ℕ, zero, suc, ◌+◌, ◌≤◌, ◌<◌}
+use Prim.Native.Nat.{ℕ, zero, suc}
 use Prim.Native.String.{String}
 use native.Mathlib.Omega.{arith}
 use borrow.Author.Tests.{eqb-true}
 use lib.Dec.{eqb}
-use lib.ListN.{length, take, drop, length-append}
+use lib.ListN.{length, take, length-append}
 use lib.Seq.{take_at, drop_at}
 use Rattle.text.specs.Truth.{both, pick, every, lead}
 use Rattle.text.specs.Quoted.{bytes, byte}
 use Rattle.text.proofs.Truths.{never, both_true}
 use Rattle.text.proofs.Scan.{lead_before, every_append, every_also}
-use Rattle.tags.specs.Tags.{white, end_tag, plain_tag, amount_tag, declaration, starts_question}
+use Rattle.tags.specs.Tags.{white, end_tag, plain_tag, amount_tag, declaration}
 use Rattle.tags.specs.Values.{in_value}
 use Rattle.profile.specs.declared.Kind.{Kind}
 use Rattle.profile.specs.declared.Kind.TheVariants.{Plain, Count, Total, Amount, Code}
@@ -27,13 +27,13 @@ use Rattle.profile.specs.declared.Simple.TheVariants.{Reference, EndToEnd, Text7
 use Rattle.profile.specs.Profile.{words_tag, profile}
 use Rattle.kinds.specs.Meant.{simply_meant, as_meant}
 use Rattle.documents.specs.Document.{Led, Doc, opening, led_text, texts, text, Often, Each, White, Tagless, LedBy, Proper}
-use Rattle.documents.specs.Message.{Message, head, whole, Lawful}
+use Rattle.documents.specs.Message.{Message, whole, Lawful}
 use Rattle.documents.proofs.Texts.{Starts, opening_starts, plain_starts, end_starts, white_bracket}
 use Rattle.documents.proofs.Messages.{root_starts, no_question, question}
 use Rattle.forms.specs.Plain.{bare, plain, plain_message}
 use Rattle.plain.specs.declared.Spelling.{Spelling}
 use Rattle.plain.specs.declared.Spelling.TheVariants.{Nothing, AsRead, Collapsed, Number, Amount as Decimals}
-use Rattle.plain.specs.Engine.{in_tag, tag_of, behind_tag, up_to_tag, from_tag, closes, quoted, spelled, spelling_by, piece_of, pieces, body_of}
+use Rattle.plain.specs.Engine.{in_tag, tag_of, behind_tag, up_to_tag, from_tag, closes, quoted, spelled, spelling_by, pieces, body_of}
 use Rattle.plain.proofs.Scans.{spelling_closed, spelling_open}
 use Rattle.plain.proofs.Pieces.{pieces_none, pieces_first}
 

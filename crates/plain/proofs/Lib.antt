@@ -1,4 +1,3 @@
-pub mod Parts
 pub mod Scans
 pub mod Values
 pub mod Pieces

@@ -1,8 +1,9 @@
--- What the answer means.
+-- What the answer means: how many bytes were written, or a refusal's number and place.
+use Rattle.std.specs.Prelude.{ℕ, Result, Ok, Err}
+use Rattle.answers.specs.declared.Refused.{Refused}
+use Rattle.answers.specs.Refusals.{refusal_number}
 use Rattle.forms.specs.Written.{Answered, written, refused}
-use Rattle.plain.specs.declared.Written.{Written}
-use Rattle.plain.specs.declared.Written.TheVariants.{Length, Refused}
 
-abbrev pub answered : Written → Answered
-answered (Length n) = written n
-answered (Refused n p) = refused n p
+abbrev pub answered : Result ℕ Refused → Answered
+answered (Ok n) = written n
+answered (Err r) = refused (refusal_number r.why) r.at

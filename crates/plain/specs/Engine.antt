@@ -1,5 +1,5 @@
 -- How the code goes through a message: from tag to tag. That it comes to the plain form of the message's document is proofs/Documents.antt.
-use Rattle.std.specs.Prelude.{ℕ, zero, suc, ◌+◌, ◌-◌, Bool, not, List, [], ◌∷◌, ◌++◌, length, take, drop, eqb}
+use Rattle.std.specs.Prelude.{ℕ, zero, suc, ◌-◌, Bool, not, List, [], ◌∷◌, ◌++◌, length, take, drop, eqb}
 use Rattle.text.specs.Truth.{pick, lead}
 use Rattle.text.specs.Quoted.{byte, is, alike}
 use Rattle.tags.specs.Tags.{starts_question, declaration}
@@ -9,7 +9,6 @@ use Rattle.profile.specs.Profile.{count_tag, words_tag}
 use Rattle.money.specs.Plain.{without_zeros, plain_amount}
 use Rattle.plain.specs.declared.Spelling.{Spelling}
 use Rattle.plain.specs.declared.Spelling.TheVariants.{Nothing, AsRead, Collapsed, Number, Amount}
-use Rattle.plain.specs.declared.Piece.{Piece}
 
 -- ---- a tag, and what stands behind it
 abbrev pub in_tag : ℕ → Bool
@@ -54,13 +53,6 @@ spelled Number v = without_zeros v
 spelled Amount v = plain_amount v
 
 -- ---- piece by piece
-abbrev pub piece_in : List ℕ → Piece
-piece_in s = record {
-  tag = length (tag_of s);
-  next = length (tag_of s) + lead in_value (behind_tag s);
-  spelling = spelling_by (tag_of s) (next_of s);
-}
-
 abbrev pub piece_of : List ℕ → List ℕ
 piece_of s = tag_of s ++ spelled (spelling_by (tag_of s) (next_of s)) (up_to_tag (behind_tag s))
 

@@ -2,27 +2,19 @@
 // writing: each tag is copied, what stands behind it is written as it is meant where it is a value, and left out where it is white space.
 #![tactic(auto)]
 
-ghost use Rattle.std.specs.Prelude.{◌≡◌, ◌∷◌, ◌++◌, ◌≤◌, length, drop, get_or};
+ghost use Rattle.std.specs.Prelude.{◌≡◌, ◌∷◌, ◌++◌, ◌^◌, ◌<◌, ◌≤◌, length, drop};
 ghost use Rattle.text.specs.Quoted.{byte};
 ghost use Rattle.tags.specs.Tags.{declaration};
 ghost use Rattle.profile.specs.Limits.{most_bytes};
 ghost use Rattle.money.specs.Amount.{as_two_digits};
 ghost use Rattle.money.specs.Plain.{plain_amount};
 ghost use Rattle.twice.specs.Twice.{cleared};
-ghost use Rattle.plain.specs.Engine.{tag_of, closes, quoted, spelled, spelling_by, piece_in, piece_of, pieces, declared_length, body_of};
+ghost use Rattle.plain.specs.Engine.{tag_of, closes, quoted, spelled, spelling_by, piece_of, next_of, pieces, declared_length, body_of};
 ghost use Rattle.plain.specs.Answer.{answered};
 ghost use Rattle.plain.specs.Indexed.{WroteWith};
 
-use judge::Verdict;
+use answers::{Refusal, Refused};
 use text::Class;
-
-#[derive(Clone, Copy)]
-pub enum Written {
-    // How many bytes the plain form has.
-    Length(usize),
-    // The number, and the place.
-    Refused(u8, usize),
-}
 
 // How what stands behind a tag is written: not at all, as it was read, collapsed, without needless zeros, with two decimals.
 #[derive(Clone, Copy)]
@@ -34,90 +26,85 @@ pub enum Spelling {
     Amount,
 }
 
-// A tag and what stands behind it up to the next one: where the tag ends, where the next one begins, and how what lies between is written.
+// A tag; what stands behind it, and how that is written; and the text from the next tag on.
 #[derive(Clone, Copy)]
-pub struct Piece {
-    pub tag: usize,
-    pub next: usize,
+pub struct Piece<'a> {
+    pub tag: &'a [u8],
+    pub value: &'a [u8],
     pub spelling: Spelling,
+    pub next: &'a [u8],
 }
 
 // How many bytes the tag at the beginning of s has: up to its `>`.
 fn tag_length(s: &[u8]) -> usize
     ensures { result ≡ length (tag_of s.now) }
 {
-    let mut i = 0;
-    while i < s.len() {
-        if s[i] == b'>' {
-            return i + 1;
-        }
-        i += 1;
+    match s.iter().position(|c| *c == b'>') {
+        Some(i) => i + 1,
+        None => s.len(),
     }
-    i
 }
 
 // Whether s begins with an end tag.
 fn is_end(s: &[u8]) -> bool
     ensures { result ≡ closes s.now }
 {
-    if s.len() < 2 {
-        return false;
-    }
-    text::same(b"</", &s[..2])
+    s.starts_with(b"</")
 }
 
 // Whether a start tag ends in a quotation mark, as an amount's does.
 fn is_quoted(tag: &[u8]) -> bool
     ensures { result ≡ quoted tag.now }
 {
-    let n = tag.len();
-    if n < 2 {
-        return false;
-    }
-    text::same(b"\">", &tag[n - 2..])
+    tag.ends_with(b"\">")
 }
 
 // How what stands between a tag and the next one is written: a value stands between a start tag and an end tag.
 fn spelling_by(tag: &[u8], next: &[u8]) -> Spelling
     ensures { result ≡ spelling_by tag.now next.now }
 {
-    if is_end(tag) {
-        return Spelling::Nothing;
+    if is_end(tag) || !is_end(next) {
+        Spelling::Nothing
+    } else if profile::is_count(tag) {
+        Spelling::Number
+    } else if is_quoted(tag) {
+        Spelling::Amount
+    } else if profile::is_words(tag) {
+        Spelling::Collapsed
+    } else {
+        Spelling::AsRead
     }
-    if !is_end(next) {
-        return Spelling::Nothing;
-    }
-    if profile::is_count(tag) {
-        return Spelling::Number;
-    }
-    if is_quoted(tag) {
-        return Spelling::Amount;
-    }
-    if profile::is_words(tag) {
-        return Spelling::Collapsed;
-    }
-    Spelling::AsRead
 }
 
 // The piece at the beginning of s.
-fn piece_of(s: &[u8]) -> Piece
-    ensures { result ≡ piece_in s.now }
+fn piece_of(s: &[u8]) -> Piece<'_>
+    ensures text { result.tag.now ++ spelled result.spelling result.value.now ≡ piece_of s.now }
+    ensures next { result.next.now ≡ next_of s.now }
 {
-    let tag = tag_length(s);
-    let next = tag + tags::upto(&s[tag..]);
+    let (tag, behind) = s.split_at(tag_length(s));
+    let (value, next) = behind.split_at(tags::upto(behind));
     Piece {
         tag,
+        value,
+        spelling: spelling_by(tag, next),
         next,
-        spelling: spelling_by(&s[..tag], &s[next..]),
     }
+}
+
+// An amount's first digits without needless zeros, and what stands behind them: a pair, as `split_at` gives.
+fn parts_of(v: &[u8]) -> (&[u8], &[u8])
+    ensures { plain_amount v.now ≡ result.0.now ++ (byte "." ∷ as_two_digits (drop 1 result.1.now)) }
+{
+    let (whole, behind) = v.split_at(text::run_in(Class::Digit, v));
+    (&whole[money::needless(whole)..], behind)
 }
 
 // How many bytes an amount has in its plain spelling.
 fn amount_length(v: &[u8]) -> usize
     ensures { result ≡ length (plain_amount v.now) }
 {
-    let n = text::run_in(Class::Digit, v);
-    n - money::needless(&v[..n]) + 3
+    let (digits, _) = parts_of(v);
+    digits.len() + 3
 }
 
 // How many bytes a value has as it is spelled.
@@ -133,47 +120,23 @@ fn spelled_length(k: Spelling, v: &[u8]) -> usize
     }
 }
 
-// How many bytes the piece at the beginning of s has in the plain form.
-fn piece_length(s: &[u8], p: Piece) -> usize
-    requires { p ≡ piece_in s.now }
-    ensures { result ≡ length (piece_of s.now) }
+// How many bytes a piece has in the plain form.
+fn piece_length(p: Piece) -> usize
+    requires { length (p.tag.now ++ spelled p.spelling p.value.now) < 2 ^ 63 }
+    ensures { result ≡ length (p.entry.tag.now ++ spelled p.entry.spelling p.entry.value.now) }
 {
-    let tag = p.tag;
-    let next = p.next;
-    let spelling = p.spelling;
-    tag + spelled_length(spelling, &s[tag..next])
+    p.tag.len() + spelled_length(p.spelling, p.value)
 }
 
-// Bytes, copied one by one.
-fn copy(from: &[u8], to: &mut [u8])
-    requires { length to.old ≡ length from.now }
-    ensures { to.new ≡ from.now }
+// The point and two decimals, from what stands behind an amount's first digits: a zero where there is no digit.
+fn decimals(behind: &[u8]) -> [u8; 3]
+    ensures { result ≡ byte "." ∷ as_two_digits (drop 1 behind.now) }
 {
-    let mut i = 0;
-    while i < from.len() {
-        to[i] = from[i];
-        i += 1;
-    }
-}
-
-// The byte at a place, or a zero where there is none.
-fn digit_at(v: &[u8], i: usize) -> u8
-    ensures { result ≡ get_or v.now i (byte "0") }
-{
-    if i < v.len() {
-        return v[i];
-    }
-    b'0'
-}
-
-// The point and two decimals, from what stands behind an amount's first digits.
-fn put_decimals(behind: &[u8], to: &mut [u8])
-    requires { length to.old ≡ 3 }
-    ensures { to.new ≡ byte "." ∷ as_two_digits (drop 1 behind.now) }
-{
-    to[0] = b'.';
-    to[1] = digit_at(behind, 1);
-    to[2] = digit_at(behind, 2);
+    [
+        b'.',
+        *behind.get(1).unwrap_or(&b'0'),
+        *behind.get(2).unwrap_or(&b'0'),
+    ]
 }
 
 // An amount in its plain spelling: its first digits without needless zeros, the point, two decimals.
@@ -181,11 +144,10 @@ fn spell_amount(v: &[u8], to: &mut [u8])
     requires { length to.old ≡ length (plain_amount v.now) }
     ensures { to.new ≡ plain_amount v.now }
 {
-    let n = text::run_in(Class::Digit, v);
-    let zeros = money::needless(&v[..n]);
-    let point = n - zeros;
-    copy(&v[zeros..n], &mut to[..point]);
-    put_decimals(&v[n..], &mut to[point..]);
+    let (digits, behind) = parts_of(v);
+    let (first, last) = to.split_at_mut(digits.len());
+    text::lay(first, digits);
+    last.copy_from_slice(&decimals(behind));
 }
 
 // A value, as it is spelled.
@@ -195,58 +157,51 @@ fn spell(k: Spelling, v: &[u8], to: &mut [u8])
 {
     match k {
         Spelling::Nothing => {}
-        Spelling::AsRead => copy(v, to),
+        Spelling::AsRead => text::lay(to, v),
         Spelling::Collapsed => words::collapse(v, to),
-        Spelling::Number => {
-            let zeros = money::needless(v);
-            copy(&v[zeros..], to)
-        }
+        Spelling::Number => text::lay(to, &v[money::needless(v)..]),
         Spelling::Amount => spell_amount(v, to),
     }
 }
 
-// The piece at the beginning of s, written into its part of the area.
-fn lay(s: &[u8], p: Piece, part: &mut [u8])
-    requires { (p ≡ piece_in s.now) × (length part.old ≡ length (piece_of s.now)) }
-    ensures { part.new ≡ piece_of s.now }
+// A piece, written into its part of the area.
+fn lay(p: Piece, part: &mut [u8])
+    requires { length part.old ≡ length (p.tag.now ++ spelled p.spelling p.value.now) }
+    ensures { part.new ≡ p.entry.tag.now ++ spelled p.entry.spelling p.entry.value.now }
 {
-    let tag = p.tag;
-    let next = p.next;
-    let spelling = p.spelling;
-    copy(&s[..tag], &mut part[..tag]);
-    spell(spelling, &s[tag..next], &mut part[tag..]);
+    let (tag, behind) = part.split_at_mut(p.tag.len());
+    text::lay(tag, p.tag);
+    spell(p.spelling, p.value, behind);
 }
 
-// How many bytes all pieces of s have in the plain form.
+// How many bytes all pieces of s have in the plain form: each begins where the one before it ends, at no fixed step.
 fn measure(s: &[u8]) -> usize
     requires { length (pieces s.now) ≤ most_bytes }
     ensures { result ≡ length (pieces s.now) }
 {
-    let mut at = 0;
+    let mut rest = s;
     let mut n = 0;
-    while at < s.len() {
-        let rest = &s[at..];
+    while !rest.is_empty() {
         let p = piece_of(rest);
-        n += piece_length(rest, p);
-        at += p.next;
+        n += piece_length(p);
+        rest = p.next;
     }
     n
 }
 
-// All pieces of s, each written into its part of the area.
+// All pieces of s, each written into its part of the area, behind the one before it: likewise at no fixed step.
 fn fill(s: &[u8], area: &mut [u8])
     requires { length (pieces s.now) ≤ length area.old }
     ensures { area.new ≡ pieces s.now ++ drop (length (pieces s.now)) area.old }
 {
-    let mut at = 0;
+    let mut rest = s;
     let mut n = 0;
-    while at < s.len() {
-        let rest = &s[at..];
+    while !rest.is_empty() {
         let p = piece_of(rest);
-        let to = n + piece_length(rest, p);
-        lay(rest, p, &mut area[n..to]);
+        let to = n + piece_length(p);
+        lay(p, &mut area[n..to]);
         n = to;
-        at += p.next;
+        rest = p.next;
     }
 }
 
@@ -255,22 +210,18 @@ fn declared(m: &[u8]) -> usize
     ensures { result ≡ declared_length m.now }
 {
     if tags::has_question(m) {
-        return tags::DECLARATION;
+        tags::DECLARATION
+    } else {
+        0
     }
-    0
 }
 
 // The message from its first tag on, without the declaration.
 fn body_of(m: &[u8]) -> &[u8]
     ensures { result.now ≡ body_of m.now }
 {
-    let from = declared(m);
-    if m.len() < from {
-        return &m[..0];
-    }
-    let s = &m[from..];
-    let n = tags::upto(s);
-    &s[n..]
+    let s = &m[declared(m).min(m.len())..];
+    &s[tags::upto(s)..]
 }
 
 // The declaration and all pieces of s, written into the area.
@@ -278,26 +229,21 @@ fn put(s: &[u8], area: &mut [u8])
     requires { length (declaration ++ pieces s.now) ≤ length area.old }
     ensures { area.new ≡ (declaration ++ pieces s.now) ++ drop (length (declaration ++ pieces s.now)) area.old }
 {
-    let first = tags::declaration();
-    copy(&first, &mut area[..tags::DECLARATION]);
-    fill(s, &mut area[tags::DECLARATION..]);
+    let (first, behind) = area.split_at_mut(tags::DECLARATION);
+    first.copy_from_slice(&tags::declaration());
+    fill(s, behind);
 }
 
 // The plain form of a message: how many bytes of it were written; the judge's refusal; or 17, where the area is too short. The index is cleared.
-pub fn write(m: &[u8], area: &mut [u8], index: &mut [u32]) -> Written
+pub fn write(m: &[u8], area: &mut [u8], index: &mut [u32]) -> Result<usize, Refused>
     ensures { WroteWith index.old m.now area.old (record { answer = answered result; area = area.new }) × (index.new ≡ cleared index.old) }
 {
-    let v = judge::judge(m, index);
-    match v {
-        Verdict::Refused(number, place) => Written::Refused(number, place),
-        Verdict::Accepted(_, _) => {
-            let s = body_of(m);
-            let n = tags::DECLARATION + measure(s);
-            if area.len() < n {
-                return Written::Refused(17, 0);
-            }
-            put(s, area);
-            Written::Length(n)
-        }
+    judge::judge(m, index)?;
+    let s = body_of(m);
+    let n = tags::DECLARATION + measure(s);
+    if area.len() < n {
+        return Err(Refusal::ShortArea.at(0));
     }
+    put(s, area);
+    Ok(n)
 }

@@ -1,8 +1,7 @@
--- What a call of the day book comes to: it is carried out, or it is refused with a number that is not 0.
+-- What a call of the day book comes to: it is carried out, or it is refused, and the book is as lent.
 use mathlib.Core.Path.{◌≡◌, refl}
 use mathlib.Core.Bool.{Bool, true, false}
 use Prim.Native.Nat.{ℕ, ◌+◌, ◌-◌, ◌≤◌, ◌<◌}
-use native.Mathlib.Omega.{arith}
 use borrow.Author.Tests.{leb-true, leb-false}
 use lib.Dec.{leb}
 use Rattle.text.specs.Truth.{pick}
@@ -15,14 +14,11 @@ use Rattle.book.specs.Calls.{done, unchanged, bulk, unfit, added, entered, lesse
 use Rattle.book.specs.Stored.{Stored, agrees, Carried, as_lent, carried, kept}
 use Rattle.book.specs.Code.{in_range}
 
-abbrev pub NotZero : ℕ → Type 0
-NotZero n = n ≡ 0 → ⊥
-
 -- ---- an entry
 pub data Entering (e : Entry) (s : Stored) : Carried → Type 0 where
   goes_in : s.book.number < most_open
       → Entering e s (record { told = done e.cents; stored = record { book = added e s.book; total = s.total + e.cents } })
-  stays_out : (n p : ℕ) → NotZero n → Entering e s (as_lent n p s)
+  stays_out : (n p : ℕ) → Entering e s (as_lent n p s)
 
 module _ (e : Entry) (s : Stored) where
   of-bulk : Entering e s (kept (enter (bulk e)) s)
@@ -34,33 +30,33 @@ module _ (e : Entry) (s : Stored) where
             told = done e.cents;
             book = added e s.book;
           }))) (unchanged 29 0 s.book))) (as_lent 29 0 s))
-      go false i o f h = stays_out 29 0 (λ z. omega arith)
-      go true false o f h = stays_out 29 0 (λ z. omega arith)
-      go true true true f h = stays_out 20 0 (λ z. omega arith)
-      go true true false true h = stays_out 21 0 (λ z. omega arith)
+      go false i o f h = stays_out 29 0
+      go true false o f h = stays_out 29 0
+      go true true true f h = stays_out 20 0
+      go true true false true h = stays_out 21 0
       go true true false false h = goes_in (leb-false most_open s.book.number h)
 
-  of_none : (n p : ℕ) → NotZero n → Entering e s (kept (enter (unfit n p)) s)
+  of_none : (n p : ℕ) → Entering e s (kept (enter (unfit n p)) s)
   unfolding kept entered
-  of_none n p z = go (agrees s) (is_book s.book)
+  of_none n p = go (agrees s) (is_book s.book)
     where
       go : (a i : Bool) → Entering e s (pick a (carried (enter (unfit n p)) s.total (pick i (unchanged n p s.book) (unchanged 29 0 s.book))) (as_lent 29 0 s))
-      go false i = stays_out 29 0 (λ z. omega arith)
-      go true false = stays_out 29 0 (λ z. omega arith)
-      go true true = stays_out n p z
+      go false i = stays_out 29 0
+      go true false = stays_out 29 0
+      go true true = stays_out n p
 
   pub entering_is : Entering e s (kept (enter (in_range e)) s)
   entering_is = go (leb e.cents (most Total))
     where
       go : (b : Bool) → Entering e s (kept (enter (pick b (bulk e) (unfit 9 0))) s)
       go true = of-bulk
-      go false = of_none 9 0 (λ z. omega arith)
+      go false = of_none 9 0
 
 -- ---- a withdrawal
 pub data Leaving (k : Key) (s : Stored) : Carried → Type 0 where
   goes_out : s.book.number ≤ most_open → is_open k (open_in s.book) ≡ true
       → Leaving k s (record { told = done (cents_of k (open_in s.book)); stored = record { book = lessened k s.book; total = s.total - cents_of k (open_in s.book) } })
-  stays_in : (n p : ℕ) → NotZero n → Leaving k s (as_lent n p s)
+  stays_in : (n p : ℕ) → Leaving k s (as_lent n p s)
 
 module _ (k : Key) (s : Stored) where
   few : is_book s.book ≡ true → s.book.number ≤ most_open
@@ -76,7 +72,7 @@ module _ (k : Key) (s : Stored) where
             told = done (cents_of k (open_in s.book));
             book = lessened k s.book;
           }) (unchanged 22 0 s.book)) (unchanged 29 0 s.book))) (as_lent 29 0 s))
-      go false i h o g = stays_in 29 0 (λ z. omega arith)
-      go true false h o g = stays_in 29 0 (λ z. omega arith)
-      go true true h false g = stays_in 22 0 (λ z. omega arith)
+      go false i h o g = stays_in 29 0
+      go true false h o g = stays_in 29 0
+      go true true h false g = stays_in 22 0
       go true true h true g = goes_out (few h) g

@@ -3,7 +3,6 @@ pub mod Runs
 pub mod Tables
 pub mod Messages
 pub mod Enters
-pub mod Ends
 pub mod Records
 pub mod Steps
 pub mod Loop

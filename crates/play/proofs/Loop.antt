@@ -1,129 +1,126 @@
 -- The loop over the records, and the whole run.
 use mathlib.Core.Path.{◌≡◌, refl, sym, ap, ◌∙◌}
-use mathlib.Core.Bool.{true, false}
-use mathlib.Core.List.{List}
+use mathlib.Core.List.{List, [], ◌∷◌, ◌++◌}
 use Prim.Native.Nat.{ℕ, suc, ◌+◌, ◌-◌, ◌≤◌, ◌<◌}
 use native.Mathlib.Numerals.{add-one}
 use native.Mathlib.Omega.{arith}
 use borrow.Author.Tests.{le-ltb, lt-ltb, le-leb, lt-leb}
-use lib.ListN.{length, replicate, length-replicate}
-use Rattle.text.proofs.Truths.{never}
+use lib.ListN.{length, take, drop, replicate, length-replicate}
+use Rattle.std.proofs.Common.{Option, Ok, Err}
+use Rattle.answers.specs.declared.Refused.{Refused}
+use Rattle.answers.specs.declared.Refusal.TheVariants.{OtherMessage, ShortIndex, NoBook}
+use Rattle.answers.specs.Refusals.{refusal_number}
 use Rattle.recording.specs.declared.Line.{Line}
-use Rattle.recording.specs.Record.{line_of}
+use Rattle.recording.specs.Record.{line_of, line_as}
 use Rattle.twice.specs.Twice.{least_index, cleared}
 use Rattle.judge.proofs.Index.{in_short, in_room}
+use Rattle.accounts.specs.Lengths.{in_one}
 use Rattle.book.specs.declared.Entry.{Entry}
+use Rattle.book.specs.declared.Numbers.{Numbers}
 use Rattle.book.specs.Book.{most_open}
 use Rattle.book.specs.Stored.{Stored}
-use Rattle.book.specs.Code.{stored_of}
+use Rattle.book.specs.Code.{lent}
+use Rattle.sums.specs.declared.Lot.{Lot}
 use Rattle.play.specs.declared.Run.{Run}
 use Rattle.play.specs.declared.Played.{Played}
-use Rattle.play.specs.Play.{emptied, Step, on, refuses, step_of, step, record_at, records, as_lent, ended, go_on, play_from, played}
+use Rattle.play.specs.Table.{table_of}
+use Rattle.play.specs.Play.{emptied, Step, step_of, step, record_at, records, as_lent, ended, go_on, play_from, played, played_with}
 use Rattle.play.specs.Play as paper
-use Rattle.play.specs.Code.{run_as, Sound, Went, answer_of, played_on, FreshIndex}
+use Rattle.play.specs.Code.{run_as, stepped, Sound, in_rows, played_as, FreshIndex}
 
-module _ (recording buffer ends : List ℕ) (l : List Entry) where
+-- ---- after the last record
+module _ (run : Run) (l : List Entry) (n : Numbers) (ends : List ℕ) (i : ℕ) where
+  pub left_over : run.taken < length ends → played_as l n (Err (record { why = OtherMessage; at = i })) ≡ ended ends i (run_as l n run)
+  left_over h = rw (lt-ltb run.taken (length ends) h)
+
+  flat_rows : (a : List Lot) → in_rows (in_one (table_of a)) ≡ table_of a
+  unfolding table_of
+  flat_rows a = refl
+
+  pub all_taken : length ends ≤ run.taken → (t : List ℕ) → t ≡ in_one (table_of (take n.opened run.lots))
+      → played_as l n (Ok (record { records = i; table = t })) ≡ ended ends i (run_as l n run)
+  all_taken h t e = rw (e, le-ltb run.taken (length ends) h, flat_rows (take n.opened run.lots)) refl
+
+-- ---- so many records are carried out, and playing on from here is playing from the start
+module _ (recording buffer ends : List ℕ) (start : List Entry) where
   abbrev from : ℕ → ℕ → paper.Run → paper.Played
   from = play_from recording buffer ends
 
-  -- so many records are carried out, and playing on from here is playing from the start
-  pub record Playing (n : ℕ) (index₀ index : List ℕ) (run : Run) (i : ℕ) : Type 0 where
-    pub some : i ≤ n
-    pub sound : Sound run
+  pub record Playing (n : ℕ) (index₀ index : List ℕ) (l : List Entry) (s : Numbers) (run : Run) (i : ℕ) : Type 0 where
+    pub sound : Sound s run
     pub same : index ≡ index₀
-    pub is : from (n - i) i (run_as run) ≡ played recording buffer ends l
+    pub is : from (n - i) i (run_as l s run) ≡ played recording buffer ends start
 
-  pub playing_begins : (n : ℕ) → n ≡ records recording → (index : List ℕ) (run : Run) → run_as run ≡ emptied l → Sound run → Playing n index index run 0
+  pub playing_begins : (n : ℕ) → n ≡ records recording → (index : List ℕ) (s : Numbers) (run : Run) → run_as start s run ≡ emptied start → Sound s run → Playing n index index start s run 0
   unfolding played
-  playing_begins n e index run f s =
+  playing_begins n e index s run f h =
       let z : n - 0 ≡ records recording = omega (arith, e) in
-      record { some = omega arith; sound = s; same = refl; is = rw (z, f) }
+      record { sound = h; same = refl; is = rw (z, f) }
 
-  module _ (n : ℕ) (index₀ index : List ℕ) (run : Run) (i : ℕ) (p : Playing n index₀ index run i) where
-    pub playing_ends : n ≤ i → (a : Played) → a ≡ answer_of (ended ends i (run_as run)) → a ≡ answer_of (played recording buffer ends l)
+  module _ (n : ℕ) (index₀ index : List ℕ) (l : List Entry) (s : Numbers) (run : Run) (i : ℕ) (p : Playing n index₀ index l s run i) where
+    pub playing_ends : i ≡ n → ended ends n (run_as l s run) ≡ played recording buffer ends start
     unfolding play_from
-    playing_ends h a e =
+    playing_ends h =
         let z : n - i ≡ 0 = omega arith in
-        e ∙ ap answer_of (rw z at p.is)
+        rw (← h) (rw z at p.is)
 
-    module _ (h : i < n) (line : Line) (said : line ≡ line_of (record_at recording i)) (next : Run) (w : Went run next (step_of buffer ends line (run_as run))) where
+    module _ (h : i < n) (said : Option Line) (e : line_as said ≡ line_of (record_at recording i)) (l' : List Entry) (s' : Numbers) where
       left : n - i ≡ suc (n - (i + 1))
       left = omega arith
 
-      here : go_on (step buffer ends (record_at recording i) (run_as run)) i (run_as run) (from (n - (i + 1)) (suc i)) ≡ played recording buffer ends l
+      here : go_on (step buffer ends (record_at recording i) (run_as l s run)) i (run_as l s run) (from (n - (i + 1)) (suc i)) ≡ played recording buffer ends start
       unfolding play_from
       here = rw left at p.is
 
-      steps : Went run next (step buffer ends (record_at recording i) (run_as run))
+      steps : (x : Step) → x ≡ step_of buffer ends (line_as said) (run_as l s run) → x ≡ step buffer ends (record_at recording i) (run_as l s run)
       unfolding step
-      steps = rw (← said) w
+      steps x w = rw (← e) w
 
-      pub playing_on : next.on ≡ true → (index' : List ℕ) → index' ≡ index → Playing n index₀ index' next (i + 1)
-      playing_on e index' f = go (step buffer ends (record_at recording i) (run_as run)) steps here
-        where
-          go : (s : Step) → Went run next s → go_on s i (run_as run) (from (n - (i + 1)) (suc i)) ≡ played recording buffer ends l → Playing n index₀ index' next (i + 1)
-          go (on s) g k =
-              record {
-                some = omega arith;
-                sound = g.2;
-                same = f ∙ p.same;
-                is = ap (λ (x : paper.Run). from (n - (i + 1)) (i + 1) x) g.1 ∙ (ap (λ (x : ℕ). from (n - (i + 1)) x s) (add-one i) ∙ k);
-              }
-          go (refuses m) g k = never (cc (sym e ∙ g.0))
+      pub playing_on : (next : Run) → stepped l' s' (Ok next) ≡ step_of buffer ends (line_as said) (run_as l s run) → Sound s' next → (index' : List ℕ) → index' ≡ index → Playing n
+          index₀ index' l' s' next (i + 1)
+      playing_on next w g index' f =
+          record {
+            sound = g;
+            same = f ∙ p.same;
+            is = ap (λ (x : ℕ). from (n - (i + 1)) x (run_as l' s' next)) (add-one i)
+                ∙ (ap (λ (x : Step). go_on x i (run_as l s run) (from (n - (i + 1)) (suc i))) (steps (stepped l' s' (Ok next)) w) ∙ here);
+          }
 
-      pub playing_stops : next.on ≡ false → (a : Played) → a ≡ answer_of (as_lent next.number i (run_as next).stored) → a ≡ answer_of (played recording buffer ends l)
-      playing_stops e a f = go (step buffer ends (record_at recording i) (run_as run)) steps here
-        where
-          go : (s : Step) → Went run next s → go_on s i (run_as run) (from (n - (i + 1)) (suc i)) ≡ played recording buffer ends l → a ≡ answer_of (played recording buffer ends l)
-          go (on s) g k = never (cc (sym e ∙ g.0))
-          go (refuses m) g k =
-              f
-              ∙ (ap (λ (x : ℕ). answer_of (as_lent x i (run_as next).stored)) g.1
-              ∙ (ap (λ (x : paper.Run). answer_of (as_lent m i x.stored)) g.2 ∙ ap answer_of k))
+      pub playing_stops : (q : Refused) → stepped l' s' (Err q) ≡ step_of buffer ends (line_as said) (run_as l s run) → lent l' s' ≡ lent l s
+          → played_as l' s' (Err (record { why = q.why; at = i })) ≡ played recording buffer ends start
+      playing_stops q w g =
+          ap (λ (x : Stored). as_lent (refusal_number q.why) i x) g
+          ∙ (ap (λ (x : Step). go_on x i (run_as l s run) (from (n - (i + 1)) (suc i))) (steps (stepped l' s' (Err q)) w) ∙ here)
 
--- the entries are those that the run begins with
-pub begun_entries : (run : Run) (l : List Entry) → run_as run ≡ emptied l → run.entries ≡ l
-begun_entries run l e = ap (λ (x : paper.Run). x.stored.book.entries) e
-
-pub begun_as : (run : Run) (l : List Entry) → run_as run ≡ emptied l → run_as run ≡ emptied run.entries
-begun_as run l e = e ∙ ap emptied (sym (begun_entries run l e))
-
--- ---- with an index, and so many places
-module _ (places : ℕ) (index recording buffer ends : List ℕ) (entries : List Entry) (n t : ℕ) where
-  abbrev lent : Stored
-  lent = stored_of entries n t
-
+-- ---- with an index, on a book of so many places
+module _ (index recording buffer ends : List ℕ) (l : List Entry) (s : Numbers) where
   abbrev Whole : paper.Played
-  Whole = played_on places index recording buffer ends lent
+  Whole = played_with index recording buffer ends (lent l s)
 
-  pub too_short_lem : length index < least_index → (a : Played) → a ≡ answer_of (as_lent 25 0 lent) → a ≡ answer_of Whole
-  unfolding played_on
-  too_short_lem h a e =
-      let z : Whole ≡ as_lent 25 0 lent = in_short index _ _ (lt-ltb (length index) least_index h) in
-      e ∙ ap answer_of (sym z)
+  pub too_short_lem : length index < least_index → played_as l s (Err (record { why = ShortIndex; at = 0 })) ≡ Whole
+  unfolding played_with
+  too_short_lem h = sym (in_short index _ _ (lt-ltb (length index) least_index h))
 
   module _ (h : least_index ≤ length index) where
-    pub too_few : places < most_open → (a : Played) → a ≡ answer_of (as_lent 29 0 lent) → a ≡ answer_of Whole
-    unfolding played_on
-    too_few g a e =
-        let z : Whole ≡ as_lent 29 0 lent = in_room index _ _ (le-ltb (length index) least_index h) ∙ rw (lt-leb most_open places g) in
-        e ∙ ap answer_of (sym z)
+    pub too_few : length l < most_open → played_as l s (Err (record { why = NoBook; at = 0 })) ≡ Whole
+    unfolding played_with
+    too_few g = sym (in_room index _ _ (le-ltb (length index) least_index h) ∙ rw (lt-leb most_open (length l) g))
 
-    pub all_played : most_open ≤ places → (a : Played) → a ≡ answer_of (played recording buffer ends entries) → a ≡ answer_of Whole
-    unfolding played_on
-    all_played g a e =
-        let z : Whole ≡ played recording buffer ends entries = in_room index _ _ (le-ltb (length index) least_index h) ∙ rw (le-leb most_open places g) in
-        e ∙ ap answer_of (sym z)
+    pub all_played : most_open ≤ length l → played recording buffer ends l ≡ Whole
+    unfolding played_with
+    all_played g = sym (in_room index _ _ (le-ltb (length index) least_index h) ∙ rw (le-leb most_open (length l) g))
 
     fresh-is : cleared index ≡ replicate (length index) 0
     unfolding cleared
     fresh-is = rw (le-leb least_index (length index) h)
 
-    pub fresh : (i : List ℕ) → i ≡ cleared index → FreshIndex i
+    pub cleared_by : (i : List ℕ) → i ≡ replicate (length index) 0 → i ≡ cleared index
+    cleared_by i e = e ∙ sym fresh-is
+
+    pub fresh : (i : List ℕ) → i ≡ replicate (length index) 0 → FreshIndex i
     fresh i e =
-        let z : i ≡ replicate (length index) 0 = e ∙ fresh-is in
-        let k : length i ≡ length index = ap length z ∙ length-replicate (length index) 0 in
-        record { room = omega (arith, k); clear = z ∙ ap (λ (x : ℕ). replicate x 0) (sym k) }
+        let k : length i ≡ length index = ap length e ∙ length-replicate (length index) 0 in
+        record { room = omega (arith, k); clear = e ∙ ap (λ (x : ℕ). replicate x 0) (sym k) }
 
   pub not_cleared : length index < least_index → index ≡ cleared index
   unfolding cleared

@@ -1,19 +1,27 @@
 -- Where a message lies in the buffer.
-use mathlib.Core.Path.{◌≡◌, refl, sym}
+use mathlib.Core.Path.{◌≡◌, refl, sym, ◌∙◌}
 use mathlib.Core.Bool.{true, false}
-use mathlib.Core.List.{List, ◌∷◌}
+use mathlib.Core.List.{List, [], ◌∷◌}
+use mathlib.Core.Logic.{◌⊎◌, inl, inr}
 use Prim.Native.Nat.{ℕ, zero, suc, ◌-◌, ◌≤◌, ◌<◌}
 use native.Mathlib.Omega.{arith}
 use borrow.Author.Tests.{lt-ltb, le-ltb, le-leb, lt-leb, leb-true, ltb-true}
-use lib.Dec.{leb}
+use lib.Dec.{leb, ltb}
 use lib.ListN.{length, get_or, get_or-eq_default}
-use Rattle.text.proofs.Truths.{fails, passes, pass, lastly}
-use Rattle.play.specs.Play.{begins, stops, lies}
+use Rattle.text.proofs.Truths.{never, fails, passes, pass, lastly}
+use Rattle.std.proofs.Common.{Option, Some, None, Bor}
+use Rattle.std.specs.Option.{option_map}
+use Rattle.std.specs.List.{PartBy}
+use Rattle.play.specs.Play.{begins, stops, lies, message_at}
+use Rattle.play.specs.Code.{message_in}
+
+-- within a list it is the same what would stand behind
+pub within : (l : List ℕ) (i d : ℕ) → i < length l → get_or l i d ≡ get_or l i 0
+within [] i d h = never (omega arith)
+within (x ∷ l) zero d h = refl
+within (x ∷ l) (suc i) d h = within l i d (omega arith)
 
 module _ (ends : List ℕ) (j : ℕ) where
-  pub begins_past : length ends < j → 0 ≡ begins ends j
-  begins_past h = sym (get_or-eq_default (0 ∷ ends) 0 {n = j} (omega arith))
-
   pub begins_at : (j ≡ 0 → ⊥) → get_or ends (j - 1) 0 ≡ begins ends j
   begins_at h = go j h
     where
@@ -23,25 +31,27 @@ module _ (ends : List ℕ) (j : ℕ) where
           let z : suc k - 1 ≡ k = omega arith in
           rw z
 
-  pub stops_past : length ends ≤ j → 0 ≡ stops ends j
-  stops_past h = sym (get_or-eq_default ends 0 {n = j} h)
-
   module _ (buffer : List ℕ) where
-    pub none_left : length ends ≤ j → false ≡ lies buffer ends j
+    pub none_left : length ends ≤ j → None ≡ message_in buffer ends j
     unfolding lies
-    none_left h = sym (fails _ 0 (le-ltb j (length ends) h))
+    none_left h = rw (fails (ltb j (length ends) ∷ leb (begins ends j) (stops ends j) ∷ leb (stops ends j) (length buffer) ∷ []) 0 (le-ltb j (length ends) h))
 
-    module _ (from : ℕ) (e : from ≡ begins ends j) where
-      pub end_falls : stops ends j < from → false ≡ lies buffer ends j
-      unfolding lies
-      end_falls h = sym (fails _ 1 (lt-leb (begins ends j) (stops ends j) (omega (arith, h, e))))
+    -- from the end before it to its own, where that is a part of the buffer
+    pub part_of : (from to : ℕ) (r : Option (Bor (List ℕ))) → from ≡ begins ends j → to ≡ stops ends j → j < length ends
+        → PartBy (λ (x : Bor (List ℕ)). x.now) buffer from to r → option_map (λ m. m.now) r ≡ message_in buffer ends j
+    unfolding lies message_at
+    part_of from to None e f h p =
+        let l = ltb j (length ends) ∷ leb (begins ends j) (stops ends j) ∷ leb (stops ends j) (length buffer) ∷ [] in
+        elim p.0 [
+          | inl g ↦ rw (fails l 1 (lt-leb (begins ends j) (stops ends j) (omega (arith, g, e, f))))
+          | inr g ↦ rw (fails l 2 (lt-leb (stops ends j) (length buffer) (omega (arith, g, f))))
+        ]
+    part_of from to (Some x) e f h p =
+        let k : lies buffer ends j ≡ true =
+        pass _ _ _ (lt-ltb j (length ends) h) (pass _ _ _ (le-leb (begins ends j) (stops ends j) (omega (arith, p.0.0, e, f))) (lastly _ _ refl)) ∙ le-leb (stops ends j) (length
+        buffer) (omega (arith, p.0.1, f)) in
+        rw (k, p.0.2, e, f)
 
-      pub within_buffer : j < length ends → from ≤ stops ends j → leb (stops ends j) (length buffer) ≡ lies buffer ends j
-      unfolding lies
-      within_buffer h g =
-          sym (pass _ _ _ (lt-ltb j (length ends) h) (pass _ _ _ (le-leb (begins ends j) (stops ends j) (omega (arith, g, e))) (lastly _ _ refl)))
-
-    pub lies_in : lies buffer ends j ≡ true → (begins ends j ≤ stops ends j) × (stops ends j ≤ length buffer) × (j < length ends)
+    pub in_ends : lies buffer ends j ≡ true → j < length ends
     unfolding lies
-    lies_in e =
-        (leb-true (begins ends j) (stops ends j) (passes _ e 1), leb-true (stops ends j) (length buffer) (passes _ e 2), ltb-true j (length ends) (passes _ e 0))
+    in_ends e = ltb-true j (length ends) (passes _ e 0)

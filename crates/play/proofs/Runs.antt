@@ -8,19 +8,24 @@ use native.Mathlib.Omega.{arith}
 use borrow.Author.Tests.{ltb-true}
 use lib.ListN.{length, take, drop, set, length-take, length-set}
 use lib.Seq.{take_at, length-take-le}
+use Rattle.std.proofs.Common.{Some, None, Result, Ok, Err, OnErr}
+use Rattle.std.specs.List.{copy_within}
+use Rattle.text.specs.Truth.{pick}
 use Rattle.text.proofs.Truths.{never}
+use Rattle.answers.specs.declared.Refused.{Refused}
+use Rattle.answers.specs.Refusals.{refusal_number}
 use Rattle.sums.specs.declared.Lot.{Lot}
 use Rattle.book.specs.declared.Entry.{Entry}
-use Rattle.book.specs.declared.Outcome.{Outcome}
-use Rattle.book.specs.Book.{Key, most_open, first_at}
+use Rattle.book.specs.declared.Numbers.{Numbers}
+use Rattle.book.specs.Book.{Key, most_open, is_open, first_at, cents_of}
 use Rattle.book.specs.Calls.{Told, done, refusal, Call, enter, withdraw}
 use Rattle.book.specs.Stored.{Stored, Carried, kept}
-use Rattle.book.specs.Code.{in_range, answer_for, outcome_of, called_on, pulled, shifted, left_out}
-use Rattle.book.proofs.Lists.{open_first, shifted_out}
+use Rattle.book.specs.Code.{in_range, lent, leaves, place_in, left_out}
+use Rattle.book.proofs.Lists.{open_first, found, closed_up}
 use Rattle.play.specs.declared.Run.{Run}
-use Rattle.play.specs.Play.{refuses, onward, carried_on}
-use Rattle.play.specs.Code.{run_as, Light, AllLight, Sound, Went}
-use Rattle.play.proofs.Calls.{NotZero, Entering, goes_in, stays_out, entering_is, Leaving, goes_out, stays_in, leaving_is}
+use Rattle.play.specs.Play.{on, refuses, carried_on}
+use Rattle.play.specs.Code.{run_as, stepped, Light, AllLight, Sound}
+use Rattle.play.proofs.Calls.{Entering, goes_in, stays_out, entering_is, Leaving, goes_out, stays_in, leaving_is}
 
 -- what lies past the end of a list of lots
 abbrev pub none : Lot
@@ -40,26 +45,13 @@ length_out i [] h = never (omega arith)
 length_out zero (x ∷ l) h = omega arith
 length_out (suc i) (x ∷ l) h = omega (arith, length_out i l (omega arith))
 
-take_out : {A : Type 0} (i n : ℕ) (l : List A) → i < n → n ≤ length l → take (n - 1) (shifted i n l) ≡ left_out i (take n l)
-take_out i n l h g =
-    let k : length (take n l) ≡ n = length-take-le n l g in
-    rw (shifted_out i n l g h)
-    (take_at (left_out i (take n l)) (drop (n - 1) l) (n - 1) (omega (arith, length_out i (take n l) (omega arith))))
-
-pulled_long : {A : Type 0} (n : ℕ) (l : List A) → length (pulled n l) ≡ length l
-unfolding pulled
-pulled_long (suc (suc n)) (x ∷ y ∷ l) = ap suc (pulled_long (suc n) (y ∷ l))
-pulled_long (suc (suc n)) (x ∷ []) = refl
-pulled_long (suc (suc n)) [] = refl
-pulled_long (suc zero) l = refl
-pulled_long zero l = refl
-
-shifted_long : {A : Type 0} (i n : ℕ) (l : List A) → length (shifted i n l) ≡ length l
-unfolding shifted
-shifted_long zero n l = pulled_long n l
-shifted_long (suc i) n [] = refl
-shifted_long (suc i) zero (x ∷ l) = refl
-shifted_long (suc i) (suc n) (x ∷ l) = ap suc (shifted_long i n l)
+-- what stands at a place goes, and the later ones of the first n move down
+module _ {A : Type 0} (i n : ℕ) (l : List A) (h : i < n) (g : n ≤ length l) where
+  take_out : take (n - 1) (copy_within l (i + 1) n i) ≡ left_out i (take n l)
+  take_out =
+      let k : length (take n l) ≡ n = length-take-le n l g in
+      rw (closed_up i n l h g)
+      (take_at (left_out i (take n l)) (drop (n - 1) l) (n - 1) (omega (arith, length_out i (take n l) (omega arith))))
 
 light_more : (l : List Lot) (x : Lot) → AllLight l → Light x → AllLight (l ++ (x ∷ []))
 light_more [] x h g = (g, tt)
@@ -70,116 +62,131 @@ light_less i [] h = tt
 light_less zero (x ∷ l) h = h.1
 light_less (suc i) (x ∷ l) h = (h.0, light_less i l h.1)
 
-module _ (run : Run) (sound : Sound run) (o : Outcome) where
-  abbrev s : Stored
-  s = (run_as run).stored
+-- a refusal of which something is said
+pub on_err : {T E P : Type 0} (r : Result T E) → P → OnErr r P
+on_err (Ok x) p = tt
+on_err (Err x) p = p
 
-  abbrev number : ℕ
-  number = o.kept.answer.number
+-- ---- a book n of the entries l, and what a call tells and leaves of it
+module _ (l : List Entry) (n : Numbers) (l' : List Entry) (n' : Numbers) (r : Result ℕ Refused) where
+  same_told : (q : Refused) (x : Carried) → r ≡ Err q → leaves r l' n' ≡ x → x.told ≡ refusal (refusal_number q.why) q.at
+  same_told q x e is = sym (ap (λ (c : Carried). c.told) is) ∙ rw e refl
 
-  -- ---- a refusal, whatever the call
-  module _ (c : Call) (is : o ≡ outcome_of (called_on 64 c s)) where
-    pub called_is : o ≡ outcome_of (kept c s)
-    unfolding called_on
-    called_is = is
+  held : (c : ℕ) (x : Carried) → r ≡ Ok c → leaves r l' n' ≡ x → x.told ≡ done c
+  held c x e is = sym (ap (λ (c : Carried). c.told) is) ∙ rw e refl
 
-    pub refused_went : NotZero number → (r : Run) → Went run r (refuses number) → (lots : List Lot) (taken last : ℕ) → Went run r (carried_on (kept c s) lots taken last)
-    refused_went z r w lots taken last = go (kept c s).told (ap (λ (x : Outcome). x.kept.answer.number) called_is)
-      where
-        go : (t : Told) → number ≡ (answer_for t (kept c s).stored.book.number).number
-            → Went run r (onward t (record { stored = (kept c s).stored; lots = lots; taken = taken; last = last }))
-        go (done cents) e = absurd (z e)
-        go (refusal n p) e = rw e at w
+  opened_is : (x : Carried) → leaves r l' n' ≡ x → n'.opened ≡ x.stored.book.number
+  opened_is x is = ap (λ (c : Carried). c.stored.book.number) is
 
-  -- ---- an entry
-  module _ (e : Entry) (is : o ≡ outcome_of (called_on 64 (enter (in_range e)) s)) (z : number ≡ 0) where
-    its : o ≡ outcome_of (kept (enter (in_range e)) s)
-    its = called_is (enter (in_range e)) is
+  stored_is : (x : Carried) → leaves r l' n' ≡ x → lent l' n' ≡ x.stored
+  stored_is x is = ap (λ (c : Carried). c.stored) is
 
-    pub room_in : run.opened < most_open
-    room_in = go (kept (enter (in_range e)) s) (entering_is e s) its
-      where
-        go : (x : Carried) → Entering e s x → o ≡ outcome_of x → run.opened < most_open
-        go x (goes_in h) q = h
-        go x (stays_out n p g) q = absurd (g (sym (ap (λ (y : Outcome). y.kept.answer.number) q) ∙ z))
+  module _ (run : Run) (sound : Sound n run) where
+    -- ---- an entry
+    module _ (e : Entry) (is : leaves r l' n' ≡ kept (enter (in_range e)) (lent l n)) where
+      abbrev entering : Carried
+      entering = kept (enter (in_range e)) (lent l n)
 
-    pub put_went : (lot : Lot) → Light lot → (taken instant : ℕ)
-        → Went run (record {
-          on = true;
-          number = 0;
-          opened = o.kept.answer.opened;
-          total = o.kept.total;
-          taken = taken;
-          last = instant;
-          entries = o.entries;
-          lots = set run.lots run.opened lot;
-        }) (carried_on (kept (enter (in_range e)) s) (take run.opened run.lots ++ (lot ∷ [])) taken instant)
-    put_went lot light taken instant = go (kept (enter (in_range e)) s) (entering_is e s) its
-      where
-        lots-are : take (run.opened + 1) (set run.lots run.opened lot) ≡ take run.opened run.lots ++ (lot ∷ [])
-        lots-are = take_put run.lots run.opened lot (omega (arith, room_in, sound.long))
+      pub out_kept : (q : Refused) → r ≡ Err q → lent l' n' ≡ lent l n
+      out_kept q f = go entering (entering_is e (lent l n)) is
+        where
+          go : (x : Carried) → Entering e (lent l n) x → leaves r l' n' ≡ x → lent l' n' ≡ lent l n
+          go x (goes_in h) w = never (cc (same_told q x f w))
+          go x (stays_out m p) w = stored_is x w
 
-        go : (x : Carried) → Entering e s x → o ≡ outcome_of x
-            → Went run (record {
-              on = true;
-              number = 0;
-              opened = o.kept.answer.opened;
-              total = o.kept.total;
-              taken = taken;
-              last = instant;
-              entries = o.entries;
-              lots = set run.lots run.opened lot;
-            }) (carried_on x (take run.opened run.lots ++ (lot ∷ [])) taken instant)
-        go x (stays_out n p g) q = absurd (g (sym (ap (λ (y : Outcome). y.kept.answer.number) q) ∙ z))
-        go x (goes_in h) q = rw q (refl, rw lots-are, record { few = omega (arith, h); long = simp length-set sound.long; light = rw lots-are (light_more (take run.opened run.lots) lot sound.light light) })
+      pub out_step : (q : Refused) → r ≡ Err q → (lots : List Lot) (t i : ℕ) → refuses (refusal_number q.why) ≡ carried_on entering lots t i
+      out_step q f lots t i = rw (same_told q entering f is)
 
-  -- ---- a withdrawal
-  module _ (k : Key) (is : o ≡ outcome_of (called_on 64 (withdraw k) s)) (z : number ≡ 0) where
-    abbrev at : ℕ
-    at = first_at k (take run.opened run.entries)
+      module _ (c : ℕ) (f : r ≡ Ok c) where
+        pub room_in : n.opened < most_open
+        room_in = go entering (entering_is e (lent l n)) is
+          where
+            go : (x : Carried) → Entering e (lent l n) x → leaves r l' n' ≡ x → n.opened < most_open
+            go x (goes_in h) w = h
+            go x (stays_out m p) w = never (cc (held c x f w))
 
-    leaves : o ≡ outcome_of (kept (withdraw k) s)
-    leaves = called_is (withdraw k) is
+        one_more : n'.opened ≡ n.opened + 1
+        one_more = go entering (entering_is e (lent l n)) is
+          where
+            go : (x : Carried) → Entering e (lent l n) x → leaves r l' n' ≡ x → n'.opened ≡ n.opened + 1
+            go x (goes_in h) w = opened_is x w
+            go x (stays_out m p) w = never (cc (held c x f w))
 
-    pub stands_in_lem : (at < run.opened) × (run.opened ≤ most_open)
-    stands_in_lem = go (kept (withdraw k) s) (leaving_is k s) leaves
-      where
-        go : (x : Carried) → Leaving k s x → o ≡ outcome_of x → (at < run.opened) × (run.opened ≤ most_open)
-        go x (goes_out h g) q =
-            let l = take run.opened run.entries in
-            (omega (arith, ltb-true at (length l) (sym (open_first k l) ∙ g), length-take run.opened run.entries), h)
-        go x (stays_in n p g) q = absurd (g (sym (ap (λ (y : Outcome). y.kept.answer.number) q) ∙ z))
+        module _ (lot : Lot) (t i : ℕ) where
+          abbrev next : Run
+          next = record { lots = set run.lots n.opened lot; taken = t; last = i }
 
-    pub take_went : (i : ℕ) → i ≡ at → (lots : List Lot) → lots ≡ shifted i run.opened run.lots → (instant : ℕ)
-        → Went run (record {
-          on = true;
-          number = 0;
-          opened = o.kept.answer.opened;
-          total = o.kept.total;
-          taken = run.taken;
-          last = instant;
-          entries = o.entries;
-          lots = lots;
-        }) (carried_on (kept (withdraw k) s) (left_out at (take run.opened run.lots)) run.taken instant)
-    take_went i i-is lots lots-are instant = go (kept (withdraw k) s) (leaving_is k s) leaves
-      where
-        same-long : length lots ≡ most_open
-        same-long = rw lots-are (shifted_long i run.opened run.lots) ∙ sound.long
+          lots-are : take n'.opened (set run.lots n.opened lot) ≡ take n.opened run.lots ++ (lot ∷ [])
+          lots-are = rw one_more (take_put run.lots n.opened lot (omega (arith, room_in, sound.long)))
 
-        left : take (run.opened - 1) lots ≡ left_out at (take run.opened run.lots)
-        left = rw (lots-are, i-is) (take_out at run.opened run.lots stands_in_lem.0 (omega (arith, sound.long, stands_in_lem.1)))
+          pub in_step : on (run_as l' n' next) ≡ carried_on entering (take n.opened run.lots ++ (lot ∷ [])) t i
+          in_step = rw (held c entering f is, ← stored_is entering is, lots-are) refl
 
-        go : (x : Carried) → Leaving k s x → o ≡ outcome_of x
-            → Went run (record {
-              on = true;
-              number = 0;
-              opened = o.kept.answer.opened;
-              total = o.kept.total;
-              taken = run.taken;
-              last = instant;
-              entries = o.entries;
-              lots = lots;
-            }) (carried_on x (left_out at (take run.opened run.lots)) run.taken instant)
-        go x (stays_in n p g) q = absurd (g (sym (ap (λ (y : Outcome). y.kept.answer.number) q) ∙ z))
-        go x (goes_out h g) q =
-            rw q (refl, rw left, record { few = omega (arith, h); long = same-long; light = rw left (light_less at (take run.opened run.lots) sound.light) })
+          pub in_sound : Light lot → Sound n' next
+          in_sound light =
+              record {
+                few = omega (arith, one_more, room_in);
+                long = simp length-set sound.long;
+                light = rw lots-are (light_more (take n.opened run.lots) lot sound.light light);
+              }
+
+    -- ---- a withdrawal
+    module _ (k : Key) (is : leaves r l' n' ≡ kept (withdraw k) (lent l n)) where
+      abbrev leaving : Carried
+      leaving = kept (withdraw k) (lent l n)
+
+      pub stay_kept : (q : Refused) → r ≡ Err q → lent l' n' ≡ lent l n
+      stay_kept q f = go leaving (leaving_is k (lent l n)) is
+        where
+          go : (x : Carried) → Leaving k (lent l n) x → leaves r l' n' ≡ x → lent l' n' ≡ lent l n
+          go x (goes_out h g) w = never (cc (same_told q x f w))
+          go x (stays_in m p) w = stored_is x w
+
+      pub stay_step : (q : Refused) → r ≡ Err q → (lots : List Lot) (t i : ℕ) → refuses (refusal_number q.why) ≡ carried_on leaving lots t i
+      stay_step q f lots t i = rw (same_told q leaving f is)
+
+      module _ (c : ℕ) (f : r ≡ Ok c) where
+        was_open : is_open k (take n.opened l) ≡ true
+        was_open = go leaving (leaving_is k (lent l n)) is
+          where
+            go : (x : Carried) → Leaving k (lent l n) x → leaves r l' n' ≡ x → is_open k (take n.opened l) ≡ true
+            go x (goes_out h g) w = g
+            go x (stays_in m p) w = never (cc (held c x f w))
+
+        one_less : n'.opened ≡ n.opened - 1
+        one_less = go leaving (leaving_is k (lent l n)) is
+          where
+            go : (x : Carried) → Leaving k (lent l n) x → leaves r l' n' ≡ x → n'.opened ≡ n.opened - 1
+            go x (goes_out h g) w = opened_is x w
+            go x (stays_in m p) w = never (cc (held c x f w))
+
+        -- the search that found nothing
+        pub no_none : place_in k (take n.opened l) ≡ None → ⊥
+        no_none e = never (cc (rw was_open at e))
+
+        module _ (i : ℕ) (e : place_in k (take n.opened l) ≡ Some i) where
+          at_first : (i ≡ first_at k (take n.opened l)) × (i < n.opened)
+          at_first =
+              let g = found k (take n.opened l) i e in
+              (g.1, omega (arith, g.2, length-take n.opened l))
+
+          pub below : i < n.opened
+          below = at_first.1
+
+          module _ (t w : ℕ) (lots : List Lot) (are : lots ≡ copy_within run.lots (i + 1) n.opened i) where
+            abbrev later : Run
+            later = record { lots = lots; taken = t; last = w }
+
+            left : take n'.opened lots ≡ left_out (first_at k (take n.opened l)) (take n.opened run.lots)
+            left = rw (one_less, are, ← at_first.0) (take_out i n.opened run.lots below (omega (arith, sound.few, sound.long)))
+
+            pub off_step : on (run_as l' n' later) ≡ carried_on leaving (left_out (first_at k (take n.opened l)) (take n.opened run.lots)) t w
+            off_step = rw (held c leaving f is, ← stored_is leaving is, left) refl
+
+            pub off_sound : length lots ≡ length run.lots → Sound n' later
+            off_sound h =
+                record {
+                  few = omega (arith, one_less, sound.few);
+                  long = h ∙ sound.long;
+                  light = rw left (light_less (first_at k (take n.opened l)) (take n.opened run.lots) sound.light);
+                }

@@ -1,23 +1,24 @@
--- One record: the next message entered, or a key withdrawn; and the index between.
-use mathlib.Core.Path.{◌≡◌, sym, ◌∙◌}
+-- The next message, and the index between.
+use mathlib.Core.Path.{◌≡◌, refl, sym, ap, ◌∙◌}
 use mathlib.Core.Bool.{Bool, true, false}
 use mathlib.Core.List.{List}
-use Prim.Native.Nat.{ℕ, ◌-◌, ◌≤◌, ◌<◌}
-use borrow.Author.Tests.{le-leb, le-ltb, lt-ltb}
+use Prim.Native.Nat.{ℕ, ◌≤◌}
+use borrow.Author.Tests.{le-leb, le-ltb}
 use lib.Dec.{ltb}
-use lib.ListN.{length, take, drop}
+use lib.ListN.{length}
+use Rattle.std.proofs.Common.{Option, Some, None}
 use Rattle.text.specs.Truth.{pick}
+use Rattle.text.proofs.Truths.{never}
 use Rattle.naming.specs.Key.{Keyed as KeyedBulk, keyed}
 use Rattle.twice.specs.Twice.{least_index, cleared}
 use Rattle.judge.proofs.Index.{in_room}
 use Rattle.keys.specs.Indexed.{unkeyed, keyed_with}
-use Rattle.recording.specs.declared.Line.{Line}
+use Rattle.recording.specs.Record.{Line}
 use Rattle.sums.specs.declared.Lot.{Lot}
 use Rattle.sums.specs.Sums.{no_lot, lot_of, lot_with}
 use Rattle.sums.proofs.Laws.{lot_most}
-use Rattle.play.specs.declared.Run.{Run}
-use Rattle.play.specs.Play.{refuses, begins, stops, lies, message_at, enters, enters_next, withdraws, step_of}
-use Rattle.play.specs.Code.{run_as, Light, Went, FreshIndex}
+use Rattle.play.specs.Play.{Run, Step, refuses, lies, message_at, enters, enters_next}
+use Rattle.play.specs.Code.{Light, message_in, FreshIndex}
 
 -- ---- a cleared index with room
 module _ (index : List ℕ) (f : FreshIndex index) where
@@ -39,33 +40,30 @@ pub lot_light : (m : List ℕ) (x : Lot) → x ≡ lot_of m → Light x
 lot_light m x e = rw e (record { first = lot_most m 0; second = lot_most m 1; third = lot_most m 2; fourth = lot_most m 3 })
 
 -- ---- the next message
-module _ (buffer ends : List ℕ) (run r : Run) (l : Line) where
-  pub none_lies : lies buffer ends run.taken ≡ false → Went run r (refuses 28) → Went run r (enters_next buffer ends l (run_as run))
-  none_lies e w = rw e w
+module _ (buffer ends : List ℕ) (l : Line) (r : Run) where
+  next_is : (b : Bool) (x : Step) → lies buffer ends r.taken ≡ b → x ≡ pick b (enters (message_at buffer ends r.taken) l r) (refuses 28) → x ≡ enters_next buffer ends l r
+  next_is b x e h = h ∙ rw e
 
-  pub next_lies : lies buffer ends run.taken ≡ true → (from to : ℕ) → from ≡ begins ends run.taken → to ≡ stops ends run.taken
-      → Went run r (enters (take (to - from) (drop from buffer)) l (run_as run)) → Went run r (enters_next buffer ends l (run_as run))
-  unfolding message_at
-  next_lies e from to f g w = rw (e, ← f, ← g) w
+  pub none_lies : None ≡ message_in buffer ends r.taken → refuses 28 ≡ enters_next buffer ends l r
+  none_lies h = go (lies buffer ends r.taken) refl h
+    where
+      go : (b : Bool) → lies buffer ends r.taken ≡ b → None ≡ pick b (Some (message_at buffer ends r.taken)) None → refuses 28 ≡ enters_next buffer ends l r
+      go true e h = never (cc)
+      go false e h = next_is false (refuses 28) e refl
 
-  -- ---- the record
-  pub no_fit : l.fits ≡ false → Went run r (refuses 26) → Went run r (step_of buffer ends l (run_as run))
-  no_fit e w = rw e w
+  pub next_lies : (m : List ℕ) → Some m ≡ message_in buffer ends r.taken → (x : Step) → x ≡ enters m l r → x ≡ enters_next buffer ends l r
+  next_lies m h x w = go (lies buffer ends r.taken) refl h
+    where
+      go : (b : Bool) → lies buffer ends r.taken ≡ b → Some m ≡ pick b (Some (message_at buffer ends r.taken)) None → x ≡ enters_next buffer ends l r
+      go true e h =
+          let z : m ≡ message_at buffer ends r.taken = cc in
+          next_is true x e (w ∙ ap (λ (t : List ℕ). enters t l r) z)
+      go false e h = never (cc)
 
-  module _ (fits : l.fits ≡ true) where
-    pub falls : l.instant < run.last → Went run r (refuses 27) → Went run r (step_of buffer ends l (run_as run))
-    falls h w = rw (fits, lt-ltb l.instant run.last h) w
-
-    module _ (stays : run.last ≤ l.instant) where
-      asked_of : (e : Bool) → l.entering ≡ e → Went run r (pick e (enters_next buffer ends l (run_as run)) (withdraws l (run_as run))) → Went run r (step_of buffer ends l (run_as run))
-      asked_of e z w = go l.fits fits (ltb l.instant run.last) (le-ltb l.instant run.last stays) l.entering z
-        where
-          go : (a : Bool) → a ≡ true → (b : Bool) → b ≡ false → (c : Bool) → c ≡ e
-              → Went run r (pick a (pick b (refuses 27) (pick c (enters_next buffer ends l (run_as run)) (withdraws l (run_as run)))) (refuses 26))
-          go a p b q c d = rw (p, q, d) w
-
-      pub enters_next_lem : l.entering ≡ true → Went run r (enters_next buffer ends l (run_as run)) → Went run r (step_of buffer ends l (run_as run))
-      enters_next_lem e w = asked_of true e w
-
-      pub withdraws_one : l.entering ≡ false → Went run r (withdraws l (run_as run)) → Went run r (step_of buffer ends l (run_as run))
-      withdraws_one e w = asked_of false e w
+  -- it is one of those that the list of ends has
+  pub taken_in : (m : List ℕ) → Some m ≡ message_in buffer ends r.taken → lies buffer ends r.taken ≡ true
+  taken_in m h = go (lies buffer ends r.taken) h
+    where
+      go : (b : Bool) → Some m ≡ pick b (Some (message_at buffer ends r.taken)) None → b ≡ true
+      go true h = refl
+      go false h = never (cc)

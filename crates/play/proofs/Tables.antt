@@ -76,42 +76,34 @@ row_most s l h g =
       fourth = omega (arith, cell_most s 3 (λ x k. k.fourth) l h);
     }
 
-light_at : (n i : ℕ) (l : List Lot) → AllLight (take n l) → i < n → i < length l → Light (get_or l i none)
-light_at zero i l h a b = never (omega arith)
-light_at (suc n) i [] h a b = never (omega arith)
-light_at (suc n) zero (x ∷ l) h a b = h.0
-light_at (suc n) (suc i) (x ∷ l) h a b = light_at n i l h.1 (omega arith) (omega arith)
+light_at : (i : ℕ) (l : List Lot) → AllLight l → i < length l → Light (get_or l i none)
+light_at i [] h b = never (omega arith)
+light_at zero (x ∷ l) h b = h.0
+light_at (suc i) (x ∷ l) h b = light_at i l h.1 (omega arith)
 
-light_first : (n i : ℕ) (l : List Lot) → AllLight (take n l) → i ≤ n → AllLight (take i l)
-light_first n zero l h a = tt
-light_first zero (suc i) l h a = never (omega arith)
-light_first (suc n) (suc i) [] h a = tt
-light_first (suc n) (suc i) (x ∷ l) h a = (h.0, light_first n i l h.1 (omega arith))
+light_first : (i : ℕ) (l : List Lot) → AllLight l → AllLight (take i l)
+light_first zero l h = tt
+light_first (suc i) [] h = tt
+light_first (suc i) (x ∷ l) h = (h.0, light_first i l h.1)
 
 -- ---- the loop: so many lots are added up
-module _ (lots : List Lot) (n : ℕ) (few : n ≤ most_open) (long : length lots ≡ most_open) (light : AllLight (take n lots)) (i : ℕ) (t : List (List ℕ)) (is : t ≡ table_of (take i lots)) (below : i < n) where
-  some-long : length (take i lots) ≤ most_open
-  some-long = omega (arith, length-take-le i lots (omega arith))
-
-  pub lot_fits : Within most_cell (get_or t 0 []) × Within most_cell (get_or t 1 []) × Light (get_or lots i none)
+module _ (lots : List Lot) (i : ℕ) (t : List (List ℕ)) (is : t ≡ table_of (take i lots)) (below : i < length lots) where
+  pub lot_fits : length lots ≤ most_open → AllLight lots → Within most_cell (get_or t 0 []) × Within most_cell (get_or t 1 []) × Light (get_or lots i none)
   unfolding table_of
-  lot_fits =
-      let h = light_first n i lots light (omega arith) in
-      rw is (row_most 1 (take i lots) h some-long, row_most 2 (take i lots) h some-long, light_at n i lots light below (omega arith))
+  lot_fits few light =
+      let h = light_first i lots light in
+      let n : length (take i lots) ≤ most_open = omega (arith, length-take-le i lots (omega arith)) in
+      rw is (row_most 1 (take i lots) h n, row_most 2 (take i lots) h n, light_at i lots light below)
 
   pub lot_more : (r : List (List ℕ)) → r ≡ with_lot t (get_or lots i none) → r ≡ table_of (take (i + 1) lots)
   lot_more r e =
       e
       ∙ (ap (λ (u : List (List ℕ)). with_lot u (get_or lots i none)) is
-      ∙ (table_more (take i lots) (get_or lots i none) ∙ ap table_of (rw (add-one i) (sym (take-suc lots i none (omega arith))))))
-
-pub table_end : (lots : List Lot) (n i : ℕ) (t : List (List ℕ)) → t ≡ table_of (take i lots) → i ≤ n → n ≤ i → t ≡ table_of (take n lots)
-table_end lots n i t e h g =
-    let z : i ≡ n = omega arith in
-    rw (← z) e
+      ∙ (table_more (take i lots) (get_or lots i none) ∙ ap table_of (rw (add-one i) (sym (take-suc lots i none below)))))
 
 pub flat_table : (t : List (List ℕ)) (l : List Lot) → t ≡ table_of l
-    → get_or (get_or t 0 []) 0 0 ∷ get_or (get_or t 0 []) 1 0 ∷ get_or (get_or t 0 []) 2 0 ∷ get_or (get_or t 0 []) 3 0 ∷ get_or (get_or t 1 []) 0 0 ∷ get_or (get_or t 1 []) 1 0 ∷ get_or (get_or t 1 []) 2 0
+    → get_or (get_or t 0 []) 0 0 ∷ get_or (get_or t 0 []) 1 0 ∷ get_or (get_or t 0 []) 2 0 ∷ get_or (get_or t 0 []) 3 0 ∷ get_or (get_or t 1 []) 0 0 ∷ get_or (get_or t 1 []) 1 0 ∷
+    get_or (get_or t 1 []) 2 0
     ∷ get_or (get_or t 1 []) 3 0
     ∷ []
     ≡ in_one (table_of l)

@@ -1,22 +1,35 @@
--- What the code's own structs mean, and how its run goes beside the paper's.
-use Rattle.std.specs.Prelude.{ℕ, ◌+◌, ◌*◌, ◌≤◌, ◌≡◌, true, false, List, [], ◌∷◌, length, take, set, get_or, replicate, eqb, leb}
+-- What the code's own types mean, and what its functions write.
+use Rattle.std.specs.Prelude.{ℕ, ◌+◌, ◌*◌, ◌≤◌, ◌≡◌, List, [], ◌∷◌, length, take, drop, set, get_or, replicate, eqb, leb, Option, Some, None, Result, Ok, Err}
 use Rattle.text.specs.Truth.{pick}
-use Rattle.accounts.specs.Lengths.{in_one}
+use Rattle.answers.specs.declared.Refused.{Refused}
+use Rattle.answers.specs.Refusals.{refusal_number}
 use Rattle.items.specs.Sums.{most_sum}
 use Rattle.twice.specs.Twice.{least_index}
 use Rattle.judge.specs.Index.{or_short}
 use Rattle.sums.specs.declared.Lot.{Lot}
+use Rattle.book.specs.declared.Entry.{Entry}
+use Rattle.book.specs.declared.Numbers.{Numbers}
 use Rattle.book.specs.Book.{most_open}
-use Rattle.book.specs.Calls.{Told, done, refusal}
+use Rattle.book.specs.Calls.{done, refusal}
 use Rattle.book.specs.Stored.{Stored}
-use Rattle.book.specs.Code.{stored_of}
+use Rattle.book.specs.Code.{lent}
 use Rattle.play.specs.declared.Run as code
 use Rattle.play.specs.declared.Played as answer
-use Rattle.play.specs.Play.{Run, Step, on, refuses, Played, as_lent, played}
+use Rattle.play.specs.Table.{zeros}
+use Rattle.play.specs.Play.{Run, Step, on, refuses, lies, message_at, Played, as_lent, played}
 
--- the paper's run of the code's: its lots are those of the open ones
-abbrev pub run_as : code.Run → Run
-run_as r = record { stored = stored_of r.entries r.opened r.total; lots = take r.opened r.lots; taken = r.taken; last = r.last }
+-- the paper's run of the code's, with the lent book: its lots are those of the open ones
+abbrev pub run_as : List Entry → Numbers → code.Run → Run
+run_as l n r = record { stored = lent l n; lots = take n.opened r.lots; taken = r.taken; last = r.last }
+
+-- what a record comes to, and what it leaves of the list and the numbers
+abbrev pub stepped : List Entry → Numbers → Result code.Run Refused → Step
+stepped l n (Ok r) = on (run_as l n r)
+stepped l n (Err r) = refuses (refusal_number r.why)
+
+-- message j, where it lies in the buffer
+abbrev pub message_in : List ℕ → List ℕ → ℕ → Option (List ℕ)
+message_in buffer ends j = pick (lies buffer ends j) (Some (message_at buffer ends j)) None
 
 -- each of a row's four sums is at most n
 pub record Within (n : ℕ) (row : List ℕ) : Type 0 where
@@ -36,15 +49,10 @@ abbrev pub AllLight : List Lot → Type 0
 AllLight [] = Unit {0}
 AllLight (x ∷ l) = Light x × AllLight l
 
-pub record Sound (r : code.Run) : Type 0 where
-  pub few : r.opened ≤ most_open
+pub record Sound (n : Numbers) (r : code.Run) : Type 0 where
+  pub few : n.opened ≤ most_open
   pub long : length r.lots ≡ most_open
-  pub light : AllLight (take r.opened r.lots)
-
--- a record is carried out, and the code's run is the paper's; or it is refused with the number, and the run is as it was
-abbrev pub Went : code.Run → code.Run → Step → Type 0
-Went before after (on s) = (after.on ≡ true) × (run_as after ≡ s) × Sound after
-Went before after (refuses n) = (after.on ≡ false) × (after.number ≡ n) × (run_as after ≡ run_as before) × Sound after
+  pub light : AllLight (take n.opened r.lots)
 
 -- two rows added, column by column
 abbrev pub added_row : List ℕ → List ℕ → List ℕ
@@ -57,13 +65,14 @@ with_lot t x =
     (set t 0 (added_row (get_or t 0 []) x.sums))
     (pick (eqb x.service 2) (set t 1 (added_row (get_or t 1 []) x.sums)) t)
 
--- the code's answer for each of the paper's
-abbrev pub answer_for : Told → Stored → List (List ℕ) → answer.Played
-answer_for (done i) s t = record { number = 0; place = i; opened = s.book.number; total = s.total; table = in_one t; entries = s.book.entries }
-answer_for (refusal n i) s t = record { number = n; place = i; opened = s.book.number; total = s.total; table = in_one t; entries = s.book.entries }
+-- a table that is laid flat, row behind row
+abbrev pub in_rows : List ℕ → List (List ℕ)
+in_rows t = take 4 t ∷ drop 4 t ∷ []
 
-abbrev pub answer_of : Played → answer.Played
-answer_of p = answer_for p.told p.stored p.table
+-- the paper's answer of the code's, with what it leaves of the list and the numbers
+abbrev pub played_as : List Entry → Numbers → Result answer.Played Refused → Played
+played_as l n (Ok p) = record { told = done p.records; stored = lent l n; table = in_rows p.table }
+played_as l n (Err r) = record { told = refusal (refusal_number r.why) r.at; stored = lent l n; table = zeros }
 
 -- the first 64 entries of a list that has so many places
 unfoldable pub played_on : ℕ → List ℕ → List ℕ → List ℕ → List ℕ → Stored → Played

@@ -4,8 +4,7 @@ use Rattle.text.specs.Truth.{pick, all_of, part}
 use Rattle.text.specs.Quoted.{alike}
 use Rattle.reading.specs.Verdict.{Judged, accepted, refused}
 use Rattle.naming.specs.Key.{keyed}
-use Rattle.recording.specs.declared.Line.{Line}
-use Rattle.recording.specs.Record.{line_length, line_of}
+use Rattle.recording.specs.Record.{line_length, Line, line_of}
 use Rattle.sums.specs.declared.Lot.{Lot}
 use Rattle.sums.specs.Sums.{lot_of}
 use Rattle.judge.specs.Index.{or_short}

@@ -1,142 +1,98 @@
 // A day played back from a recording: each record one call of the day book, from the emptied book.
 #![tactic(auto)]
 
-ghost use Rattle.std.specs.Prelude.{◌≡◌, true, List, [], ◌∷◌, ◌++◌, ℕ, suc, ◌+◌, ◌*◌, ◌≤◌, ◌<◌, length, take, get_or};
-ghost use Rattle.twice.specs.Twice.{least_index, cleared};
-ghost use Rattle.naming.specs.Key.{keyed};
-ghost use Rattle.keys.specs.Engine.{keyed_as};
-ghost use Rattle.sums.specs.Sums.{lot_of};
+ghost use Rattle.std.specs.Prelude.{◌≡◌, List, [], ◌∷◌, ◌++◌, ℕ, suc, ◌+◌, ◌≤◌, ◌<◌, length, take, get_or, Some, Ok, IfOk, OnErr};
+ghost use Rattle.std.specs.Option.{option_map};
 ghost use Rattle.accounts.specs.Lengths.{in_one};
 ghost use Rattle.items.specs.Sums.{most_sum};
+ghost use Rattle.naming.specs.Key.{keyed};
+ghost use Rattle.twice.specs.Twice.{cleared};
+ghost use Rattle.sums.specs.Sums.{lot_of};
 ghost use Rattle.book.specs.Book.{most_open, open_in, first_at};
 ghost use Rattle.book.specs.Calls.{enter, withdraw};
 ghost use Rattle.book.specs.Stored.{kept};
-ghost use Rattle.book.specs.Code.{in_range, shifted, left_out, stored_of};
+ghost use Rattle.book.specs.Code.{in_range, left_out, lent};
+ghost use Rattle.keys.specs.Engine.{keyed_as};
+ghost use Rattle.recording.specs.Record.{line_of, line_as};
 ghost use Rattle.play.specs.Table.{table_of};
-ghost use Rattle.recording.specs.Record.{line_of};
-ghost use Rattle.play.specs.Play.{emptied, refuses, carried_on, enters, enters_next, step_of, begins, stops, lies, record_at, records, as_lent, ended, played};
-ghost use Rattle.play.specs.Code.{run_as, Within, most_cell, Light, AllLight, Sound, Went, added_row, with_lot, answer_of, FreshIndex, played_on};
+ghost use Rattle.play.specs.Play.{emptied, carried_on, enters, enters_next, step_of, record_at, records, ended, played, played_with};
+ghost use Rattle.play.specs.Code.{run_as, stepped, Within, most_cell, Light, AllLight, Sound, added_row, with_lot, message_in, played_as, FreshIndex};
 
-use book::{Ask, Call, Entry, Outcome};
-use judge::Verdict;
-use recording::Line;
+use answers::{Refusal, Refused};
+use book::{Call, Entry, Numbers};
+use recording::{Line, Side};
 use sums::{Lot, Weighed};
 
-// The run between two records: whether it goes on, or the number of a refusal; the book's first 64 entries, the number open and the total; what each open
-// bulk adds to the table; how many messages are taken; the last instant.
+// What a run keeps beside the book: what each open bulk adds to the table, in the order of the open ones; how many messages are taken; the last instant.
 #[derive(Clone, Copy)]
 pub struct Run {
-    pub on: bool,
-    pub number: u8,
-    pub opened: usize,
-    pub total: u64,
+    pub lots: [Lot; book::MOST],
     pub taken: usize,
     pub last: u64,
-    pub entries: [Entry; book::MOST],
-    pub lots: [Lot; book::MOST],
 }
 
-// A refusal's number and the record's number, or 0 and how many records; the book afterwards; the table, laid flat.
+// How many records were carried out; and the table, laid flat.
 #[derive(Clone, Copy)]
 pub struct Played {
-    pub number: u8,
-    pub place: usize,
-    pub opened: usize,
-    pub total: u64,
+    pub records: usize,
     pub table: [u64; 8],
-    pub entries: [Entry; book::MOST],
-}
-
-// A record is refused: the run stays as it is.
-fn refuse(run: Run, number: u8) -> Run
-    requires { Sound run }
-    ensures { Went run result (refuses number) }
-{
-    let mut out = run;
-    out.on = false;
-    out.number = number;
-    out
-}
-
-// The later lots of the open bulks move down one place.
-fn shift_lots(lots: [Lot; book::MOST], at: usize, opened: usize) -> [Lot; book::MOST]
-    requires { (at < opened) × (opened ≤ most_open) }
-    ensures { result ≡ shifted at opened lots }
-{
-    let mut out = lots;
-    let mut i = at;
-    while i + 1 < opened {
-        let x = out[i + 1];
-        out[i] = x;
-        i += 1;
-    }
-    out
 }
 
 // A bulk is entered, and what it adds to the table stands behind that of the others.
-fn put_in(run: Run, e: Entry, lot: Lot, taken: usize, instant: u64) -> Run
-    requires { Sound run × Light lot }
-    ensures { Went run result (carried_on (kept (enter (in_range e)) (run_as run).stored) ((run_as run).lots ++ (lot ∷ [])) taken instant) }
+fn put_in(
+    entries: &mut [Entry],
+    numbers: &mut Numbers,
+    run: Run,
+    bulk: Entry,
+    lot: Lot,
+    instant: u64,
+) -> Result<Run, Refused>
+    requires sound { Sound numbers.old run }
+    requires light { Light lot }
+    requires fits { run.taken + 1 < 18446744073709551616 }
+    ensures step { stepped entries.new numbers.new result ≡ carried_on (kept (enter (in_range bulk)) (lent entries.old numbers.old))
+        (take numbers.old.opened run.lots ++ (lot ∷ [])) (run.taken + 1) instant }
+    ensures sound { IfOk result (Sound numbers.new) }
+    ensures kept { OnErr result (lent entries.new numbers.new ≡ lent entries.old numbers.old) }
 {
-    let b = run.entries;
-    let opened = run.opened;
-    let o = book::act_on(
-        b,
-        book::MOST,
-        opened,
-        run.total,
-        Call {
-            ask: Ask::Enter,
-            entry: e,
-        },
-    );
-    let k = o.kept;
-    let a = k.answer;
-    if a.number != 0 {
-        return refuse(run, a.number);
-    }
+    let opened = numbers.opened;
+    book::act(entries, numbers, Call::Enter(bulk))?;
     let mut lots = run.lots;
     lots[opened] = lot;
-    let entries = o.entries;
-    Run {
-        on: true,
-        number: 0,
-        opened: a.opened,
-        total: k.total,
-        taken,
-        last: instant,
-        entries,
+    Ok(Run {
         lots,
-    }
+        taken: run.taken + 1,
+        last: instant,
+    })
 }
 
 // A key is withdrawn, and what its bulk adds to the table goes.
-fn take_out(run: Run, key: [u8; naming::LENGTH], instant: u64) -> Run
-    requires { Sound run }
-    ensures { Went run result (carried_on (kept (withdraw key) (run_as run).stored) (left_out (first_at key (open_in (run_as run).stored.book)) (run_as run).lots) run.taken instant) }
+fn take_out(
+    entries: &mut [Entry],
+    numbers: &mut Numbers,
+    run: Run,
+    key: [u8; naming::LENGTH],
+    instant: u64,
+) -> Result<Run, Refused>
+    requires room { most_open ≤ length entries.old }
+    requires sound { Sound numbers.old run }
+    ensures step { stepped entries.new numbers.new result ≡ carried_on (kept (withdraw key) (lent entries.old numbers.old))
+        (left_out (first_at key (take numbers.old.opened entries.old)) (take numbers.old.opened run.lots)) run.taken instant }
+    ensures sound { IfOk result (Sound numbers.new) }
+    ensures kept { OnErr result (lent entries.new numbers.new ≡ lent entries.old numbers.old) }
 {
-    let b = run.entries;
-    let opened = run.opened;
-    let o = book::act_on(b, book::MOST, opened, run.total, book::withdrawing(key));
-    let k = o.kept;
-    let a = k.answer;
-    if a.number != 0 {
-        return refuse(run, a.number);
+    let opened = numbers.opened;
+    let place = book::place_of(&entries[..opened], &key);
+    book::act(entries, numbers, Call::Withdraw(key))?;
+    let mut lots = run.lots;
+    if let Some(at) = place {
+        lots.copy_within(at + 1..opened, at);
     }
-    let at = book::place_of(b, opened, key);
-    let old = run.lots;
-    let lots = shift_lots(old, at, opened);
-    let entries = o.entries;
-    Run {
-        on: true,
-        number: 0,
-        opened: a.opened,
-        total: k.total,
+    Ok(Run {
+        lots,
         taken: run.taken,
         last: instant,
-        entries,
-        lots,
-    }
+    })
 }
 
 // Two rows of the table added.
@@ -152,35 +108,27 @@ fn add_lot(t: [[u64; 4]; 2], x: Lot) -> [[u64; 4]; 2]
     requires { Within most_cell (get_or t 0 []) × Within most_cell (get_or t 1 []) × Light x }
     ensures { result ≡ with_lot t x }
 {
-    let mut out = t;
-    let sums = x.sums;
-    if x.service == 1 {
-        let core = t[0];
-        out[0] = add_rows(core, sums);
-        return out;
+    let [core, b2b] = t;
+    match x.service {
+        1 => [add_rows(core, x.sums), b2b],
+        2 => [core, add_rows(b2b, x.sums)],
+        _ => t,
     }
-    if x.service == 2 {
-        let b2b = t[1];
-        out[1] = add_rows(b2b, sums);
-        return out;
-    }
-    out
 }
 
 // The table of the open bulks.
-fn table_of(lots: [Lot; book::MOST], opened: usize) -> [[u64; 4]; 2]
-    requires { (opened ≤ most_open) × (length lots ≡ most_open) × AllLight (take opened lots) }
-    ensures { result ≡ table_of (take opened lots) }
+fn table_of(lots: &[Lot]) -> [[u64; 4]; 2]
+    requires few { length lots.now ≤ most_open }
+    requires light { AllLight lots.now }
+    ensures { result ≡ table_of lots.now }
 {
-    let mut t = [[0; 4]; 2];
-    let mut i = 0;
-    while i < opened {
-        let x = lots[i];
-        let more = add_lot(t, x);
-        t = more;
-        i += 1;
+    let mut table = [[0; 4]; 2];
+    for lot in lots {
+        // A call's array is bound first: laid into `table` itself, the function gets no generated proof.
+        let more = add_lot(table, *lot);
+        table = more;
     }
-    t
+    table
 }
 
 // The table laid flat.
@@ -192,113 +140,93 @@ fn lay_flat(t: [[u64; 4]; 2]) -> [u64; 8]
     [a[0], a[1], a[2], a[3], b[0], b[1], b[2], b[3]]
 }
 
-// The run is refused at a record, with the book as it is.
-fn stop(run: Run, number: u8, place: usize) -> Played
-    ensures { result ≡ answer_of (as_lent number place (run_as run).stored) }
+// Message j, from the end before it, or 0, to its own: none where no message is left, or its end falls or lies outside the buffer.
+fn message<'a>(buffer: &'a [u8], ends: &'a [u64], j: usize) -> Option<&'a [u8]>
+    ensures { option_map (λ m. m.now) result ≡ message_in buffer.now ends.now j }
 {
-    let entries = run.entries;
-    Played {
-        number,
-        place,
-        opened: run.opened,
-        total: run.total,
-        table: [0; 8],
-        entries,
-    }
+    let to = *ends.get(j)? as usize;
+    let from = if j == 0 { 0 } else { ends[j - 1] as usize };
+    buffer.get(from..to)
 }
 
-// After the last record: 28 where messages are left over, else the table.
-fn finish(run: Run, ends: &[u64], i: usize) -> Played
-    requires { Sound run }
-    ensures { result ≡ answer_of (ended ends.now i (run_as run)) }
+// A message that was weighed is entered under the record's key: the judge's own refusal; 28 where the keys differ; the book's own.
+fn enter_as(
+    entries: &mut [Entry],
+    numbers: &mut Numbers,
+    run: Run,
+    line: Line,
+    weighed: Weighed,
+) -> Result<Run, Refused>
+    requires sound { Sound numbers.old run }
+    requires light { Light weighed.lot }
+    requires fits { run.taken + 1 < 18446744073709551616 }
+    ensures step { (m : List ℕ) → keyed_as (Ok weighed.keyed) ≡ keyed m → weighed.lot ≡ lot_of m
+        → stepped entries.new numbers.new result ≡ enters m (line_as (Some line)) (run_as entries.old numbers.old run) }
+    ensures sound { IfOk result (Sound numbers.new) }
+    ensures kept { OnErr result (lent entries.new numbers.new ≡ lent entries.old numbers.old) }
 {
-    if run.taken < ends.len() {
-        return stop(run, 28, i);
+    let Weighed { keyed, lot } = weighed;
+    if keyed.key != line.key {
+        return Err(Refusal::OtherMessage.at(0));
     }
-    let lots = run.lots;
-    let entries = run.entries;
-    let table = lay_flat(table_of(lots, run.opened));
-    Played {
-        number: 0,
-        place: i,
-        opened: run.opened,
-        total: run.total,
-        table,
-        entries,
-    }
+    let bulk = Entry {
+        key: keyed.key,
+        cents: keyed.accepted.cents,
+    };
+    put_in(entries, numbers, run, bulk, lot, line.instant)
 }
 
-// Where a message lies in the buffer, and whether it does; and the number of the next one.
-#[derive(Clone, Copy)]
-struct Span {
-    lies: bool,
-    from: usize,
-    to: usize,
-    next: usize,
+// The next message is entered: 28 where there is none that lies in the buffer.
+fn enter_next(
+    buffer: &[u8],
+    ends: &[u64],
+    index: &mut [u32],
+    entries: &mut [Entry],
+    numbers: &mut Numbers,
+    run: Run,
+    line: Line,
+) -> Result<Run, Refused>
+    requires sound { Sound numbers.old run }
+    requires fresh { FreshIndex index.old }
+    ensures step { stepped entries.new numbers.new result ≡ enters_next buffer.now ends.now (line_as (Some line)) (run_as entries.old numbers.old run) }
+    ensures sound { IfOk result (Sound numbers.new) }
+    ensures kept { OnErr result (lent entries.new numbers.new ≡ lent entries.old numbers.old) }
+    ensures index { index.new ≡ index.old }
+{
+    let Some(message) = message(buffer, ends, run.taken) else {
+        return Err(Refusal::OtherMessage.at(0));
+    };
+    let weighed = sums::weigh(message, index)?;
+    enter_as(entries, numbers, run, line, weighed)
 }
 
-// Where message j lies: from the end before it to its own.
-fn find_message(buffer: &[u8], ends: &[u64], j: usize) -> Span
-    ensures { (result.lies ≡ lies buffer.now ends.now j) × (result.from ≡ begins ends.now j) × (result.to ≡ stops ends.now j)
-        × (result.lies ≡ true → result.next ≡ j + 1) }
+// One record: 26, 27, and then an entry or a withdrawal. Where it is refused, the book is as before. The place that the judge or the book tells gives way to the record's number.
+fn step_on(
+    buffer: &[u8],
+    ends: &[u64],
+    index: &mut [u32],
+    entries: &mut [Entry],
+    numbers: &mut Numbers,
+    run: Run,
+    said: Option<Line>,
+) -> Result<Run, Refused>
+    requires room { most_open ≤ length entries.old }
+    requires sound { Sound numbers.old run }
+    requires fresh { FreshIndex index.old }
+    ensures step { stepped entries.new numbers.new result ≡ step_of buffer.now ends.now (line_as said) (run_as entries.old numbers.old run) }
+    ensures sound { IfOk result (Sound numbers.new) }
+    ensures kept { OnErr result (lent entries.new numbers.new ≡ lent entries.old numbers.old) }
+    ensures index { index.new ≡ index.old }
 {
-    let from = end_before(ends, j);
-    if ends.len() <= j {
-        return Span {
-            lies: false,
-            from,
-            to: 0,
-            next: 0,
-        };
+    let Some(line) = said else {
+        return Err(Refusal::NoRecord.at(0));
+    };
+    if line.instant < run.last {
+        return Err(Refusal::TimeFalls.at(0));
     }
-    let to = ends[j] as usize;
-    if to < from {
-        return Span {
-            lies: false,
-            from,
-            to,
-            next: 0,
-        };
-    }
-    Span {
-        lies: to <= buffer.len(),
-        from,
-        to,
-        next: j + 1,
-    }
-}
-
-// The end of the message before message j; 0 before the first.
-fn end_before(ends: &[u64], j: usize) -> usize
-    ensures { result ≡ begins ends.now j }
-{
-    if j == 0 {
-        return 0;
-    }
-    if ends.len() < j {
-        return 0;
-    }
-    ends[j - 1] as usize
-}
-
-// A message that was judged is entered under the record's key: the judge's own refusal; 28 where the keys differ; the book's own.
-fn enter_as(run: Run, l: Line, w: Weighed, next: usize) -> Run
-    requires { Sound run × Light w.lot × (next ≡ run.taken + 1) }
-    ensures { (m : List ℕ) → keyed_as w.keyed ≡ keyed m → w.lot ≡ lot_of m → Went run result (enters m l (run_as run)) }
-{
-    let k = w.keyed;
-    let verdict = k.verdict;
-    let lot = w.lot;
-    match verdict {
-        Verdict::Refused(number, _) => refuse(run, number),
-        Verdict::Accepted(_, cents) => {
-            let key = k.key;
-            let said = l.key;
-            if !text::same(&key, &said) {
-                return refuse(run, 28);
-            }
-            put_in(run, Entry { key, cents }, lot, next, l.instant)
-        }
+    match line.side {
+        Side::Entry => enter_next(buffer, ends, index, entries, numbers, run, line),
+        Side::Withdrawal => take_out(entries, numbers, run, line.key, line.instant),
     }
 }
 
@@ -306,76 +234,46 @@ fn enter_as(run: Run, l: Line, w: Weighed, next: usize) -> Run
 fn count_records(recording: &[u8]) -> usize
     ensures { result ≡ records recording.now }
 {
-    let n = recording.len();
-    if n % recording::LENGTH == 0 {
-        return n / recording::LENGTH;
-    }
-    n / recording::LENGTH + 1
+    recording.len().div_ceil(recording::LENGTH)
 }
 
 // What record i says.
-fn line_at(recording: &[u8], i: usize) -> Line
+fn line_at(recording: &[u8], i: usize) -> Option<Line>
     requires { i < records recording.now }
-    ensures { result ≡ line_of (record_at recording.now i) }
+    ensures { line_as result ≡ line_of (record_at recording.now i) }
 {
-    let from = recording::LENGTH * i;
-    if recording.len() - from < recording::LENGTH {
-        return recording::read_line(&recording[from..]);
-    }
-    let to = from + recording::LENGTH;
-    recording::read_line(&recording[from..to])
+    let rest = &recording[recording::LENGTH * i..];
+    recording::read_line(&rest[..rest.len().min(recording::LENGTH)])
 }
 
-// The next message is entered: 28 where there is none that lies in the buffer.
-fn enter_next(buffer: &[u8], ends: &[u64], index: &mut [u32], run: Run, l: Line) -> Run
-    requires { Sound run × FreshIndex index.old }
-    ensures { Went run result (enters_next buffer.now ends.now l (run_as run)) × (index.new ≡ index.old) }
+// The run before the first record: no bulk is open.
+fn begin() -> Run
+    ensures emptied { (l : List Entry) → run_as l (record { opened = 0; total = 0 }) result ≡ emptied l }
+    ensures sound { Sound (record { opened = 0; total = 0 }) result }
 {
-    let s = find_message(buffer, ends, run.taken);
-    if !s.lies {
-        return refuse(run, 28);
-    }
-    let from = s.from;
-    let to = s.to;
-    let w = sums::weigh(&buffer[from..to], index);
-    enter_as(run, l, w, s.next)
-}
-
-// One record: 26, 27, and then an entry or a withdrawal.
-fn step_on(buffer: &[u8], ends: &[u64], index: &mut [u32], run: Run, l: Line) -> Run
-    requires { Sound run × FreshIndex index.old }
-    ensures { Went run result (step_of buffer.now ends.now l (run_as run)) × (index.new ≡ index.old) }
-{
-    if !l.fits {
-        return refuse(run, 26);
-    }
-    if l.instant < run.last {
-        return refuse(run, 27);
-    }
-    if l.entering {
-        return enter_next(buffer, ends, index, run, l);
-    }
-    let key = l.key;
-    take_out(run, key, l.instant)
-}
-
-// The run before the first record: nothing is open, and the places keep what they hold.
-fn begin(entries: [Entry; book::MOST]) -> Run
-    ensures { (result.on ≡ true) × (run_as result ≡ emptied entries) × Sound result }
-{
+    let none = Lot {
+        service: 0,
+        sums: [0; 4],
+    };
     Run {
-        on: true,
-        number: 0,
-        opened: 0,
-        total: 0,
+        lots: [none; book::MOST],
         taken: 0,
         last: 0,
-        entries,
-        lots: [Lot {
-            service: 0,
-            sums: [0; 4],
-        }; book::MOST],
     }
+}
+
+// After the last record: 28 where messages are left over, else the table.
+fn finish(ends: &[u64], numbers: Numbers, run: Run, records: usize) -> Result<Played, Refused>
+    requires { Sound numbers run }
+    ensures { (l : List Entry) → played_as l numbers result ≡ ended ends.now records (run_as l numbers run) }
+{
+    if run.taken < ends.len() {
+        return Err(Refusal::OtherMessage.at(records));
+    }
+    Ok(Played {
+        records,
+        table: lay_flat(table_of(&run.lots[..numbers.opened])),
+    })
 }
 
 // All records, one behind the other, up to the first that is refused.
@@ -383,62 +281,49 @@ fn play_on(
     recording: &[u8],
     buffer: &[u8],
     ends: &[u64],
+    entries: &mut [Entry],
+    numbers: &mut Numbers,
     index: &mut [u32],
-    entries: [Entry; book::MOST],
-) -> Played
-    requires { FreshIndex index.old }
-    ensures { (result ≡ answer_of (played recording.now buffer.now ends.now entries)) × (index.new ≡ index.old) }
+) -> Result<Played, Refused>
+    requires room { most_open ≤ length entries.old }
+    requires fresh { FreshIndex index.old }
+    ensures played { played_as entries.new numbers.new result ≡ played recording.now buffer.now ends.now entries.old }
+    ensures index { index.new ≡ index.old }
 {
+    *numbers = Numbers {
+        opened: 0,
+        total: 0,
+    };
+    let mut run = begin();
     let n = count_records(recording);
-    let mut run = begin(entries);
-    let mut i = 0;
-    while i < n {
-        let l = line_at(recording, i);
-        let next = step_on(buffer, ends, index, run, l);
-        if !next.on {
-            return stop(next, next.number, i);
+    for i in 0..n {
+        let said = line_at(recording, i);
+        match step_on(buffer, ends, index, entries, numbers, run, said) {
+            Ok(next) => run = next,
+            Err(refused) => return Err(refused.why.at(i)),
         }
-        run = next;
-        i += 1;
     }
-    finish(run, ends, i)
+    finish(ends, *numbers, run, n)
 }
 
-// A day played back on the first 64 entries of a list of so many places: 25, 29, and then the run from the emptied book. The index is cleared.
-pub fn play<'a>(
-    recording: &'a [u8],
-    buffer: &'a [u8],
-    ends: &'a [u64],
-    entries: [Entry; book::MOST],
-    places: usize,
-    opened: usize,
-    total: u64,
-    index: &'a mut [u32],
-) -> Played
-    ensures { (result ≡ answer_of (played_on places index.old recording.now buffer.now ends.now (stored_of entries opened total)))
-        × (index.new ≡ cleared index.old) }
+// A day played back on a lent book: 25, 29, and then the run from the emptied book. The index is cleared.
+pub fn play(
+    recording: &[u8],
+    buffer: &[u8],
+    ends: &[u64],
+    entries: &mut [Entry],
+    numbers: &mut Numbers,
+    index: &mut [u32],
+) -> Result<Played, Refused>
+    ensures played { played_as entries.new numbers.new result ≡ played_with index.old recording.now buffer.now ends.now (lent entries.old numbers.old) }
+    ensures index { index.new ≡ cleared index.old }
 {
     if index.len() < twice::LEAST_INDEX {
-        return refuse_all(entries, opened, total, 25);
+        return Err(Refusal::ShortIndex.at(0));
     }
-    let none: [u32; 1] = [0; 1];
-    let found = twice::quickly(&recording[..0], &none, index);
-    if places < book::MOST {
-        return refuse_all(entries, opened, total, 29);
+    index.fill(0);
+    if entries.len() < book::MOST {
+        return Err(Refusal::NoBook.at(0));
     }
-    play_on(recording, buffer, ends, index, entries)
-}
-
-// The whole run is refused, with the book as lent.
-fn refuse_all(entries: [Entry; book::MOST], opened: usize, total: u64, number: u8) -> Played
-    ensures { result ≡ answer_of (as_lent number 0 (stored_of entries opened total)) }
-{
-    Played {
-        number,
-        place: 0,
-        opened,
-        total,
-        table: [0; 8],
-        entries,
-    }
+    play_on(recording, buffer, ends, entries, numbers, index)
 }

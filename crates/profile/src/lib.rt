@@ -13,7 +13,7 @@ use codes::Element;
 use tags::Look;
 
 // The versions of the message that are judged.
-#[derive(Clone, Copy)]
+#[derive(Clone, Copy, PartialEq, Eq)]
 pub enum Version {
     V02,
     V08,
@@ -25,7 +25,7 @@ pub const MOST_BYTES: usize = 16_777_216;
 pub const MOST_ITEMS: u64 = 10_000;
 
 // The kinds whose checker answers yes or a refusal.
-#[derive(Clone, Copy)]
+#[derive(Clone, Copy, PartialEq, Eq)]
 pub enum Simple {
     Reference,
     EndToEnd,
@@ -49,7 +49,7 @@ pub enum Kind {
 }
 
 // Every element that holds a value, in the order of the profile: the header's, then an item's.
-#[derive(Clone, Copy)]
+#[derive(Clone, Copy, PartialEq, Eq)]
 pub enum Field {
     MsgId,
     CreDtTm,
@@ -87,48 +87,14 @@ pub const FIELDS: usize = 27;
 pub fn number_of(f: Field) -> usize
     ensures { result ≡ field_number f }
 {
-    match f {
-        Field::MsgId => 0,
-        Field::CreDtTm => 1,
-        Field::NbOfTxs => 2,
-        Field::TtlIntrBkSttlmAmt => 3,
-        Field::IntrBkSttlmDt => 4,
-        Field::SttlmMtd => 5,
-        Field::InstgBic => 6,
-        Field::InstrId => 7,
-        Field::EndToEndId => 8,
-        Field::TxId => 9,
-        Field::SvcLvl => 10,
-        Field::LclInstrm => 11,
-        Field::SeqTp => 12,
-        Field::IntrBkSttlmAmt => 13,
-        Field::ChrgBr => 14,
-        Field::ReqdColltnDt => 15,
-        Field::MndtId => 16,
-        Field::DtOfSgntr => 17,
-        Field::CdtrId => 18,
-        Field::Prtry => 19,
-        Field::CdtrNm => 20,
-        Field::CdtrIban => 21,
-        Field::CdtrBic => 22,
-        Field::DbtrNm => 23,
-        Field::DbtrIban => 24,
-        Field::DbtrBic => 25,
-        Field::Ustrd => 26,
-    }
+    f as usize
 }
 
 // Whether a value of this kind has a currency in its start tag.
 pub fn is_amount(k: Kind) -> bool
     ensures { result ≡ is_amount k }
 {
-    match k {
-        Kind::Plain(_) => false,
-        Kind::Count => false,
-        Kind::Total => true,
-        Kind::Amount => true,
-        Kind::Code(_) => false,
-    }
+    matches!(k, Kind::Total | Kind::Amount)
 }
 
 // How many bytes the root tag has.
@@ -138,34 +104,24 @@ pub const ROOT: usize = 65;
 pub fn root_at(v: Version, s: &[u8]) -> Look
     ensures { result ≡ look (exactly (root v)) s.now }
 {
-    match v {
-        Version::V02 => tags::text_at(
-            b"<Document xmlns=\"urn:iso:std:iso:20022:tech:xsd:pacs.003.001.02\">",
-            s,
-        ),
-        Version::V08 => tags::text_at(
-            b"<Document xmlns=\"urn:iso:std:iso:20022:tech:xsd:pacs.003.001.08\">",
-            s,
-        ),
-    }
+    let text = match v {
+        Version::V02 => b"<Document xmlns=\"urn:iso:std:iso:20022:tech:xsd:pacs.003.001.02\">",
+        Version::V08 => b"<Document xmlns=\"urn:iso:std:iso:20022:tech:xsd:pacs.003.001.08\">",
+    };
+    tags::text_at(text, s)
 }
 
 // Whether a tag is the count's start tag.
 pub fn is_count(tag: &[u8]) -> bool
     ensures { result ≡ alike count_tag tag.now }
 {
-    text::same(b"<NbOfTxs>", tag)
+    tag == b"<NbOfTxs>".as_slice()
 }
 
 // Whether a tag is the start tag of a value that is collapsed.
 pub fn is_words(tag: &[u8]) -> bool
     ensures { result ≡ words_tag tag.now }
 {
-    if text::same(b"<EndToEndId>", tag) {
-        return true;
-    }
-    if text::same(b"<Nm>", tag) {
-        return true;
-    }
-    text::same(b"<Ustrd>", tag)
+    // (By `same`: one `matches!` leaves a goal for each byte of the three tags, 27 and more, and they did not close alone.)
+    text::same(b"<EndToEndId>", tag) || text::same(b"<Nm>", tag) || text::same(b"<Ustrd>", tag)
 }

@@ -15,8 +15,9 @@ use Rattle.reading.specs.Trace.{Trace, up_to, missing, trace}
 use Rattle.reading.specs.Noted.{Reading, on, stop, Ended}
 use Rattle.reading.proofs.Flat.{never}
 use Rattle.items.specs.Sums.{amounts_in}
+use Rattle.table.specs.declared.Occ as code
 use Rattle.table.specs.declared.Row.{Row}
-use Rattle.table.specs.Table.{tags, occ_of, mark_name, opens_by, due, many_rows}
+use Rattle.table.specs.Table.{repeats, tags, occ_of, mark_name, opens_by, due, many_rows}
 use Rattle.notes.specs.declared.Notes.{Notes}
 use Rattle.notes.specs.Steps.{reads, Good, Room, Fine}
 use Rattle.notes.proofs.Notings.{here}
@@ -79,7 +80,7 @@ module _ (v : Version) (m : List ℕ) (first : ℕ) (s₀ : Ended Notes) (l₀ :
   loop_end x e f g = (e ∙ sym l.same, later m s₀.at q.at (omega (arith, l.on)) x f, g ∙ sym l.places)
 
   module _ (r : Row) (next_row : r.next < many_rows v) (names : List ℕ) (lent : names ≡ tags v) (t : Tells v k (due v k) r)
-      (occ : ℕ) (now : occ_of occ ≡ pick seen more (occ_of r.occ)) (w : Look) (lies : w ≡ look (opens_by names r) (drop q.at m)) where
+      (occ : code.Occ) (now : occ_of occ ≡ pick seen more (occ_of r.occ)) (w : Look) (lies : w ≡ look (opens_by names r) (drop q.at m)) where
     says : (c : Look) → w ≡ c → c ≡ look (opens_by (tags v) r) (drop (skipped m s.at) m)
     says c e = sym e ∙ (lies ∙ rw (lent, at))
 
@@ -117,12 +118,12 @@ module _ (v : Version) (m : List ℕ) (first : ℕ) (s₀ : Ended Notes) (l₀ :
         (sym (l.same ∙ cut m v k (due v k) r t l.left seen occ now s.at s.notes (says Cut e))) (omega arith) in
         (y.0, y.1, sym (l.places ∙ cut_placed m v k (due v k) r t l.left seen occ now s.at s.notes ps (says Cut e)))
 
-    module _ (e : w ≡ Other) (b : Found) (held : b ≡ reads (missing (occ_of occ) (mark_name r.mark) q.at (up_to q.at)) q.notes) where
-      missed-in : b ≡ reads (missing (occ_of occ) (mark_name r.mark) (skipped m s.at) (up_to (skipped m s.at))) s.notes
+    module _ (e : w ≡ Other) (b : Found) (held : b ≡ reads (missing (occ_of occ) (mark_name r.typed) q.at (up_to q.at)) q.notes) where
+      missed-in : b ≡ reads (missing (occ_of occ) (mark_name r.typed) (skipped m s.at) (up_to (skipped m s.at))) s.notes
       missed-in = held ∙ rw at
 
       fine : Fine m q.at b
-      fine = rw held (missing_fine m (occ_of occ) (mark_name r.mark) q.at q.notes good)
+      fine = rw held (missing_fine m (occ_of occ) (mark_name r.typed) q.at q.notes good)
 
       pub loop_miss : halts b ≡ true → Reads b ps
       loop_miss h =
@@ -136,7 +137,7 @@ module _ (v : Version) (m : List ℕ) (first : ℕ) (s₀ : Ended Notes) (l₀ :
       loop_pass u z =
           let g = fine_on m q.at b u z fine in
           on-to-next u ps refl g.0 g.1
-          (missing_room (occ_of occ) (mark_name r.mark) q.at q.notes u (z ∙ held) (amounts_in (rest_in (due v k))) (omega (arith, due-room, split (due v k))))
+          (missing_room (occ_of occ) (mark_name r.typed) q.at q.notes u (z ∙ held) (amounts_in (rest_in (due v k))) (omega (arith, due-room, split (due v k))))
           (passed m v k (due v k) r t l.left seen occ now s.at s.notes (says Other e) u (z ∙ missed-in))
           (passed_placed m v k (due v k) r t l.left seen occ now s.at s.notes ps (says Other e) u (z ∙ missed-in))
 
@@ -162,14 +163,14 @@ module _ (v : Version) (m : List ℕ) (first : ℕ) (s₀ : Ended Notes) (l₀ :
       behind : (u : Ended Notes) → on u ≡ b → Room (amounts_in (rest_in (due v k))) u.notes
       behind u z = element_room m (due v k) (due_fair v k) q.at q.notes u (z ∙ held) (amounts_in (rest_in (due v k))) (omega (arith, due-room, split (due v k)))
 
-      pub loop_next : (u : Ended Notes) → on u ≡ b → occ < 2 → Loop v m first s₀ l₀ r.next false u ys
+      pub loop_next : (u : Ended Notes) → on u ≡ b → repeats occ ≡ false → Loop v m first s₀ l₀ r.next false u ys
       loop_next u z h =
           on-to-next u ys as_long (beyond u z).0 (omega (arith, (beyond u z).1)) (behind u z)
           (gone_on m v k (due v k) r t l.left seen occ now s.at s.notes (says Whole e) u (z ∙ in_place) h)
           (gone_on_placed m v k (due v k) r t l.left seen occ now s.at s.notes ps (says Whole e) u (z ∙ in_place) h
           ∙ ap (placed (trace (due v r.next) m u.at) u.notes) kept_in)
 
-      pub loop_more : (u : Ended Notes) → on u ≡ b → 2 ≤ occ → Loop v m first s₀ l₀ k true u ys
+      pub loop_more : (u : Ended Notes) → on u ≡ b → repeats occ ≡ true → Loop v m first s₀ l₀ k true u ys
       loop_more u z h = go l.left refl
         where
           past : q.at + 1 ≤ u.at

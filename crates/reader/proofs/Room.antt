@@ -1,8 +1,8 @@
 -- Room for the amounts that are due: what each step of the reader leaves of it.
-use mathlib.Core.Path.{◌≡◌, refl, sym}
+use mathlib.Core.Path.{◌≡◌, refl, sym, ◌∙◌}
 use mathlib.Core.Bool.{Bool, true}
 use mathlib.Core.List.{List, [], ◌∷◌, ◌++◌}
-use Prim.Native.Nat.{ℕ, zero, suc, ◌+◌, ◌≤◌}
+use Prim.Native.Nat.{ℕ, zero, suc, ◌+◌}
 use Prim.Native.String.{String}
 use native.Mathlib.Omega.{arith}
 use lib.ListN.{get_or}
@@ -16,9 +16,14 @@ use Rattle.reading.specs.Noted.{on, Ended}
 use Rattle.items.specs.Sums.{of_amount, of_others, an_amount, amounts_in}
 use Rattle.items.proofs.Room as law
 use Rattle.items.proofs.Room.{fair, fairly, profile_fair, profile_none}
+use Rattle.table.specs.declared.Occ as code
+use Rattle.table.specs.declared.What.TheVariants.{Value}
 use Rattle.table.specs.declared.Row.{Row}
-use Rattle.table.specs.Table.{rows_of, kind_of, occ_of, mark_name, amount_kind, width, due, item_row, Element}
-use Rattle.table.proofs.Tied.{Tied}
+use Rattle.text.proofs.Truths.{never}
+use Rattle.profile.specs.declared.Kind.{Kind}
+use Rattle.profile.specs.declared.Field.{Field}
+use Rattle.table.specs.Table.{rows_of, occ_of, repeats, mark_name, amount_due, width, due, item_row, Element}
+use Rattle.table.proofs.Tied.{Tied, NoValue, group_no_value, same_value}
 use Rattle.table.proofs.Rows.{due_first, due_item_lem}
 use Rattle.notes.specs.declared.Notes.{Notes}
 use Rattle.notes.specs.Notes.{fresh, in_notes}
@@ -65,11 +70,11 @@ pub due_fair : (v : Version) (k : ℕ) → fairly an_amount (due v k) ≡ true
 unfolding due
 due_fair v = rows_fair (profile v) (profile_fair v)
 
-again : (i : ℕ) → 2 ≤ i → (x : ℕ) → of_others (occ_of i) x ≡ 0
-again zero h x = absurd (omega arith)
-again (suc zero) h x = absurd (omega arith)
-again (suc (suc zero)) h x = refl
-again (suc (suc (suc i))) h x = refl
+again : (o : code.Occ) → repeats o ≡ true → (x : ℕ) → of_others (occ_of o) x ≡ 0
+again code.TheVariants.Once h x = never (cc)
+again code.TheVariants.Optional h x = never (cc)
+again code.TheVariants.Many h x = refl
+again code.TheVariants.More h x = refl
 
 -- ---- what is due is due in its first element or behind it
 pub split : (sh : Shape) → amounts_in sh ≡ amounts_of sh + amounts_in (rest_in sh)
@@ -78,7 +83,7 @@ split (leaf o n k f rest) = refl
 split (group o n inner rest) = refl
 
 -- an element that may come again has its own
-pub item_own : (sh : Shape) (i : ℕ) → 2 ≤ i → occ_of i ≡ occ_in sh → amounts_of sh ≡ 0
+pub item_own : (sh : Shape) (i : code.Occ) → repeats i ≡ true → occ_of i ≡ occ_in sh → amounts_of sh ≡ 0
 item_own (end n) i h e = refl
 item_own (leaf o n k f rest) i h e = rw (← e) (again i h (of_amount k))
 item_own (group o n inner rest) i h e = rw (← e) (again i h (amounts_in inner))
@@ -108,22 +113,22 @@ module _ (m : List ℕ) where
       (λ s z. law.leaves_priced an_amount in_notes sum count adds m x b (p + w) s (omega (arith, z)))) q
 
   module _ (v : Version) (k : ℕ) (r : Row) (p : ℕ) (n : Notes) (u : Ended Notes)
-      (q : on u ≡ reads (entered (occ_of r.occ) (mark_name r.mark) (amount_kind r.kind) (width r) m p) n) where
-    pub group_room : (sh : Shape) → Tied v k sh r → Element sh → r.kind ≡ 1 → fairly an_amount sh ≡ true → Room (amounts_of sh) n → Room (amounts_in (due v (k + 1))) u.notes
+      (q : on u ≡ reads (entered (occ_of r.occ) (mark_name r.typed) (amount_due r.what) (width r) m p) n) where
+    pub group_room : (sh : Shape) → Tied v k sh r → Element sh → NoValue r → fairly an_amount sh ≡ true → Room (amounts_of sh) n → Room (amounts_in (due v (k + 1))) u.notes
     group_room (end a) t x z e g = absurd x
-    group_room (leaf o a kd f rest) t x z e g = absurd (omega arith)
+    group_room (leaf o a kd f rest) t x z e g = absurd (z kd f t.what)
     group_room (group o a inner rest) t x z e g =
         rw t.first
-        (entered-room (occ_of r.occ) (mark_name r.mark) (amount_kind r.kind) (width r) p n u q (amounts_in inner)
+        (entered-room (occ_of r.occ) (mark_name r.typed) (amount_due r.what) (width r) p n u q (amounts_in inner)
         (rw t.occ (both_true (fair o (amounts_in inner)) (both (fairly an_amount inner) (fairly an_amount rest)) e).0) (rw t.occ g))
 
-    pub value_room : (sh : Shape) → Tied v k sh r → Element sh → (r.kind ≡ 1 → ⊥) → fairly an_amount sh ≡ true → Room (amounts_of sh) n → Room (of_amount (kind_of r.kind)) u.notes
-    value_room (end a) t x z e g = absurd x
-    value_room (leaf o a kd f rest) t x z e g =
-        rw t.judged
-        (entered-room (occ_of r.occ) (mark_name r.mark) (amount_kind r.kind) (width r) p n u q (of_amount kd)
+    pub value_room : (c : Kind) (d : Field) → r.what ≡ Value c d → (sh : Shape) → Tied v k sh r → Element sh → fairly an_amount sh ≡ true → Room (amounts_of sh) n → Room (of_amount c) u.notes
+    value_room c d z (end a) t x e g = absurd x
+    value_room c d z (leaf o a kd f rest) t x e g =
+        rw (same_value c kd d f (sym z ∙ t.what)).0
+        (entered-room (occ_of r.occ) (mark_name r.typed) (amount_due r.what) (width r) p n u q (of_amount kd)
         (rw t.occ (both_true (fair o (of_amount kd)) (fairly an_amount rest) e).0) (rw t.occ g))
-    value_room (group o a inner rest) t x z e g = absurd (z t.kind)
+    value_room c d z (group o a inner rest) t x e g = absurd (group_no_value c d (sym t.what ∙ z))
 
 -- ---- at the start, of the profile or of one item, no amount is due
 pub profile_room : (v : Version) (p : ℕ) (s : Ended Notes) → s ≡ here p fresh → Room (amounts_in (due v 0)) s.notes

@@ -2,19 +2,29 @@
 use mathlib.Core.Path.{◌≡◌, refl, sym, ◌∙◌}
 use mathlib.Core.Bool.{Bool, true, false}
 use mathlib.Core.List.{List}
-use Prim.Native.Nat.{ℕ, zero, suc, ◌+◌, ◌≤◌, ◌<◌}
+use Prim.Native.Nat.{ℕ, ◌+◌, ◌≤◌, ◌<◌}
 use Prim.Native.String.{String}
 use native.Mathlib.Omega.{arith}
 use lib.ListN.{length}
-use Rattle.profile.specs.Tree.{Occ}
+use Rattle.text.proofs.Truths.{never}
+use Rattle.tags.specs.declared.Look.{Look}
+use Rattle.tags.specs.declared.Look.TheVariants.{Whole, Cut, Other}
+use Rattle.tags.specs.Tags.{on_look}
+use Rattle.profile.specs.Tree as tree
 use Rattle.profile.specs.Profile.{is_type}
 use Rattle.reading.specs.Trace.{up_to, begins, missing, priced}
 use Rattle.reading.specs.Noted.{Reading, on, stop, onward, Ended}
 use Rattle.table.specs.declared.Row.{Row}
+use Rattle.table.specs.declared.Occ.{Occ}
+use Rattle.table.specs.declared.Occ.TheVariants.{Optional}
+use Rattle.table.proofs.Numbers.{marked}
 use Rattle.table.specs.Table.{occ_of, mark_name, width}
 use Rattle.notes.specs.declared.Notes.{Notes}
-use Rattle.notes.specs.Notes.{item_noted, type_noted}
-use Rattle.notes.specs.Steps.{staying, reads, Good, Fine}
+use Rattle.notes.specs.Notes.{type_noted}
+use Rattle.notes.specs.Steps.{stepped, staying, reads, Good, Fine}
+use Rattle.std.specs.Prelude.{Err}
+use Rattle.answers.specs.declared.Refused.{Refused}
+use Rattle.answers.specs.Refusals.{refusal_number}
 use Rattle.notes.proofs.Notings.{here}
 use Rattle.notes.proofs.Stays.{later, good_at}
 use Rattle.engine.proofs.Steps.{passed_on, fine_on, fine_stop}
@@ -24,66 +34,59 @@ use Rattle.reader.specs.Reader.{entered}
 abbrev Found : Type 0
 Found = Reading (Ended Notes)
 
--- mark is 0 for every other name
-untyped : (mark : ℕ) (b : Bool) (p : ℕ) (n : Notes) → mark ≡ 0 → on (here p n) ≡ staying p (typed (is_type (mark_name mark)) b p n)
-unfolding is_type
-untyped mark b p n h = rw h
+-- a refusal at a place ends the reading
+pub refused_at : (r s : Refused) → r ≡ s → stepped (Err r) ≡ stop (refusal_number s.why) s.at
+refused_at r s e = rw e refl
 
-is_typed : (mark : ℕ) (b : Bool) (p : ℕ) (n : Notes) → (mark ≡ 0 → ⊥) → staying p (type_noted b p n) ≡ staying p (typed (is_type (mark_name mark)) b p n)
-unfolding is_type
-is_typed zero b p n h = absurd (h refl)
-is_typed (suc i) b p n h = refl
+pub fine_same : (m : List ℕ) (p : ℕ) (x r : Found) → x ≡ r → Fine m p r → Fine m p x
+fine_same m p x r e f = rw e f
 
-module _ (occ mark p : ℕ) (n : Notes) where
-  -- what is shown of `begin`
-  abbrev Begins : Found → Type 0
-  Begins x = x ≡ reads (begins (occ_of occ) (mark_name mark) p (up_to p)) n
+-- ---- what the code asks of how a tag lies: it goes on where that lies whole
+module _ (n p : ℕ) (s : Ended Notes) where
+  abbrev Asked : Look → Found
+  Asked l = on_look l (on s) (stop 3 n) (stop 4 p)
 
-  pub begun_once : occ ≡ 0 → Begins (on (here p n))
-  begun_once h = rw h
+  pub lies_whole : (l : Look) → on s ≡ Asked l → l ≡ Whole
+  lies_whole Whole e = refl
+  lies_whole Cut e = never (cc)
+  lies_whole Other e = never (cc)
 
-  pub begun_item : (occ ≡ 0 → ⊥) → (occ ≡ 1 → ⊥) → Begins (staying p (item_noted p n))
-  begun_item h k = go occ h k
-    where
-      go : (i : ℕ) → (i ≡ 0 → ⊥) → (i ≡ 1 → ⊥) → staying p (item_noted p n) ≡ reads (begins (occ_of i) (mark_name mark) p (up_to p)) n
-      go zero h k = absurd (h refl)
-      go (suc zero) h k = absurd (k refl)
-      go (suc (suc zero)) h k = refl
-      go (suc (suc (suc i))) h k = refl
+  -- what is refused: to show P of it, it is shown of either
+  pub lies_not : (P : Found → Type 0) (l : Look) (i q : ℕ) → stop i q ≡ Asked l → (l ≡ Cut → P (stop 3 n)) → (l ≡ Other → P (stop 4 p)) → P (stop i q)
+  lies_not P Whole i q e f g = never (cc)
+  lies_not P Cut i q e f g = rw e (f refl)
+  lies_not P Other i q e f g = rw e (g refl)
 
-  pub begun_other : occ ≡ 1 → mark ≡ 0 → Begins (on (here p n))
-  begun_other h z = rw h (untyped mark true p n z)
+-- what is noted of a name that is not the payment type's, and of the payment type's
+module _ (b : Bool) (p : ℕ) (n : Notes) where
+  untyped : on (here p n) ≡ staying p (typed (is_type (mark_name false)) b p n)
+  untyped = rw (marked false)
 
-  pub begun_type : occ ≡ 1 → (mark ≡ 0 → ⊥) → Begins (staying p (type_noted true p n))
-  begun_type h z = rw h (is_typed mark true p n z)
+  is_typed : staying p (type_noted b p n) ≡ staying p (typed (is_type (mark_name true)) b p n)
+  is_typed = rw (marked true)
 
-  -- what is shown of `pass`
-  abbrev Misses : Found → Type 0
-  Misses x = x ≡ reads (missing (occ_of occ) (mark_name mark) p (up_to p)) n
+module _ (p : ℕ) (n : Notes) where
+  -- what is shown of `begin`, and of `pass`
+  abbrev Begins : Occ → Bool → Found → Type 0
+  Begins occ mark x = x ≡ reads (begins (occ_of occ) (mark_name mark) p (up_to p)) n
 
-  pub missed_once : occ ≡ 0 → Misses (stop 4 p)
-  missed_once h = rw h
+  pub begun_other : (occ : Occ) (mark : Bool) → occ ≡ Optional → mark ≡ false → Begins occ mark (on (here p n))
+  begun_other occ mark e f = rw (e, f) (untyped true p n)
 
-  pub missed_many : occ ≡ 2 → Misses (stop 4 p)
-  missed_many h = rw h
+  pub begun_type : (occ : Occ) (mark : Bool) → occ ≡ Optional → mark ≡ true → Begins occ mark (staying p (type_noted true p n))
+  begun_type occ mark e f = rw (e, f) (is_typed true p n)
 
-  pub missed_more : (occ ≡ 0 → ⊥) → (occ ≡ 2 → ⊥) → (occ ≡ 1 → ⊥) → Misses (on (here p n))
-  missed_more h k j = go occ h k j
-    where
-      go : (i : ℕ) → (i ≡ 0 → ⊥) → (i ≡ 2 → ⊥) → (i ≡ 1 → ⊥) → on (here p n) ≡ reads (missing (occ_of i) (mark_name mark) p (up_to p)) n
-      go zero h k j = absurd (h refl)
-      go (suc zero) h k j = absurd (j refl)
-      go (suc (suc zero)) h k j = absurd (k refl)
-      go (suc (suc (suc i))) h k j = refl
+  abbrev Misses : Occ → Bool → Found → Type 0
+  Misses occ mark x = x ≡ reads (missing (occ_of occ) (mark_name mark) p (up_to p)) n
 
-  pub missed_other : occ ≡ 1 → mark ≡ 0 → Misses (on (here p n))
-  missed_other h z = rw h (untyped mark false p n z)
+  pub missed_other : (occ : Occ) (mark : Bool) → occ ≡ Optional → mark ≡ false → Misses occ mark (on (here p n))
+  missed_other occ mark e f = rw (e, f) (untyped false p n)
 
-  pub missed_type : occ ≡ 1 → (mark ≡ 0 → ⊥) → Misses (staying p (type_noted false p n))
-  missed_type h z = rw h (is_typed mark false p n z)
+  pub missed_type : (occ : Occ) (mark : Bool) → occ ≡ Optional → mark ≡ true → Misses occ mark (staying p (type_noted false p n))
+  missed_type occ mark e f = rw (e, f) (is_typed false p n)
 
 -- ---- entering
-module _ (m : List ℕ) (p : ℕ) (n : Notes) (g : Good m (here p n)) (o : Occ) (a : String) (amount : Bool) (w : ℕ) (fits : p + w ≤ length m) (some : 0 < w) where
+module _ (m : List ℕ) (p : ℕ) (n : Notes) (g : Good m (here p n)) (o : tree.Occ) (a : String) (amount : Bool) (w : ℕ) (fits : p + w ≤ length m) (some : 0 < w) where
   -- what is shown of `enter`
   abbrev pub Enters : Found → Type 0
   Enters x = (x ≡ reads (entered o a amount w m p) n) × Fine m (p + 1) x

@@ -2,7 +2,7 @@
 use mathlib.Core.Path.{◌≡◌, refl, sym, ap, ◌∙◌}
 use mathlib.Core.Bool.{Bool, true, false}
 use mathlib.Core.List.{List}
-use Prim.Native.Nat.{ℕ, zero, suc, ◌≤◌, ◌<◌}
+use Prim.Native.Nat.{ℕ, suc, ◌≤◌, ◌<◌}
 use native.Mathlib.Omega.{arith}
 use borrow.Author.Tests.{leb-true, leb-false}
 use lib.Dec.{leb}
@@ -16,8 +16,10 @@ use Rattle.profile.specs.Tree.{Occ, more, Shape, end, leaf, group}
 use Rattle.profile.specs.Profile.{is_type}
 use Rattle.reading.specs.Trace.{Trace, up_to, closed, missing, turn, again, follow, trace}
 use Rattle.reading.specs.Noted.{Reading, on, stop, onward, Ended}
+use Rattle.table.specs.declared.Occ as code
 use Rattle.table.specs.declared.Row.{Row}
-use Rattle.table.specs.Table.{occ_of, mark_name, opens_by, width, tags, due, Element}
+use Rattle.text.proofs.Truths.{never}
+use Rattle.table.specs.Table.{occ_of, repeats, mark_name, opens_by, width, tags, due, Element}
 use Rattle.notes.specs.declared.Notes.{Notes}
 use Rattle.notes.specs.Steps.{reads}
 use Rattle.engine.specs.Engine.{or_else, placed}
@@ -51,28 +53,29 @@ module _ (m : List ℕ) where
   here (leaf o n k f rest) e i seen p = refl
   here (group o n inner rest) e i seen p = refl
 
-  follow-rest : (sh : Shape) (i occ : ℕ) → occ < 2 → following (occ_of occ) i sh ≡ trace (rest_in sh) m
-  follow-rest sh i zero h = refl
-  follow-rest sh i (suc zero) h = refl
-  follow-rest sh i (suc (suc n)) h = absurd (omega arith)
+  follow-rest : (sh : Shape) (i : ℕ) (occ : code.Occ) → repeats occ ≡ false → following (occ_of occ) i sh ≡ trace (rest_in sh) m
+  follow-rest sh i code.TheVariants.Once h = refl
+  follow-rest sh i code.TheVariants.Optional h = refl
+  follow-rest sh i code.TheVariants.Many h = never (cc)
+  follow-rest sh i code.TheVariants.More h = never (cc)
 
-  follow-again : (sh : Shape) (i occ : ℕ) → 2 ≤ occ → following (occ_of occ) i sh ≡ again i (name_in sh) (tag_in sh) m (element_in sh m) (trace (rest_in sh) m)
-  follow-again sh i zero h = absurd (omega arith)
-  follow-again sh i (suc zero) h = absurd (omega arith)
-  follow-again sh i (suc (suc zero)) h = refl
-  follow-again sh i (suc (suc (suc n))) h = refl
+  follow-again : (sh : Shape) (i : ℕ) (occ : code.Occ) → repeats occ ≡ true → following (occ_of occ) i sh ≡ again i (name_in sh) (tag_in sh) m (element_in sh m) (trace (rest_in sh) m)
+  follow-again sh i code.TheVariants.Once h = never (cc)
+  follow-again sh i code.TheVariants.Optional h = never (cc)
+  follow-again sh i code.TheVariants.Many h = refl
+  follow-again sh i code.TheVariants.More h = refl
 
 -- ---- what a row tells of the element that is due there
 pub record Tells (v : Version) (k : ℕ) (sh : Shape) (r : Row) : Type 0 where
   pub element : Element sh
   pub occ : occ_of r.occ ≡ occ_in sh
-  pub name : is_type (mark_name r.mark) ≡ is_type (name_in sh)
+  pub name : is_type (mark_name r.typed) ≡ is_type (name_in sh)
   pub start : opens_by (tags v) r ≡ tag_in sh
   pub width : width r ≡ length (tag_in sh)
   pub later : k < r.next
   pub next : due v r.next ≡ rest_in sh
 
-module _ (m : List ℕ) (v : Version) (k : ℕ) (sh : Shape) (r : Row) (t : Tells v k sh r) (i : ℕ) (seen : Bool) (occ : ℕ) (now : occ_of occ ≡ pick seen more (occ_of r.occ)) (p : ℕ) (x : Notes) where
+module _ (m : List ℕ) (v : Version) (k : ℕ) (sh : Shape) (r : Row) (t : Tells v k sh r) (i : ℕ) (seen : Bool) (occ : code.Occ) (now : occ_of occ ≡ pick seen more (occ_of r.occ)) (p : ℕ) (x : Notes) where
   abbrev q : ℕ
   q = skipped m p
 
@@ -81,7 +84,7 @@ module _ (m : List ℕ) (v : Version) (k : ℕ) (sh : Shape) (r : Row) (t : Tell
 
   -- what is read where the element is not there
   abbrev pub Missed : Found
-  Missed = reads (missing (occ_of occ) (mark_name r.mark) q (up_to q)) x
+  Missed = reads (missing (occ_of occ) (mark_name r.typed) q (up_to q)) x
 
   -- how the row's start tag lies
   abbrev pub Says : Look → Type 0
@@ -93,7 +96,7 @@ module _ (m : List ℕ) (v : Version) (k : ℕ) (sh : Shape) (r : Row) (t : Tell
       (stop 3 (length m)) (onward Missed (λ s. reads (trace (rest_in sh) m s.at) s.notes))
   turned l e =
       ap (λ (t : Trace). reads t x) (here m sh t.element i seen p)
-      ∙ (turn_reads m (pick seen more (occ_in sh)) (name_in sh) (mark_name r.mark) (sym t.name) (tag_in sh) (element_in sh m) (following m (pick seen more (occ_in sh)) i sh) (trace (rest_in sh) m) p x
+      ∙ (turn_reads m (pick seen more (occ_in sh)) (name_in sh) (mark_name r.typed) (sym t.name) (tag_in sh) (element_in sh m) (following m (pick seen more (occ_in sh)) i sh) (trace (rest_in sh) m) p x
       ∙ rw (← is-now, ← t.start, ← e))
 
   -- and where TxIds begin
@@ -107,7 +110,7 @@ module _ (m : List ℕ) (v : Version) (k : ℕ) (sh : Shape) (r : Row) (t : Tell
         l (or_else Missed (λ s. placed (trace (rest_in sh) m s.at) s.notes l) l)
     turned-placed w e =
         ap (λ (t : Trace). placed t x l) (here m sh t.element i seen p)
-        ∙ (turn_placed m (pick seen more (occ_in sh)) (name_in sh) (mark_name r.mark) (sym t.name) (tag_in sh) (element_in sh m) (following m (pick seen more (occ_in sh)) i sh) (trace (rest_in sh) m) p x l
+        ∙ (turn_placed m (pick seen more (occ_in sh)) (name_in sh) (mark_name r.typed) (sym t.name) (tag_in sh) (element_in sh m) (following m (pick seen more (occ_in sh)) i sh) (trace (rest_in sh) m) p x l
         ∙ rw (← is-now, ← t.start, ← e))
 
     pub cut_placed : Says Cut → placed (from m i seen sh p) x l ≡ l
@@ -124,10 +127,10 @@ module _ (m : List ℕ) (v : Version) (k : ℕ) (sh : Shape) (r : Row) (t : Tell
       failed_placed n y c = turned-placed Whole e ∙ rw (← c)
 
       module _ (s : Ended Notes) (c : on s ≡ reads (element_in sh m q) x) where
-        pub gone_on_placed : occ < 2 → placed (from m i seen sh p) x l ≡ placed (trace (due v r.next) m s.at) s.notes Placed
+        pub gone_on_placed : repeats occ ≡ false → placed (from m i seen sh p) x l ≡ placed (trace (due v r.next) m s.at) s.notes Placed
         gone_on_placed h = turned-placed Whole e ∙ rw (← c, t.next, follow-rest m sh i occ h)
 
-        pub repeated_placed : 2 ≤ occ → (j : ℕ) → i ≡ suc j → placed (from m i seen sh p) x l ≡ placed (from m j true sh s.at) s.notes Placed
+        pub repeated_placed : repeats occ ≡ true → (j : ℕ) → i ≡ suc j → placed (from m i seen sh p) x l ≡ placed (from m j true sh s.at) s.notes Placed
         repeated_placed h j f = turned-placed Whole e ∙ rw (← c, follow-again m sh i occ h, f, here m sh t.element j true s.at)
 
   pub cut : Says Cut → reads (from m i seen sh p) x ≡ stop 3 (length m)
@@ -145,10 +148,10 @@ module _ (m : List ℕ) (v : Version) (k : ℕ) (sh : Shape) (r : Row) (t : Tell
     failed n y c = turned Whole e ∙ rw (← c)
 
     module _ (s : Ended Notes) (c : on s ≡ reads (element_in sh m q) x) where
-      pub gone_on : occ < 2 → reads (from m i seen sh p) x ≡ reads (trace (due v r.next) m s.at) s.notes
+      pub gone_on : repeats occ ≡ false → reads (from m i seen sh p) x ≡ reads (trace (due v r.next) m s.at) s.notes
       gone_on h = turned Whole e ∙ rw (← c, t.next, follow-rest m sh i occ h)
 
-      pub repeated : 2 ≤ occ → (j : ℕ) → i ≡ suc j → reads (from m i seen sh p) x ≡ reads (from m j true sh s.at) s.notes
+      pub repeated : repeats occ ≡ true → (j : ℕ) → i ≡ suc j → reads (from m i seen sh p) x ≡ reads (from m j true sh s.at) s.notes
       repeated h j f = turned Whole e ∙ rw (← c, follow-again m sh i occ h, f, here m sh t.element j true s.at)
 
 -- ---- the remaining depth of the tree: a group's is one more than the deepest of its elements'

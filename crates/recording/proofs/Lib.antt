@@ -1,4 +1,5 @@
 pub mod Days
 pub mod Stamps
+pub mod Taken
 pub mod Fields
 pub mod One

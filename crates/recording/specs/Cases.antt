@@ -13,9 +13,8 @@ use Rattle.calendar.specs.Time.{clock_form, offset_form, zone_form, end_form, ti
 use Rattle.accounts.specs.Bic.{bicfi_form, bicfi_given}
 use Rattle.postings.specs.Record.{padded}
 use Rattle.naming.specs.Key.{key_with}
-use Rattle.recording.specs.declared.Line.{Line}
 use Rattle.recording.specs.Instant.{years_days, months_days, days_before, seconds_before, offset_seconds, as_written, instant}
-use Rattle.recording.specs.Record.{unpadded, stamp_form, names_form, record_form, no_line, line_of}
+use Rattle.recording.specs.Record.{unpadded, stamp_form, names_form, record_form, Line, no_line, line_of}
 
 pub record Case : Type 0 where
   pub text : String

@@ -1,6 +1,6 @@
 -- One record of a recording: "64-byte records, no header. Bytes 0 to 24 hold a time without fraction, always with a written offset; byte 25 `E` or `W`;
 -- 26 to 29 service and 30 to 40 BIC, space-padded; 41 to 50 settlement date; 51 to 62 MsgId, at most 12 bytes, space-padded; 63 LF."
-use Rattle.std.specs.Prelude.{ℕ, Bool, true, false, List, [], ◌∷◌, length, drop, replicate, eqb}
+use Rattle.std.specs.Prelude.{ℕ, Bool, true, false, List, [], ◌∷◌, length, drop, replicate, eqb, Option, Some, None}
 use Rattle.text.specs.Truth.{both, pick, all_of, at, part}
 use Rattle.text.specs.Quoted.{byte, among}
 use Rattle.answers.specs.Given.{Given, number_of}
@@ -12,7 +12,9 @@ use Rattle.calendar.specs.Date.{date_given}
 use Rattle.calendar.specs.Time.{offset_form, time_given}
 use Rattle.accounts.specs.Bic.{bicfi_given}
 use Rattle.naming.specs.Key.{key_length, key_with}
-use Rattle.recording.specs.declared.Line.{Line}
+use Rattle.recording.specs.declared.Side.{Side}
+use Rattle.recording.specs.declared.Side.TheVariants.{Entry, Withdrawal}
+use Rattle.recording.specs.declared.Line as code
 use Rattle.recording.specs.Instant.{instant}
 
 abbrev pub line_length : ℕ
@@ -66,7 +68,13 @@ record_form r =
     ∷ eqb (at r 63) (byte "\n")
     ∷ [])
 
--- what a record says: an entry or a withdrawal, of which key, at which instant
+-- what a record says: that it fits, whether it is an entry or a withdrawal, of which key, at which instant
+pub record Line : Type 0 where
+  pub fits : Bool
+  pub entering : Bool
+  pub key : List ℕ
+  pub instant : ℕ
+
 abbrev pub key_in : List ℕ → List ℕ
 key_in r = key_with (service_in r) (id_in r) (bic_in r) (date_in r)
 
@@ -79,3 +87,12 @@ no_line = record { fits = false; entering = false; key = replicate key_length (b
 
 unfoldable pub line_of : List ℕ → Line
 line_of r = pick (record_form r) (said r) no_line
+
+-- the paper's line of the code's
+abbrev pub enters : Side → Bool
+enters Entry = true
+enters Withdrawal = false
+
+abbrev pub line_as : Option code.Line → Line
+line_as (Some l) = record { fits = true; entering = enters l.side; key = l.key; instant = l.instant }
+line_as None = no_line

@@ -1,56 +1,39 @@
 // One record of a recording: 64 bytes, field by field; its key, and its instant.
 #![tactic(auto)]
 
-ghost use Rattle.std.specs.Prelude.{◌≡◌, true, ◌+◌, ◌-◌, ◌≤◌, ◌<◌, length, get_or};
+ghost use Rattle.std.specs.Prelude.{◌≡◌, true, ◌+◌, ◌-◌, ◌≤◌, ◌<◌, length};
 ghost use Rattle.text.specs.Truth.{part};
 ghost use Rattle.text.specs.Quoted.{among, decimal};
-ghost use Rattle.answers.specs.Given.{given};
-ghost use Rattle.words.specs.Reference.{reference_given};
-ghost use Rattle.codes.specs.declared.Element.TheVariants.{LclInstrm};
-ghost use Rattle.codes.specs.Listed.{code_given};
-ghost use Rattle.calendar.specs.Date.{date_form, date_given};
+ghost use Rattle.calendar.specs.Date.{date_form};
 ghost use Rattle.calendar.specs.Time.{offset_form};
-ghost use Rattle.accounts.specs.Bic.{bicfi_given};
-ghost use Rattle.postings.specs.Record.{padded};
-ghost use Rattle.naming.specs.Key.{key_with};
 ghost use Rattle.recording.specs.Instant.{years_days, months_days, days_before, seconds_before, offset_seconds, as_written, instant};
-ghost use Rattle.recording.specs.Record.{unpadded, taken, stamp_form, names_form, record_form, key_in, line_of};
+ghost use Rattle.recording.specs.Record.{unpadded, stamp_form, names_form, record_form, key_in, line_of, line_as};
 
-use answers::Answer;
 use codes::Element;
 
 // How many bytes a record has.
 pub const LENGTH: usize = 64;
 
-// What a record says: whether a bulk is entered (or withdrawn), its key, and the instant. Of bytes that are no record, that they do not fit, and nothing else.
-#[derive(Clone, Copy)]
-pub struct Line {
-    pub fits: bool,
-    pub entering: bool,
-    pub key: [u8; 60],
-    pub instant: u64,
+// Whether a record enters a bulk or withdraws one.
+#[derive(Clone, Copy, PartialEq, Eq)]
+pub enum Side {
+    Entry,
+    Withdrawal,
 }
 
-// Whether a checker does not refuse.
-fn is_taken(a: Answer) -> bool
-    ensures { result ≡ taken (given a) }
-{
-    answers::number(a) == 0
+// What a record says: an entry or a withdrawal, of which key, at which instant.
+#[derive(Clone, Copy)]
+pub struct Line {
+    pub side: Side,
+    pub key: [u8; naming::LENGTH],
+    pub instant: u64,
 }
 
 // How many bytes of a field stand before the spaces behind its value.
 fn reach(f: &[u8]) -> usize
     ensures { result ≡ length (unpadded f.now) }
 {
-    let mut e = f.len();
-    while 0 < e {
-        if f[e - 1] == b' ' {
-            e -= 1;
-        } else {
-            return e;
-        }
-    }
-    e
+    f.len() - f.iter().rev().take_while(|c| **c == b' ').count()
 }
 
 // A field's value, without the spaces behind it.
@@ -61,7 +44,7 @@ fn value(f: &[u8]) -> &[u8]
     &f[..e]
 }
 
-// The number of the two characters at i.
+// The number of the two characters at i. (Not calendar's: both must stand there, and a function that another crate calls requires nothing.)
 fn two_at(s: &[u8], i: usize) -> u64
     requires { i + 2 ≤ length s.now }
     ensures value { result ≡ decimal (part i 2 s.now) }
@@ -149,145 +132,60 @@ fn is_stamp(t: &[u8]) -> bool
     requires { length t.now ≡ 25 }
     ensures { result ≡ stamp_form t.now }
 {
-    is_taken(calendar::time(t))
+    calendar::time(t).is_ok()
 }
 
-// Whether a field holds a service.
-fn is_service(f: &[u8]) -> bool
-    ensures { result ≡ taken (code_given LclInstrm (unpadded f.now)) }
-{
-    is_taken(codes::code(Element::LclInstrm, value(f)))
-}
-
-// Whether a field holds a BIC, of the wider form.
-fn is_bic(f: &[u8]) -> bool
-    ensures { result ≡ taken (bicfi_given (unpadded f.now)) }
-{
-    is_taken(accounts::bicfi(value(f)))
-}
-
-// Whether a field holds a date.
-fn is_day(f: &[u8]) -> bool
-    ensures { result ≡ taken (date_given f.now) }
-{
-    is_taken(calendar::date(f))
-}
-
-// Whether a field holds a MsgId.
-fn is_id(f: &[u8]) -> bool
-    ensures { result ≡ taken (reference_given (unpadded f.now)) }
-{
-    is_taken(words::reference(value(f)))
-}
-
-// Whether the four that name a bulk are of their kinds.
+// Whether the four that name a bulk are of their kinds: a service, a BIC of the wider form, a date and a MsgId.
 fn has_names(r: &[u8]) -> bool
     requires { length r.now ≡ 64 }
     ensures { result ≡ names_form r.now }
 {
-    if !is_service(&r[26..30]) {
-        return false;
-    }
-    if !is_bic(&r[30..41]) {
-        return false;
-    }
-    if !is_day(&r[41..51]) {
-        return false;
-    }
-    is_id(&r[51..63])
+    codes::code(Element::LclInstrm, value(&r[26..30])).is_ok()
+        && accounts::bicfi(value(&r[30..41])).is_ok()
+        && calendar::date(&r[41..51]).is_ok()
+        && words::reference(value(&r[51..63])).is_ok()
 }
 
 // Whether c is one of `E W`.
 fn is_side(c: u8) -> bool
     ensures { result ≡ among "E W" c }
 {
-    if c == b'E' {
-        return true;
-    }
-    c == b'W'
+    c == b'E' || c == b'W'
 }
 
 // Whether these bytes are a record.
 fn is_record(r: &[u8]) -> bool
     ensures { result ≡ record_form r.now }
 {
-    if r.len() != LENGTH {
-        return false;
-    }
-    if !is_stamp(&r[..25]) {
-        return false;
-    }
-    if !is_side(r[25]) {
-        return false;
-    }
-    if !has_names(r) {
-        return false;
-    }
-    r[63] == b'\n'
-}
-
-// Byte i of a value, and a space behind it.
-fn byte_of(v: &[u8], i: usize) -> u8
-    ensures { result ≡ get_or v.now i 32 }
-{
-    if i < v.len() {
-        return v[i];
-    }
-    b' '
-}
-
-// A value, with spaces behind it, fills a part of the key.
-fn put(part: &mut [u8], v: &[u8])
-    ensures { part.new ≡ padded (length part.old) v.now }
-{
-    let mut i = 0;
-    while i < part.len() {
-        part[i] = byte_of(v, i);
-        i += 1;
-    }
-}
-
-// The key of four values.
-fn make_key(service: &[u8], id: &[u8], bic: &[u8], date: &[u8]) -> [u8; 60]
-    ensures { result ≡ key_with service.now id.now bic.now date.now }
-{
-    let mut key = [32; 60];
-    put(&mut key[0..4], service);
-    put(&mut key[4..39], id);
-    put(&mut key[39..50], bic);
-    put(&mut key[50..60], date);
-    key
+    r.len() == LENGTH && is_stamp(&r[..25]) && is_side(r[25]) && has_names(r) && r[63] == b'\n'
 }
 
 // The key that a record names.
-fn key_in(r: &[u8]) -> [u8; 60]
+fn key_in(r: &[u8]) -> [u8; naming::LENGTH]
     requires { length r.now ≡ 64 }
     ensures { result ≡ key_in r.now }
 {
     let service = value(&r[26..30]);
     let bic = value(&r[30..41]);
     let id = value(&r[51..63]);
-    make_key(service, id, bic, &r[41..51])
+    naming::key_with(service, id, bic, &r[41..51])
 }
 
-// What a record says, or that the bytes are none.
-pub fn read_line(r: &[u8]) -> Line
-    ensures { result ≡ line_of r.now }
+// What a record says; nothing of bytes that are none.
+pub fn read_line(r: &[u8]) -> Option<Line>
+    ensures { line_as result ≡ line_of r.now }
 {
     if !is_record(r) {
-        return Line {
-            fits: false,
-            entering: false,
-            key: [32; 60],
-            instant: 0,
-        };
+        return None;
     }
-    let key = key_in(r);
-    let instant = instant_of(&r[..25]);
-    Line {
-        fits: true,
-        entering: r[25] == b'E',
-        key,
-        instant,
-    }
+    let side = if r[25] == b'E' {
+        Side::Entry
+    } else {
+        Side::Withdrawal
+    };
+    Some(Line {
+        side,
+        key: key_in(r),
+        instant: instant_of(&r[..25]),
+    })
 }

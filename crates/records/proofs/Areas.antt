@@ -1,35 +1,36 @@
 -- Records written one behind the other into an area, and what is answered.
 use mathlib.Core.Path.{◌≡◌, refl, sym, ap, ◌∙◌}
-use mathlib.Core.Bool.{Bool, true, false}
 use mathlib.Core.List.{List, [], ◌∷◌, ◌++◌, append-nil, append_assoc}
-use Prim.Native.Nat.{ℕ, zero, suc, ◌+◌, ◌-◌, ◌*◌, ◌/◌, ◌≤◌, ◌<◌}
+use Prim.Native.Nat.{ℕ, zero, suc, ◌+◌, ◌-◌, ◌*◌, ◌/◌, ◌≤◌, ◌<◌, min}
 use native.Mathlib.Numerals.{add-one}
 use native.Mathlib.Omega.{arith}
-use borrow.Author.Tests.{lt-ltb, le-ltb, ltb-true, ltb-false}
+use borrow.Author.Tests.{lt-ltb, le-ltb}
 use borrow.Rule.Slice.PartMut.{put_mid, mid_len, same_len_mid}
-use lib.Dec.{ltb}
 use lib.ListN.{length, take, drop, drop_of_length-le}
 use lib.Seq.{drop-drop}
-use Rattle.text.specs.Truth.{pick}
 use Rattle.reading.specs.Trace.{What}
 use Rattle.reading.specs.Verdict.{Judged, accepted, refused}
+use Rattle.reading.specs.Judged.{judged}
 use Rattle.reading.specs.Items.{Item, the_header, the_items}
 use Rattle.postings.specs.Record.{record_length}
 use Rattle.judge.specs.Index.{survey_with}
-use Rattle.judge.proofs.Index.{Indexed, short as few, roomy, indexed, in_short, in_room, survey_verdict, survey_room}
+use Rattle.judge.proofs.Index.{Indexed, short as few, roomy, indexed, in_short, in_room, survey_room}
+use Rattle.judge.proofs.Walks.{verdict_surveyed}
 use Rattle.records.specs.Indexed.{recorded_with}
 use Rattle.postings.specs.Area.{as_lent, records_for, recorded}
 use Rattle.postings.proofs.Long.{length_records}
 use Rattle.engine.specs.declared.Several.{Several}
 use Rattle.engine.specs.Several.{items_from, behind, row_length, rows_of, Tells}
 use Rattle.engine.proofs.Rows.{front_long, put_next}
-use Rattle.judge.specs.declared.Verdict.TheVariants.{Accepted, Refused}
+use Rattle.std.specs.Prelude.{Ok, Err}
+use Rattle.answers.specs.declared.Refused.{Refused}
+use Rattle.answers.specs.Refusals.{refusal_number}
 use Rattle.judge.specs.declared.Survey.{Survey}
-use Rattle.judge.specs.Verdict.{meant, version_of}
-use Rattle.judge.specs.Found.{denied, found}
-use Rattle.judge.specs.Survey.{without, surveyed_as, survey}
-use Rattle.records.specs.Engine.{record_of, records_of, in_one_call, Room}
-use Rattle.records.proofs.Walk.{is_judged, accepted_is, ready, Going, begins, none_done, all_done}
+use Rattle.judge.specs.Verdict.{version_of}
+use Rattle.judge.specs.Found.{denied}
+use Rattle.judge.specs.Survey.{Surveyed, without, surveyed_as, survey}
+use Rattle.records.specs.Engine.{record_of, records_of, Room}
+use Rattle.records.proofs.Walk.{accepted_is, ready, Going, begins, none_done, all_done}
 use Rattle.records.proofs.Further.{Further, further}
 
 -- ---- the records of rows: so many stand in the area
@@ -105,12 +106,8 @@ pub record Called (left n : ℕ) : Type 0 where
   pub few : n ≤ 128
   pub some : 0 < n
 
-pub one_call : (left n : ℕ) → n ≡ in_one_call left → 0 < left → Called left n
-one_call left n e h = rw e (go (ltb left 128) refl)
-  where
-    go : (b : Bool) → b ≡ ltb left 128 → Called left (pick b left 128)
-    go true f = record { within = omega arith; few = omega (arith, ltb-true left 128 (sym f)); some = h }
-    go false f = record { within = ltb-false left 128 (sym f); few = omega arith; some = omega arith }
+pub one_call : (left n : ℕ) → n ≡ min left 128 → 0 < left → Called left n
+one_call left n e h = record { within = omega arith; few = omega arith; some = omega arith }
 
 pub record Filling (m : List ℕ) (count : ℕ) (area₀ : List ℕ) (i at : ℕ) (area : List ℕ) : Type 0 where
   pub going : Going m count i at
@@ -178,40 +175,43 @@ module _ (m area : List ℕ) where
   abbrev pub Answered : Judged → List ℕ → Type 0
   Answered r a = (r ≡ (recorded m area).verdict) × (a ≡ (recorded m area).area)
 
-  module _ (s : Survey) (e : surveyed_as s ≡ survey m) where
-    pub not_accepted : (n p : ℕ) → s.finding.verdict ≡ Refused n p → Answered (refused n p) area
+  pub not_accepted : (r : Refused) → surveyed_as (Err r) ≡ survey m → Answered (refused (refusal_number r.why) r.at) area
+  unfolding recorded
+  not_accepted r e =
+      let z : refused (refusal_number r.why) r.at ≡ judged m = verdict_surveyed m (surveyed_as (Err r)) e in
+      rw (← z) (refl, refl)
+
+  module _ (s : Survey) (e : surveyed_as (Ok s) ≡ survey m) where
+    abbrev count : ℕ
+    count = s.finding.accepted.count
+
+    pub no_room : length area / record_length < count → Answered (refused 17 0) area
     unfolding recorded
-    not_accepted n p f = rw (← is_judged m s e, f) (refl, refl)
+    no_room h = rw (accepted_is m s e, lt-ltb (length area) (record_length * count) (omega arith)) (refl, refl)
 
-    module _ (count cents : ℕ) (f : s.finding.verdict ≡ Accepted count cents) where
-      pub no_room : length area / record_length < count → Answered (refused 17 0) area
-      unfolding recorded
-      no_room h = rw (accepted_is m s e count cents f, lt-ltb (length area) (record_length * count) (omega arith)) (refl, refl)
+    pub has_room : count ≤ length area / record_length → Room m count s.finding.first s.starts area
+    has_room h = record { ready = ready m s e; room = omega arith }
 
-      pub has_room : count ≤ length area / record_length → Room m count s.finding.first s.starts area
-      has_room h = record { ready = ready m s e count cents f; room = omega arith }
-
-      pub filled_up : count ≤ length area / record_length → (a : List ℕ) → a ≡ records_for (the_header m) (the_items m) ++ drop (record_length * count) area → Answered (accepted count cents) a
-      unfolding recorded
-      filled_up h a g = rw (accepted_is m s e count cents f, le-ltb (length area) (record_length * count) (omega arith)) (refl, g)
+    pub filled_up : count ≤ length area / record_length → (a : List ℕ) → a ≡ records_for (the_header m) (the_items m) ++ drop (record_length * count) area
+        → Answered (accepted count s.finding.accepted.cents) a
+    unfolding recorded
+    filled_up h a g = rw (accepted_is m s e, le-ltb (length area) (record_length * count) (omega arith)) (refl, g)
 
 -- ---- with an index
 module _ (index m area : List ℕ) where
   abbrev pub AnsweredWith : Judged → List ℕ → Type 0
   AnsweredWith r a = (r ≡ (recorded_with index m area).verdict) × (a ≡ (recorded_with index m area).area)
 
-  module _ (s : Survey) (e : surveyed_as s ≡ survey_with index m) where
-    pub refused_with : (n p : ℕ) → s.finding.verdict ≡ Refused n p → AnsweredWith (refused n p) area
-    refused_with n p f = go (indexed index)
-      where
-        go : Indexed index → AnsweredWith (refused n p) area
-        go (few h) =
-            let d : refused n p ≡ refused 25 0 = ap meant (sym f) ∙ (survey_verdict index m s e ∙ in_short index (refused 25 0) (survey m).found.verdict h) in
-            rw (in_short index (as_lent 25 0 area) (recorded m area) h) (d, refl)
-        go (roomy h) =
-            rw (in_room index (as_lent 25 0 area) (recorded m area) h) (not_accepted m area s (e ∙ in_room index (without (denied 25 0)) (survey m) h) n p f)
+  pub refused_with : (r : Refused) → surveyed_as (Err r) ≡ survey_with index m → AnsweredWith (refused (refusal_number r.why) r.at) area
+  refused_with r e = go (indexed index)
+    where
+      go : Indexed index → AnsweredWith (refused (refusal_number r.why) r.at) area
+      go (few h) =
+          let d : refused (refusal_number r.why) r.at ≡ refused 25 0 = ap (λ (x : Surveyed). x.found.verdict) (e ∙ in_short index (without (denied 25 0)) (survey m) h) in
+          rw (in_short index (as_lent 25 0 area) (recorded m area) h) (d, refl)
+      go (roomy h) =
+          rw (in_room index (as_lent 25 0 area) (recorded m area) h) (not_accepted m area r (e ∙ in_room index (without (denied 25 0)) (survey m) h))
 
-    module _ (n c : ℕ) (f : s.finding.verdict ≡ Accepted n c) where
-      -- an accepted message had one with room
-      pub answered_with : (r : Judged) (a : List ℕ) → Answered m area r a → AnsweredWith r a
-      answered_with r a h = rw (in_room index (as_lent 25 0 area) (recorded m area) (survey_room index m s e n c f)) h
+  -- an accepted message had one with room
+  pub answered_with : (s : Survey) → surveyed_as (Ok s) ≡ survey_with index m → (r : Judged) (a : List ℕ) → Answered m area r a → AnsweredWith r a
+  answered_with s e r a h = rw (in_room index (as_lent 25 0 area) (recorded m area) (survey_room index m s e)) h

@@ -2,17 +2,17 @@
 use mathlib.Core.Path.{◌≡◌, refl, ap, sym, ◌∙◌}
 use mathlib.Core.Bool.{Bool, true, false}
 use mathlib.Core.List.{List, [], ◌∷◌, ◌++◌, append_assoc}
-use Prim.Native.Nat.{ℕ, zero, suc, ◌+◌, ◌-◌, ◌≤◌, ◌<◌}
-use native.Mathlib.Numerals.{add-one}
+use Prim.Native.Nat.{ℕ, zero, suc, ◌+◌, ◌-◌, ◌≤◌, ◌<◌, min}
 use native.Mathlib.Nat.{add-zero}
 use native.Mathlib.Omega.{arith}
-use borrow.Author.Tests.{eq-eqb, ne_eqb, ltb-true, ltb-false}
+use borrow.Rule.Slice.PartMut.{put_mid}
+use borrow.Author.Tests.{ne_eqb, ltb-true, ltb-false}
 use lib.Dec.{eqb, ltb}
-use lib.ListN.{length, take, drop, get_or, set, replicate, length-append, length-take, length-drop, length-set, length-replicate, take-append-drop, drop_of_length-le, replicate-append-replicate}
-use lib.Seq.{paste, paste-suc, set_at, set_split, drop-drop, get_or-take, get_or-drop, length-take-le}
+use lib.ListN.{length, take, drop, set, replicate, length-append, length-take, length-drop, length-replicate, take-append-drop, drop_of_length-le, replicate-append-replicate}
+use lib.Seq.{set_at, set_split, drop-drop, length-take-le}
 use lib.Seq.{take_all, take-length, take-nil, take-take, take-add, take_at, drop_at, take-append-le, take-append-add, drop-append-add}
 use Rattle.text.specs.Truth.{either, pick, lead, part}
-use Rattle.text.proofs.Scan.{rest_of, lead_le, copy_more, copy_end}
+use Rattle.text.proofs.Scan.{rest_of, lead_le}
 use Rattle.text.proofs.Truths.{never}
 use Rattle.tags.specs.Values.{in_value, value_at}
 use Rattle.profile.specs.declared.Field.{Field}
@@ -30,37 +30,16 @@ use Rattle.postings.proofs.Long.{length_padded, length_digits}
 use Rattle.items.specs.Places.{held_at}
 use Rattle.records.specs.Engine.{start_of, own_or, cents_of, record_of, laid, all_laid, to_cents, to_instr_id, to_end}
 
--- ---- a value laid byte by byte
-module _ (rec : List ℕ) (at : ℕ) (v : List ℕ) where
-  pub lay_more : (out : List ℕ) (i : ℕ) → length rec ≡ record_length → at + length v ≤ record_length → i < length v
-      → out ≡ paste rec at v i → set out (at + i) (get_or v i 0) ≡ paste rec at v (i + 1)
-  lay_more out i n fits h e = rw (e, add-one i) (paste-suc rec at v i 0 (omega arith) h)
+-- ---- a value copied over a part of the record
+pub mid_laid : (at : ℕ) (v rec : List ℕ) → put_mid at (at + length v - at) rec v ≡ laid at v rec
+unfolding laid
+mid_laid at v rec =
+    let z : at + length v - at ≡ length v = omega arith in
+    rw z (ap (λ (l : List ℕ). take at rec ++ (v ++ l)) (drop-drop (length v) at rec))
 
-  pub lay_end : (out : List ℕ) (i : ℕ) → i ≤ length v → length v ≤ i → out ≡ paste rec at v i → out ≡ laid at v rec
-  unfolding laid
-  lay_end out i h g e =
-      let z : i ≡ length v = omega arith in
-      e ∙ rw (z, take-length v, append_assoc)
-
--- ---- n bytes of a text as the first w of them and the last w
--- bytes from a place on, copied into r, of which i are done
-abbrev pub Copied : List ℕ → ℕ → ℕ → List ℕ → ℕ → Type 0
-Copied v from n r i = (take i r ≡ take i (part from n v)) × (i ≤ n) × (length r ≡ n)
-
-module _ (v : List ℕ) (from n : ℕ) (h : from + n ≤ length v) where
-  part_long : length (part from n v) ≡ n
-  part_long = length-take-le n (drop from v) (omega (arith, length-drop from v))
-
-  pub copied_more : (r : List ℕ) (i : ℕ) → i < n → Copied v from n r i → Copied v from n (set r i (get_or v (from + i) 0)) (i + 1)
-  copied_more r i g c =
-      let z : get_or (part from n v) i 0 ≡ get_or v (from + i) 0 = get_or-take n (drop from v) i 0 g ∙ get_or-drop from v i 0 in
-      (rw z at (copy_more r (part from n v) i c.0 (omega (arith, c.2)) (omega (arith, part_long))), omega arith, length-set r i (get_or v (from + i) 0) ∙ c.2)
-
-  pub copied_all : (r : List ℕ) (i : ℕ) → n ≤ i → Copied v from n r i → r ≡ part from n v
-  copied_all r i g c = copy_end r (part from n v) i c.0 (omega (arith, c.2)) (omega (arith, part_long))
-
+-- ---- a value laid as its first w bytes and its last w
 pub laid_twice : (at w : ℕ) (v r r1 r2 : List ℕ) → at + length v ≤ length r → w ≤ length v → length v ≤ w + w
-    → r1 ≡ laid at (part 0 w v) r → r2 ≡ laid (at + (length v - w)) (part (length v - w) w v) r1 → r2 ≡ laid at v r
+    → r1 ≡ laid at (take w v) r → r2 ≡ laid (at + (length v - w)) (take (length v - w + w - (length v - w)) (drop (length v - w) v)) r1 → r2 ≡ laid at v r
 unfolding laid
 laid_twice at w v r r1 r2 fits g k e f =
     let j = length v - w in
@@ -70,7 +49,7 @@ laid_twice at w v r r1 r2 fits g k e f =
     let t = drop (at + w) r in
     let ld : length d ≡ at = length-take-le at r (omega arith) in
     let la : length a ≡ w = length-take-le w v g in
-    let lp : length p ≡ w = part_long v j w (omega arith) in
+    let lp : length p ≡ w = length-take-le w (drop j v) (omega (arith, length-drop j v)) in
     let x : r1 ≡ d ++ (a ++ t) = e ∙ rw la in
     let y : take (at + j) (d ++ (a ++ t)) ≡ d ++ take j v =
     ap (λ (q : ℕ). take (q + j) (d ++ (a ++ t))) (sym ld)
@@ -86,7 +65,9 @@ laid_twice at w v r r1 r2 fits g k e f =
     ∙ ap (λ (q : ℕ). drop q r) o in
     let b : j + w ≡ length v = omega arith in
     let c : take j v ++ p ≡ v = sym (take-add j w v) ∙ ap (λ (q : ℕ). take q v) b ∙ take-length v in
+    let q : j + w - j ≡ w = omega arith in
     f
+    ∙ ap (λ (n : ℕ). laid (at + j) (take n (drop j v)) r1) q
     ∙ ap (λ (l : List ℕ). take (at + j) l ++ (p ++ drop (at + j + length p) l)) x
     ∙ rw (lp, y, z) (append_assoc d (take j v) (p ++ drop (at + length v) r))
     ∙ ap (λ (l : List ℕ). d ++ l) (sym (append_assoc (take j v) p (drop (at + length v) r)) ∙ ap (λ (l : List ℕ). l ++ drop (at + length v) r) c)
@@ -95,14 +76,6 @@ laid_twice at w v r r1 r2 fits g k e f =
 pub laid_none : (at : ℕ) (rec : List ℕ) → rec ≡ laid at [] rec
 unfolding laid
 laid_none at rec = rw (add-zero at) (sym (take-append-drop at rec))
-
--- ---- a place of the item's own, or else the one above
-module _ (own above p : ℕ) (e : p ≡ own) where
-  pub take_above : (r : ℕ) → p ≡ 0 → r ≡ above → r ≡ own_or above own
-  take_above r z f = rw (← e, eq-eqb p 0 z) f
-
-  pub take_own : (p ≡ 0 → ⊥) → p ≡ own_or above own
-  take_own z = rw (← e, ne_eqb p 0 z)
 
 -- ---- the value at a place of the message, as much of it as a field holds; b is whether there is none, as the code tests it
 module _ (m : List ℕ) (start width : ℕ) (b : Bool) (t : b ≡ either (eqb start 0) (ltb (length m) start)) where
@@ -143,13 +116,24 @@ module _ (m : List ℕ) (start width : ℕ) (b : Bool) (t : b ≡ either (eqb st
       pub field_whole : take n (take (length m - start) (drop start m)) ≡ held_at m start
       field_whole = rw (rest_of start m, held-is) (rw n-is)
 
-      pub field_short : n < width → take n (take (length m - start) (drop start m)) ≡ take width (held_at m start)
+      field_short : n < width → take n (take (length m - start) (drop start m)) ≡ take width (held_at m start)
       field_short g =
           rw (rest_of start m, held-is)
           (rw (← n-is) (sym (take_all width (take n (drop start m)) (simp length-take (omega arith)))))
 
-      pub field_long : width ≤ n → take width (take (length m - start) (drop start m)) ≡ take width (held_at m start)
+      field_long : width ≤ n → take width (take (length m - start) (drop start m)) ≡ take width (held_at m start)
       field_long g = rw (rest_of start m, held-is) (rw (← n-is) (sym (take-take width n (drop start m) g)))
+
+      pub field_cut : (w : ℕ) → w ≡ min n width → take w (take (length m - start) (drop start m)) ≡ take width (held_at m start)
+      field_cut w f = go (ltb n width) refl
+        where
+          go : (z : Bool) → z ≡ ltb n width → take w (take (length m - start) (drop start m)) ≡ take width (held_at m start)
+          go true g =
+              let z : w ≡ n = omega (arith, ltb-true n width (sym g)) in
+              rw z (field_short (ltb-true n width (sym g)))
+          go false g =
+              let z : w ≡ width = omega (arith, ltb-false n width (sym g)) in
+              rw z (field_long (ltb-false n width (sym g)))
 
 -- ---- the record as far as it is written: its fields, and spaces behind them
 pub record So (at : ℕ) (d r : List ℕ) : Type 0 where

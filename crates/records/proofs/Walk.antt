@@ -19,16 +19,16 @@ use Rattle.items.proofs.Accepted.{accepted_chained}
 use Rattle.notes.specs.declared.Notes.{Notes}
 use Rattle.notes.proofs.Sums.{Summed}
 use Rattle.engine.specs.Engine.{item_at}
-use Rattle.judge.specs.declared.Verdict.TheVariants.{Accepted}
+use Rattle.std.specs.Prelude.{Ok}
 use Rattle.judge.specs.declared.Survey.{Survey}
-use Rattle.judge.specs.Verdict.{meant, version_of}
+use Rattle.judge.specs.Verdict.{version_of}
 use Rattle.judge.specs.Found.{denied, Found, found_by, found}
 use Rattle.judge.specs.Survey.{without, Surveyed, surveyed_as, service_number, places, surveyed, survey}
 use Rattle.judge.specs.Index.{survey_with}
 use Rattle.judge.proofs.Index.{in_room, survey_room}
 use Rattle.judge.proofs.Alone.{stands_again}
 use Rattle.judge.proofs.Judges.{survey_found}
-use Rattle.judge.proofs.Walks.{found_verdict, found_chained, short}
+use Rattle.judge.proofs.Walks.{found_verdict, verdict_surveyed, found_chained, short}
 use Rattle.records.specs.Engine.{start_of, Ready}
 
 -- ---- what was noted of an accepted message: where the last value of each field begins
@@ -43,20 +43,21 @@ places_noted m n c e = go (found_by (noted listed (message m) [])) (found_verdic
     go x h = rw h
 
 -- ---- what the judge noted of a message that it accepts
-module _ (m : List ℕ) (s : Survey) (e : surveyed_as s ≡ survey m) where
-  pub is_judged : meant s.finding.verdict ≡ judged m
-  is_judged = ap (λ (x : Surveyed). x.found.verdict) e ∙ (ap (λ (x : Found). x.verdict) (survey_found m) ∙ found_verdict m)
+module _ (m : List ℕ) (s : Survey) (e : surveyed_as (Ok s) ≡ survey m) where
+  pub accepted_is : judged m ≡ accepted s.finding.accepted.count s.finding.accepted.cents
+  accepted_is = sym (verdict_surveyed m (surveyed_as (Ok s)) e)
 
-  module _ (count cents : ℕ) (f : s.finding.verdict ≡ Accepted count cents) where
-    pub accepted_is : judged m ≡ accepted count cents
-    accepted_is = sym is_judged ∙ ap meant f
-
-    pub ready : Ready m count s.finding.first s.starts
-    ready = record { cents = cents; accepted = accepted_is; begins = ap (λ (x : Surveyed). x.found.first) e; noted = ap (λ (x : Surveyed). x.places) e }
+  pub ready : Ready m s.finding.accepted.count s.finding.first s.starts
+  ready = record {
+    cents = s.finding.accepted.cents;
+    accepted = accepted_is;
+    begins = ap (λ (x : Surveyed). x.found.first) e;
+    noted = ap (λ (x : Surveyed). x.places) e;
+  }
 
 -- with an index: an accepted message had one with room
-pub surveyed_with : (index m : List ℕ) (s : Survey) → surveyed_as s ≡ survey_with index m → (n c : ℕ) → s.finding.verdict ≡ Accepted n c → surveyed_as s ≡ survey m
-surveyed_with index m s e n c f = e ∙ in_room index (without (denied 25 0)) (survey m) (survey_room index m s e n c f)
+pub surveyed_with : (index m : List ℕ) (s : Survey) → surveyed_as (Ok s) ≡ survey_with index m → surveyed_as (Ok s) ≡ survey m
+surveyed_with index m s e = e ∙ in_room index (without (denied 25 0)) (survey m) (survey_room index m s e)
 
 -- ---- so many items are done, and the others stand from here on
 pub record Going (m : List ℕ) (count i at : ℕ) : Type 0 where

@@ -1,5 +1,5 @@
 -- What each function of the records writes, by what an engine tells of an item.
-use Rattle.std.specs.Prelude.{ℕ, zero, suc, ◌+◌, ◌*◌, ◌≤◌, ◌≡◌, List, [], ◌∷◌, ◌++◌, eqb, ltb, length, take, drop, get_or}
+use Rattle.std.specs.Prelude.{ℕ, zero, suc, ◌+◌, ◌*◌, ◌≤◌, ◌≡◌, List, [], ◌∷◌, ◌++◌, eqb, length, take, drop, get_or}
 use Rattle.text.specs.Truth.{either, pick}
 use Rattle.profile.specs.declared.Field.{Field}
 use Rattle.profile.specs.declared.Field.TheVariants.{TxId, EndToEndId, MndtId, DbtrIban, CdtrIban, DbtrBic, ReqdColltnDt, SeqTp, CdtrId, CdtrBic, InstrId, LclInstrm, DtOfSgntr}
@@ -36,10 +36,6 @@ record_of m row above = record_with (λ f. held_at m (place_for above row f)) (c
 abbrev pub records_of : List ℕ → List ℕ → ℕ → List ℕ → List ℕ
 records_of m above zero rows = []
 records_of m above (suc n) rows = record_of m (take row_length rows) above ++ records_of m above n (drop row_length rows)
-
--- so many of the items that are left are read in one call
-abbrev pub in_one_call : ℕ → ℕ
-in_one_call left = pick (ltb left 128) left 128
 
 -- "into which each field is written at its offset": bytes from `at` on replaced by v
 unfoldable pub laid : ℕ → List ℕ → List ℕ → List ℕ

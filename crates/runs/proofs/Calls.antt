@@ -11,8 +11,7 @@ use Rattle.text.specs.Quoted.{alike}
 use Rattle.text.proofs.Truths.{never}
 use Rattle.reading.specs.Verdict.{Judged, accepted, refused}
 use Rattle.naming.specs.Key.{keyed}
-use Rattle.recording.specs.declared.Line.{Line}
-use Rattle.recording.specs.Record.{line_of}
+use Rattle.recording.specs.Record.{Line, line_of}
 use Rattle.sums.specs.declared.Lot.{Lot}
 use Rattle.sums.specs.Sums.{lot_of}
 use Rattle.book.specs.declared.Entry.{Entry}

@@ -15,8 +15,7 @@ use Rattle.accounts.specs.Lengths.{in_one}
 use Rattle.reading.specs.Verdict.{Judged, accepted, refused}
 use Rattle.reading.specs.Judged.{judged}
 use Rattle.naming.specs.Key.{keyed}
-use Rattle.recording.specs.declared.Line.{Line}
-use Rattle.recording.specs.Record.{line_of}
+use Rattle.recording.specs.Record.{Line, line_of}
 use Rattle.sums.specs.declared.Lot.{Lot}
 use Rattle.sums.specs.Sums.{total, lot_if, lot_of}
 use Rattle.sums.proofs.Laws.{sums_whole, service_row, lot_long}

@@ -2,8 +2,7 @@
 use Rattle.std.specs.Prelude.{ℕ, zero, suc, ◌+◌, ◌≡◌, List, [], ◌∷◌}
 use Rattle.text.specs.Truth.{pick}
 use Rattle.naming.specs.Key.{keyed}
-use Rattle.recording.specs.declared.Line.{Line}
-use Rattle.recording.specs.Record.{line_of}
+use Rattle.recording.specs.Record.{Line, line_of}
 use Rattle.book.specs.declared.Entry.{Entry}
 use Rattle.book.specs.Calls.{Told, done, refusal, bulk_of, Call, enter, withdraw}
 use Rattle.book.specs.Stored.{Stored, kept}

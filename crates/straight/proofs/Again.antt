@@ -1,6 +1,5 @@
 -- The loop over the items: what holds at its head, and each way on from there.
 use Rattle.std.proofs.Common.{◌≡◌, ℕ, suc, ◌-◌, ◌<◌, ◌≤◌, true, List, length, drop, sym, refl, ap, ◌∙◌, arith}
-use Rattle.text.proofs.Truths.{never}
 use Rattle.tags.specs.declared.Look.{Look}
 use Rattle.tags.specs.declared.Look.TheVariants.{Whole, Cut, Other}
 use Rattle.tags.specs.Tags.{skipped, look, exactly, end_tag}
@@ -21,14 +20,13 @@ use Rattle.notes.specs.Steps.{reads, Good, Room, Fine}
 use Rattle.notes.proofs.Notings.{here}
 use Rattle.notes.proofs.Room.{adds}
 use Rattle.engine.specs.Engine.{closed_by, or_else, placed}
-use Rattle.engine.proofs.Steps.{halts}
 use Rattle.engine.proofs.Placed.{then_placed, closed_placed}
 use Rattle.engine.proofs.Steps.{closed_by_lem}
-use Rattle.straight.specs.Due.{made}
-use Rattle.straight.specs.Exact.{end_of, by_tag, more_of, Makes, MakesThen, Behind, Onward}
-use Rattle.straight.proofs.Exact.{then_on, ends_then, end_is}
+use Rattle.straight.specs.Due.{Made, made}
+use Rattle.straight.proofs.Made.{Alike}
+use Rattle.straight.specs.Exact.{end_of, by_tag, more_of, Makes, Behind, Onward}
+use Rattle.straight.proofs.Elements.{MakesThen, makes_by, then_on, ends_then, end_is}
 use Rattle.straight.proofs.Groups.{by_cut, by_other}
-use Rattle.straight.proofs.Wholes.{then_alike}
 
 abbrev Going : Type 0
 Going = Reading (Ended Notes)
@@ -38,6 +36,11 @@ sum n = n.sum
 
 abbrev count : Notes → ℕ
 count n = n.count
+
+then_alike : (m : List ℕ) (t u : ℕ → Trace) → Alike t u → (r : Going) (l : List ℕ) (x : Going) (y : List ℕ) → MakesThen m t r l x y → MakesThen m u r l x y
+then_alike m t u h (on s) l x y i =
+    (i.0 ∙ ap (λ (d : Made). d.notes) (h s.at s.notes l), i.1, i.2 ∙ ap (λ (d : Made). d.places) (h s.at s.notes l))
+then_alike m t u h (stop n q) l x y i = i
 
 pub begin : (v : Version) (m : List ℕ) (n : ℕ) (r : Going) (l : List ℕ) → Fine m 0 r → Behind r (Room 0) → Onward v m n r l n r l
 begin v m n r l f h = record { fine = f; room = h; same = refl; places = refl; long = refl }
@@ -68,12 +71,9 @@ module _ (v : Version) (m : List ℕ) (n : ℕ) (r₀ : Going) (l₀ : List ℕ)
   so : (x : Going) (y : List ℕ) → MakesThen m (more_of v m left) s l x y → Done x y
   so x y i = (i.0 ∙ sym k.same, i.1, i.2 ∙ sym k.places)
 
-  pub loop_stopped : halts s ≡ true → Done s l
-  loop_stopped h = so s l (go s h k.fine)
-    where
-      go : (a : Going) → halts a ≡ true → Fine m 0 a → MakesThen m (more_of v m left) a l a l
-      go (on z) h f = never (cc)
-      go (stop n q) h f = (refl, f, refl)
+  -- an item that is refused ends it
+  pub loop_refused : (j q : ℕ) → stop j q ≡ s → Done (stop j q) l
+  loop_refused j q h = so (stop j q) l (rw (← h) (refl, rw (← h) at k.fine, refl))
 
   pub loop_end : left ≡ 0 → (x : Going) → x ≡ onward s (λ z. reads (end_of (end_tag bulk_name) m z.at) z.notes) → Fine m 0 x → Done x l
   loop_end h x e f =
@@ -90,14 +90,14 @@ module _ (v : Version) (m : List ℕ) (n : ℕ) (r₀ : Going) (l₀ : List ℕ)
     turned : (i : ℕ) → left ≡ suc i → (p : ℕ) → more_of v m left p ≡ by_tag item_tag (whole i) other m p
     turned i h p = rw h refl
 
-    by_turn : (i : ℕ) → left ≡ suc i → (p : ℕ) (x : Going) (y : List ℕ) → Makes m p (by_tag item_tag (whole i) other m u.at) u.notes l x y → Done x y
-    by_turn i h p x y j =
-        so x y (then_on m s (more_of v m left) k.fine l u e p x y
-        (j.0 ∙ ap (λ (t : Trace). reads t u.notes) (sym (turned i h u.at)), j.1, j.2 ∙ ap (λ (t : Trace). placed t u.notes l) (sym (turned i h u.at))))
+    by_turn : (i : ℕ) → left ≡ suc i → (x : Going) (y : List ℕ) → Makes m (by_tag item_tag (whole i) other m u.at) u.notes l x y → Done x y
+    by_turn i h x y j =
+        so x y (then_on m s (more_of v m left) k.fine l u e x y
+        (makes_by 0 x (j.is ∙ ap (λ (t : Trace). reads t u.notes) (sym (turned i h u.at)), j.fine, j.places ∙ ap (λ (t : Trace). placed t u.notes l) (sym (turned i h u.at)))))
 
     pub loop_cut : c ≡ Cut → (x : Going) → x ≡ stop 3 (length m) → Done x l
     loop_cut h x i =
-        by_turn (left - 1) (omega arith) u.at x l (by_cut m u.at u.notes g item_tag q place within c w (whole (left - 1)) other l h x i)
+        by_turn (left - 1) (omega arith) x l (by_cut m u.at u.notes g item_tag q place within c w (whole (left - 1)) other l h x i)
 
     end-here : trace (end bulk_name) m q ≡ closed_by (exactly (end_tag bulk_name)) m q
     end-here =
@@ -107,25 +107,25 @@ module _ (v : Version) (m : List ℕ) (n : ℕ) (r₀ : Going) (l₀ : List ℕ)
     pub loop_other : c ≡ Other → (b : Ended Notes) → b ≡ here q u.notes → (x : Going) → x ≡ reads (closed_by (exactly (end_tag bulk_name)) m b.at) b.notes → Fine m b.at x → Done x l
     loop_other h b d x i f =
         let i2 : x ≡ reads (closed_by (exactly (end_tag bulk_name)) m q) u.notes = i ∙ ap (λ (z : Ended Notes). reads (closed_by (exactly (end_tag bulk_name)) m z.at) z.notes) d in
-        by_turn (left - 1) (omega arith) 0 x l (by_other m u.at u.notes g item_tag q place within c w (whole (left - 1)) other l h b.at x l
-        (i2 ∙ ap (λ (t : Trace). reads t u.notes) (sym end-here), f, sym (ap (λ (t : Trace). placed t u.notes l) end-here ∙ closed_placed m (exactly (end_tag bulk_name)) q u.notes l)))
+        by_turn (left - 1) (omega arith) x l (by_other m u.at u.notes g item_tag q place within c w (whole (left - 1)) other l h x l
+        (makes_by b.at x (i2 ∙ ap (λ (t : Trace). reads t u.notes) (sym end-here), f, sym (ap (λ (t : Trace). placed t u.notes l) end-here ∙ closed_placed m (exactly (end_tag bulk_name)) q u.notes l))))
 
-    pub loop_next : c ≡ Whole → (b : Ended Notes) → b ≡ here q u.notes → (x : Going) (y : List ℕ) → Makes m 0 (item_body v m b.at) b.notes l x y → length y ≡ length l
+    pub loop_next : c ≡ Whole → (b : Ended Notes) → b ≡ here q u.notes → (x : Going) (y : List ℕ) → Makes m (item_body v m b.at) b.notes l x y → length y ≡ length l
         → Onward v m n r₀ l₀ (left - 1) x y
     loop_next h b d x y i z =
-        let j : Makes m 0 (item_body v m q) u.notes l x y = rw d at i in
+        let j : Makes m (item_body v m q) u.notes l x y = rw d at i in
         let t : more_of v m left u.at ≡ whole (left - 1) q = turned (left - 1) (omega arith) u.at ∙ rw (← place, ← w, h) refl in
         record {
-          fine = j.1;
-          room = item_behind v m q u.notes (rw (sym e) at k.room) x j.0;
+          fine = j.fine;
+          room = item_behind v m q u.notes (rw (sym e) at k.room) x j.is;
           same =
               k.same ∙ (ap (λ (a : Going). onward a (λ o. reads (more_of v m left o.at) o.notes)) (sym e)
               ∙ (ap (λ (a : Trace). reads a u.notes) t ∙ (noted_then in_notes (item_body v m q) (more_of v m (left - 1)) u.notes
-              ∙ ap (λ (a : Going). onward a (λ o. reads (more_of v m (left - 1) o.at) o.notes)) (sym j.0))));
+              ∙ ap (λ (a : Going). onward a (λ o. reads (more_of v m (left - 1) o.at) o.notes)) (sym j.is))));
           places =
               k.places ∙ (ap (λ (a : Going). or_else a (λ o. placed (more_of v m left o.at) o.notes l) l) (sym e)
               ∙ (ap (λ (a : Trace). placed a u.notes l) t ∙ (then_placed (item_body v m q) (more_of v m (left - 1)) u.notes l
-              ∙ (ap (λ (a : Going). or_else a (λ o. placed (more_of v m (left - 1) o.at) o.notes (placed (item_body v m q) u.notes l)) (placed (item_body v m q) u.notes l)) (sym j.0)
-              ∙ ap (λ (d : List ℕ). or_else x (λ o. placed (more_of v m (left - 1) o.at) o.notes d) d) (sym j.2)))));
+              ∙ (ap (λ (a : Going). or_else a (λ o. placed (more_of v m (left - 1) o.at) o.notes (placed (item_body v m q) u.notes l)) (placed (item_body v m q) u.notes l)) (sym j.is)
+              ∙ ap (λ (d : List ℕ). or_else x (λ o. placed (more_of v m (left - 1) o.at) o.notes d) d) (sym j.places)))));
           long = z ∙ k.long;
         }

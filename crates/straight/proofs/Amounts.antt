@@ -13,22 +13,19 @@ use Rattle.profile.specs.declared.Field.{Field}
 use Rattle.profile.specs.Kinds.{is_amount}
 use Rattle.profile.specs.Tree.{once, Shape, leaf}
 use Rattle.reading.specs.Trace.{Trace, up_to, fault, and_then, ends, priced, valued, trace}
-use Rattle.reading.specs.Noted.{Reading, on, stop, onward, Ended}
+use Rattle.reading.specs.Noted.{Reading, on, stop, Ended}
 use Rattle.notes.specs.declared.Notes.{Notes}
 use Rattle.notes.specs.Steps.{reads, Good, Fine}
 use Rattle.notes.proofs.Notings.{here}
-use Rattle.notes.proofs.Stays.{later, good_at}
-use Rattle.engine.specs.Engine.{valued_by, or_else, placed}
-use Rattle.straight.specs.Exact.{enter_of, amount_of, MakesThen, Behind}
+use Rattle.notes.proofs.Stays.{good_at}
+use Rattle.engine.specs.Engine.{valued_by, placed}
+use Rattle.straight.specs.Exact.{enter_of, amount_of, Makes, Behind}
 use Rattle.straight.proofs.Made.{once_ends}
-use Rattle.straight.proofs.Exact.{valued_is}
+use Rattle.straight.proofs.Elements.{makes_by, valued_is}
 use Rattle.straight.proofs.Groups.{then_each, tag_within}
 
 abbrev Going : Type 0
 Going = Reading (Ended Notes)
-
-abbrev tag_of : List ℕ → List (ℕ → Bool)
-tag_of start = exactly start ++ currency
 
 tag_length : (start : List ℕ) → length (exactly start ++ currency) ≡ length start + 5
 tag_length start = omega (arith, length-append (exactly start) currency, exactly_length start)
@@ -45,11 +42,13 @@ module _ (m start : List ℕ) (q : ℕ) (l : Look) (e : l ≡ look (exactly star
   amount_looks h c w =
       w ∙ (ap (look currency) (rest_of (q + length start) m) ∙ sym (appended ∙ ap (λ (d : Look). look_then d (look currency (drop (q + length start) m))) h))
 
-  pub amount_cut : l ≡ Cut → Cut ≡ look (exactly start ++ currency) (drop q m)
-  amount_cut h = sym (appended ∙ ap (λ (d : Look). look_then d (look currency (drop (q + length start) m))) h)
-
-  pub amount_other : l ≡ Other → Other ≡ look (exactly start ++ currency) (drop q m)
-  amount_other h = sym (appended ∙ ap (λ (d : Look). look_then d (look currency (drop (q + length start) m))) h)
+  pub amount_else : (l ≡ Whole → ⊥) → l ≡ look (exactly start ++ currency) (drop q m)
+  amount_else h = go l refl
+    where
+      go : (d : Look) → l ≡ d → l ≡ look (exactly start ++ currency) (drop q m)
+      go Whole w = absurd (h w)
+      go Cut w = w ∙ sym (appended ∙ ap (λ (d : Look). look_then d (look currency (drop (q + length start) m))) w)
+      go Other w = w ∙ sym (appended ∙ ap (λ (d : Look). look_then d (look currency (drop (q + length start) m))) w)
 
 -- ---- entering
 module _ (m : List ℕ) (p : ℕ) (x : Notes) (g : Good m (here p x)) (start : List ℕ) (q : ℕ) (place : q ≡ skipped m p) (within : q ≤ length m)
@@ -101,9 +100,8 @@ enter_keeps m start p x P h = go (look (exactly start ++ currency) (drop (skippe
     go Cut b = tt
     go Other b = tt
 
-pub enter_behind : (m start : List ℕ) (r s : Going) (P : Notes → Type 0) → s ≡ onward r (λ z. reads (enter_of start m z.at) z.notes) → Behind r P → Behind s P
-enter_behind m start (on u) s P e h = rw e (enter_keeps m start u.at u.notes P h)
-enter_behind m start (stop n q) s P e h = rw e tt
+pub enter_behind : (m start : List ℕ) (p : ℕ) (x : Notes) (s : Going) (P : Notes → Type 0) → s ≡ reads (enter_of start m p) x → P x → Behind s P
+enter_behind m start p x s P e h = rw e (enter_keeps m start p x P h)
 
 enter_placed : (m start : List ℕ) (p : ℕ) (x : Notes) (l : List ℕ) → placed (enter_of start m p) x l ≡ l
 unfolding enter_of
@@ -116,19 +114,8 @@ enter_placed m start p x l = go (look (exactly start ++ currency) (drop (skipped
     go Cut b = refl
     go Other b = refl
 
-pub enters_then : (m start : List ℕ) (r s : Going) (b : List ℕ) → s ≡ onward r (λ z. reads (enter_of start m z.at) z.notes) → Fine m 0 s → MakesThen m (enter_of start m) r b s b
-enters_then m start r s b e f = (e, f, go r)
-  where
-    go : (a : Going) → b ≡ or_else a (λ z. placed (enter_of start m z.at) z.notes b) b
-    go (on z) = sym (enter_placed m start z.at z.notes b)
-    go (stop n q) = refl
-
-pub enters_on : (m start : List ℕ) (r : Going) (s : Ended Notes) → on s ≡ r → (x : Going) → x ≡ reads (enter_of start m s.at) s.notes → Fine m s.at x
-    → (x ≡ onward r (λ z. reads (enter_of start m z.at) z.notes)) × Fine m 0 x
-enters_on m start r s e x j f = (j ∙ ap (λ (y : Going). onward y (λ z. reads (enter_of start m z.at) z.notes)) e, later m 0 s.at (omega arith) x f)
-
-pub behind_on : (r : Going) (s : Ended Notes) (P : Notes → Type 0) → on s ≡ r → Behind r P → P s.notes
-behind_on r s P e h = rw (sym e) at h
+pub entered : {m : List ℕ} {x : Notes} {l : List ℕ} {r : Going} (start : List ℕ) (p : ℕ) → (r ≡ reads (enter_of start m p) x) × Fine m p r → Makes m (enter_of start m p) x l r l
+entered {m = m} {x = x} {l = l} {r = r} start p i = makes_by p r (i.0, i.1, sym (enter_placed m start p x l))
 
 -- ---- the definition
 pub amount_is : (n : String) (k : Kind) (f : Field) (rest : Shape) (m : List ℕ) → is_amount k ≡ true → (p : ℕ)

@@ -1,5 +1,5 @@
 -- An item from its start tag on: one more, and room for its amount; and what its end says.
-use Rattle.std.proofs.Common.{◌≡◌, ℕ, zero, suc, ◌+◌, ◌≤◌, Bool, true, false, ltb, List, length, drop, sym, refl, ap, ◌∙◌, arith}
+use Rattle.std.proofs.Common.{◌≡◌, ℕ, ◌+◌, ◌≤◌, Bool, true, false, ltb, List, length, drop, sym, refl, ap, ◌∙◌, arith}
 use Rattle.text.specs.Truth.{pick}
 use Rattle.tags.specs.Tags.{skipped, plain_tag}
 use Rattle.tags.proofs.Looks.{look_text}
@@ -18,9 +18,9 @@ use Rattle.notes.proofs.Notings.{here}
 use Rattle.notes.proofs.Stays.{begun_fine}
 use Rattle.engine.specs.Engine.{or_else, placed}
 use Rattle.engine.proofs.Placed.{ends_placed}
-use Rattle.swift_values.specs.Stands.{Found}
 use Rattle.straight.specs.Due.{Past}
-use Rattle.straight.specs.Exact.{Makes, MakesThen, Behind, ItemBegins}
+use Rattle.straight.specs.Exact.{Makes, Behind, ItemBegins}
+use Rattle.straight.proofs.Elements.{MakesThen, makes_by}
 use Rattle.straight.proofs.Types.{after_fine}
 
 abbrev Going : Type 0
@@ -55,8 +55,8 @@ module _ (m : List ℕ) (q : ℕ) (x : Notes) where
         go (on s) = refl
         go (stop n p) = refl
 
-    pub item_makes : (v : Version) → z ≡ q + length (plain_tag item_name) → (l : List ℕ) (r : Going) (y : List ℕ) → MakesThen m (trace (in_item v) m) b l r y → Makes m 0 (item_body v m q) x l r y
-    item_makes v h l r y i = go (item_noted q x) (f ∙ ap (λ (c : Going). onward c (λ s. on (here z s.notes))) e)
+    pub item_makes : (v : Version) → z ≡ q + length (plain_tag item_name) → (l : List ℕ) (r : Going) (y : List ℕ) → MakesThen m (trace (in_item v) m) b l r y → Makes m (item_body v m q) x l r y
+    item_makes v h l r y i = makes_by 0 r (go (item_noted q x) (f ∙ ap (λ (c : Going). onward c (λ s. on (here z s.notes))) e))
       where
         inner : Trace
         inner = trace (in_item v) m (q + length (plain_tag item_name))
@@ -80,10 +80,16 @@ module _ (m : List ℕ) (q : ℕ) (x : Notes) where
           i.2 ∙ ap (λ (c : Going). or_else c (λ s. placed (trace (in_item v) m s.at) s.notes l) l) k,
         )
 
+-- where it is refused
+pub item_refused : (m : List ℕ) (q : ℕ) (x : Notes) → Good m (here q x) → q + 14 ≤ length m → (a : Going) → a ≡ staying q (item_noted q x) → (n p : ℕ) → stop n p ≡ a → (v : Version) (l : List ℕ)
+    → Makes m (item_body v m q) x l (stop n p) l
+item_refused m q x g w a e n p h v l =
+    let f : stop n p ≡ onward a (λ (s : Ended Notes). on (here (q + 14) s.notes)) = rw (← h) refl in
+    item_makes m q x a (stop n p) e (q + 14) f v refl l (stop n p) l (refl, item_fine m q x a (stop n p) e (q + 14) f g w, refl)
+
 -- its start tag, after white space
-pub item_begins_lem : (m : List ℕ) (p q r : ℕ) → q ≡ skipped m p → Found (Past m q (plain_tag item_name)) r → Found (ItemBegins m p) r
-item_begins_lem m p q zero e f = tt
-item_begins_lem m p q (suc r) e f = record {
-  whole = rw (← e, f.stands) (look_text (plain_tag item_name) (drop (suc r) m));
+pub item_begins_lem : (m : List ℕ) (p q r : ℕ) → q ≡ skipped m p → Past m q (plain_tag item_name) r → ItemBegins m p r
+item_begins_lem m p q r e f = record {
+  whole = rw (← e, f.stands) (look_text (plain_tag item_name) (drop r m));
   behind = f.place ∙ ap (λ (k : ℕ). k + 14) e;
 }

@@ -12,7 +12,7 @@ use Rattle.items.specs.Sums.{an_amount}
 use Rattle.items.specs.Alone.{item_tag, item_body, alone}
 use Rattle.items.proofs.Room as law
 use Rattle.reading.specs.Trace.{Trace, up_to, fault, and_then, trace}
-use Rattle.reading.specs.Noted.{Reading, on, Ended}
+use Rattle.reading.specs.Noted.{Reading, Ended}
 use Rattle.notes.specs.declared.Notes.{Notes}
 use Rattle.notes.specs.Notes.{fresh, in_notes}
 use Rattle.notes.specs.Steps.{reads, Good, Room, Fine}
@@ -20,8 +20,8 @@ use Rattle.notes.proofs.Notings.{here}
 use Rattle.notes.proofs.Room.{adds}
 use Rattle.engine.specs.Engine.{fits, message_at, places_at, item_at}
 use Rattle.straight.proofs.Made.{then_up_to}
-use Rattle.straight.specs.Exact.{open_of, end_of, due_item, more_of, the_items, in_bulk, Makes, MakesThen, Behind}
-use Rattle.straight.proofs.Exact.{end_is}
+use Rattle.straight.specs.Exact.{open_of, end_of, due_item, more_of, the_items, in_bulk, Makes}
+use Rattle.straight.proofs.Elements.{end_is}
 use Rattle.straight.proofs.Groups.{then_each, next_is, group_is}
 use Rattle.straight.proofs.Wholes.{Keeps}
 use Rattle.straight.proofs.Again.{item_leaves}
@@ -90,16 +90,9 @@ module _ (v : Version) (m : List ℕ) (p : ℕ) (h : length m ≤ most_bytes) (g
     pub starts_room : Room 0 s.notes
     starts_room = rw e (omega arith)
 
-    module _ (r : Going) (i : r ≡ on s) where
-      pub starts_fine : Fine m 0 r
-      starts_fine = rw i (starts_good, omega arith)
-
-      pub starts_behind : Behind r (Room 0)
-      starts_behind = rw i starts_room
-
-      pub message_makes : (l : List ℕ) (x : Going) (y : List ℕ) → MakesThen m (trace (profile v) m) r l x y → (x ≡ message_at v m p) × Fine m 0 x × (y ≡ places_at v m p l)
-      unfolding message_at places_at
-      message_makes l x y j = (j.0 ∙ rw (near, i, e), j.1, j.2 ∙ rw (near, i, e))
+    pub message_makes : (l : List ℕ) (x : Going) (y : List ℕ) → Makes m (trace (profile v) m s.at) s.notes l x y → (x ≡ message_at v m p) × Fine m 0 x × (y ≡ places_at v m p l)
+    unfolding message_at places_at
+    message_makes l x y j = (j.is ∙ rw (near, e), j.fine, j.places ∙ rw (near, e))
 
     alone-is : (n : Notes) → reads (alone v m p) n ≡ reads (due_item v m p) n
     unfolding alone
@@ -113,8 +106,8 @@ module _ (v : Version) (m : List ℕ) (p : ℕ) (h : length m ≤ most_bytes) (g
         go Cut = refl
         go Other = refl
 
-    pub item_makes : (l : List ℕ) (x : Going) (y : List ℕ) → Makes m 0 (due_item v m s.at) s.notes l x y → (x ≡ item_at v m p) × Fine m 0 x
+    pub item_makes : (l : List ℕ) (x : Going) (y : List ℕ) → Makes m (due_item v m s.at) s.notes l x y → (x ≡ item_at v m p) × Fine m 0 x
     unfolding item_at
     item_makes l x y j =
-        let i : x ≡ reads (due_item v m p) fresh = rw e at j.0 in
-        (i ∙ (sym (alone-is fresh) ∙ rw near), j.1)
+        let i : x ≡ reads (due_item v m p) fresh = rw e at j.is in
+        (i ∙ (sym (alone-is fresh) ∙ rw near), j.fine)

@@ -1,6 +1,11 @@
 -- The exact readers, group by group: a start tag by how it lies, one part behind another, and what the definition says of groups of one child.
 use Rattle.std.proofs.Common.{◌≡◌, ℕ, ◌+◌, ◌-◌, ◌≤◌, Bool, true, false, List, length, take, drop, sym, refl, ap, ◌∙◌, arith, length-drop}
 use Prim.Native.String.{String}
+use Rattle.std.specs.Prelude.{Result, Err}
+use Rattle.std.specs.Result.{IsErrAnd}
+use Rattle.std.proofs.lemmas.Result.{err_from_is_err_and}
+use Rattle.answers.specs.declared.Refused.{Refused}
+use Rattle.notes.specs.declared.State.{State}
 use Rattle.text.specs.Truth.{lead, pick}
 use Rattle.text.proofs.Scan.{rest_of}
 use Rattle.tags.specs.declared.Look.{Look}
@@ -13,20 +18,19 @@ use Rattle.profile.specs.Kinds.{is_amount}
 use Rattle.profile.specs.Tree.{once, optional, Shape, end, leaf, group}
 use Rattle.profile.specs.Profile.{is_type}
 use Rattle.reading.specs.Trace.{there, absent, ◌at◌, Trace, met, up_to, fault, and_then, ends, trace}
-use Rattle.reading.specs.Noted.{Reading, on, stop, onward, Ended}
-use Rattle.reading.proofs.Flat.{noted_then, then_then}
+use Rattle.reading.specs.Noted.{Reading, on, stop, Ended}
+use Rattle.reading.proofs.Flat.{then_then}
 use Rattle.notes.specs.declared.Notes.{Notes}
-use Rattle.notes.specs.Notes.{type_noted, in_notes}
-use Rattle.notes.specs.Steps.{reads, Good, Fine}
+use Rattle.notes.specs.Notes.{type_noted}
+use Rattle.notes.specs.Steps.{stepped, reads, Good, Fine}
 use Rattle.notes.proofs.Notings.{here}
-use Rattle.notes.proofs.Stays.{later, good_at}
-use Rattle.engine.specs.Engine.{or_else, placed}
+use Rattle.notes.proofs.Stays.{good_at}
+use Rattle.engine.specs.Engine.{placed}
 use Rattle.engine.proofs.Steps.{spaces_fit}
-use Rattle.engine.proofs.Placed.{then_placed}
 use Rattle.straight.specs.Due.{made}
-use Rattle.straight.specs.Exact.{leaf_of, end_of, by_tag, open_of, one_of, two_of, inside_of, may_of, Makes, MakesThen}
+use Rattle.straight.specs.Exact.{leaf_of, end_of, by_tag, open_of, one_of, two_of, inside_of, may_of, Makes}
 use Rattle.straight.proofs.Made.{made_met, once_ends, may_ends}
-use Rattle.straight.proofs.Exact.{child_once, end_is, ends_then}
+use Rattle.straight.proofs.Elements.{makes_by, child_once, end_is, end_placed, makes_then}
 
 abbrev Going : Type 0
 Going = Reading (Ended Notes)
@@ -56,28 +60,28 @@ module _ (m : List ℕ) (p : ℕ) (x : Notes) (g : Good m (here p x)) (tag : Lis
   good_there z h s i = rw i (good_at m (here p x) z g h)
 
   module _ (whole other : ℕ → Trace) (ps : List ℕ) where
-    abbrev By : ℕ → Going → List ℕ → Type 0
-    By z r y = Makes m z (by_tag tag whole other m p) x ps r y
+    abbrev By : Going → List ℕ → Type 0
+    By r y = Makes m (by_tag tag whole other m p) x ps r y
 
     is-by : (c : Look) → l ≡ c → on_look c (whole q) (fault 3 (length m)) (other q) ≡ by_tag tag whole other m p
     is-by c h = rw (← place, ← e, h) refl
 
-    pub by_whole : l ≡ Whole → (z : ℕ) (r : Going) (y : List ℕ) → Makes m z (whole q) x ps r y → By 0 r y
-    by_whole h z r y i =
-        (i.0 ∙ ap (λ (t : Trace). reads t x) (is-by Whole h), later m 0 z (omega arith) r i.1, i.2 ∙ ap (λ (t : Trace). placed t x ps) (is-by Whole h))
+    pub by_whole : l ≡ Whole → (r : Going) (y : List ℕ) → Makes m (whole q) x ps r y → By r y
+    by_whole h r y i =
+        makes_by 0 r (i.is ∙ ap (λ (t : Trace). reads t x) (is-by Whole h), i.fine, i.places ∙ ap (λ (t : Trace). placed t x ps) (is-by Whole h))
 
-    pub by_cut : l ≡ Cut → (r : Going) → r ≡ stop 3 (length m) → By p r ps
-    by_cut h r i = (i ∙ ap (λ (t : Trace). reads t x) (is-by Cut h), rw i (omega arith), ap (λ (t : Trace). placed t x ps) (is-by Cut h))
+    pub by_cut : l ≡ Cut → (r : Going) → r ≡ stop 3 (length m) → By r ps
+    by_cut h r i = makes_by p r (i ∙ ap (λ (t : Trace). reads t x) (is-by Cut h), rw i (omega arith), ap (λ (t : Trace). placed t x ps) (is-by Cut h))
 
-    pub by_other : l ≡ Other → (z : ℕ) (r : Going) (y : List ℕ) → Makes m z (other q) x ps r y → By 0 r y
-    by_other h z r y i =
-        (i.0 ∙ ap (λ (t : Trace). reads t x) (is-by Other h), later m 0 z (omega arith) r i.1, i.2 ∙ ap (λ (t : Trace). placed t x ps) (is-by Other h))
+    pub by_other : l ≡ Other → (r : Going) (y : List ℕ) → Makes m (other q) x ps r y → By r y
+    by_other h r y i =
+        makes_by 0 r (i.is ∙ ap (λ (t : Trace). reads t x) (is-by Other h), i.fine, i.places ∙ ap (λ (t : Trace). placed t x ps) (is-by Other h))
 
     -- it may be passed over
-    pub by_passed : l ≡ Other → ((z : ℕ) → other z ≡ up_to z) → (r : Going) → r ≡ on (here q x) → By 0 r ps
+    pub by_passed : l ≡ Other → ((z : ℕ) → other z ≡ up_to z) → (r : Going) → r ≡ on (here q x) → By r ps
     by_passed h u r i =
         let t : other q ≡ up_to q = u q in
-        by_other h q r ps (i ∙ ap (λ (a : Trace). reads a x) (sym t), rw i (good_at m (here p x) q g within, omega arith), ap (λ (a : Trace). placed a x ps) (sym t))
+        by_other h r ps (makes_by q r (i ∙ ap (λ (a : Trace). reads a x) (sym t), rw i (good_at m (here p x) q g within, omega arith), ap (λ (a : Trace). placed a x ps) (sym t)))
 
   -- a group's start tag that is due
   module _ (start : List ℕ) (is : tag ≡ exactly start) where
@@ -104,22 +108,11 @@ module _ (m : List ℕ) (p : ℕ) (x : Notes) (g : Good m (here p x)) (tag : Lis
     open_other h r i = opened-by Other h r i (rw i within)
 
 -- the state as it is lent
-pub makes_at : (m : List ℕ) (p : ℕ) (t : ℕ → Trace) (s : Ended Notes) (z : ℕ) (x : Notes) → s ≡ here z x → (l : List ℕ) (r : Going) (y : List ℕ) → Makes m p (t s.at) s.notes l r y
-    → Makes m p (t z) x l r y
-makes_at m p t s z x e l r y i = rw e at i
+pub makes_at : (m : List ℕ) (t : ℕ → Trace) (s : Ended Notes) (z : ℕ) (x : Notes) → s ≡ here z x → (l : List ℕ) (r : Going) (y : List ℕ) → Makes m (t s.at) s.notes l r y
+    → Makes m (t z) x l r y
+makes_at m t s z x e l r y i = rw e at i
 
--- ---- parts behind a step, one behind another
-pub then_after : (m : List ℕ) (t u : ℕ → Trace) (r : Going) (l : List ℕ) (x : Going) (y : List ℕ) → MakesThen m t r l x y → (a : Going) (b : List ℕ) → MakesThen m u x y a b
-    → MakesThen m (λ p. and_then (t p) u) r l a b
-then_after m t u (on s) l x y i a b j = (
-  j.0 ∙ (ap (λ (z : Going). onward z (λ o. reads (u o.at) o.notes)) i.0 ∙ sym (noted_then in_notes (t s.at) u s.notes)),
-  j.1,
-  j.2 ∙ (ap (λ (z : Going). or_else z (λ o. placed (u o.at) o.notes y) y) i.0
-      ∙ (ap (λ (d : List ℕ). or_else (reads (t s.at) s.notes) (λ o. placed (u o.at) o.notes d) d) i.2 ∙ sym (then_placed (t s.at) u s.notes l))),
-)
-then_after m t u (stop n q) l x y i a b j =
-    (j.0 ∙ ap (λ (z : Going). onward z (λ o. reads (u o.at) o.notes)) i.0, j.1, j.2 ∙ (ap (λ (z : Going). or_else z (λ o. placed (u o.at) o.notes y) y) i.0 ∙ i.2))
-
+-- ---- parts one behind another
 -- a start tag notes no place
 open_placed : (m start : List ℕ) (p : ℕ) (x : Notes) (l : List ℕ) → placed (open_of start m p) x l ≡ l
 unfolding open_of
@@ -130,33 +123,30 @@ open_placed m start p x l = go (look (exactly start) (drop (skipped m p) m))
     go Cut = refl
     go Other = refl
 
-pub opens_then : (m start : List ℕ) (r s : Going) (b : List ℕ) → s ≡ onward r (λ z. reads (open_of start m z.at) z.notes) → Fine m 0 s → MakesThen m (open_of start m) r b s b
-opens_then m start r s b e f = (e, f, go r)
-  where
-    go : (a : Going) → b ≡ or_else a (λ z. placed (open_of start m z.at) z.notes b) b
-    go (on z) = sym (open_placed m start z.at z.notes b)
-    go (stop n q) = refl
+-- a tag notes no place
+pub opened : {m : List ℕ} {x : Notes} {l : List ℕ} {r : Going} (start : List ℕ) (p : ℕ) → (r ≡ reads (open_of start m p) x) × Fine m p r → Makes m (open_of start m p) x l r l
+opened {m = m} {x = x} {l = l} {r = r} start p i = makes_by p r (i.0, i.1, sym (open_placed m start p x l))
 
-pub opens_on : (m start : List ℕ) (r : Going) (s : Ended Notes) → on s ≡ r → (x : Going) → x ≡ reads (open_of start m s.at) s.notes → Fine m s.at x
-    → (x ≡ onward r (λ z. reads (open_of start m z.at) z.notes)) × Fine m 0 x
-opens_on m start r s e x j f = (j ∙ ap (λ (y : Going). onward y (λ z. reads (open_of start m z.at) z.notes)) e, later m 0 s.at (omega arith) x f)
+pub ended : {m : List ℕ} {x : Notes} {l : List ℕ} {r : Going} (finish : List ℕ) (p : ℕ) → (r ≡ reads (end_of finish m p) x) × Fine m p r → Makes m (end_of finish m p) x l r l
+ended {m = m} {x = x} {l = l} {r = r} finish p i = makes_by p r (i.0, i.1, sym (end_placed m finish p x l))
 
--- such parts as a chain, of which each link says only what it adds
-pub record Chain (m : List ℕ) (t : ℕ → Trace) (r : Going) (l : List ℕ) (x : Going) (y : List ℕ) : Type 0 where
-  pub makes : MakesThen m t r l x y
+-- parts one behind another: the first is read, and then the next
+module _ {m : List ℕ} {t : Trace} (u : ℕ → Trace) {x : Notes} {l y : List ℕ} where
+  pub next : {s : Ended Notes} {a : Going} {b : List ℕ} → Makes m t x l (on s) y → Makes m (u s.at) s.notes y a b → Makes m (and_then t u) x l a b
+  next {s = s} {a = a} {b = b} i j = makes_then m x l t u (on s) y i a b (j.is, j.fine, j.places)
 
-pub chain : (m : List ℕ) (t : ℕ → Trace) (r : Going) (l : List ℕ) {x : Going} {y : List ℕ} → MakesThen m t r l x y → Chain m t r l x y
-chain m t r l i = record { makes = i }
+  -- or it is refused, and so is the whole
+  pub refused : {n q : ℕ} → Makes m t x l (stop n q) y → Makes m (and_then t u) x l (stop n q) y
+  refused {n = n} {q = q} i = makes_then m x l t u (stop n q) y i (stop n q) y (refl, i.fine, refl)
 
-pub chain_open : (m start : List ℕ) (r : Going) (l : List ℕ) {x : Going} → (x ≡ onward r (λ z. reads (open_of start m z.at) z.notes)) × Fine m 0 x → Chain m (open_of start m) r l x l
-chain_open m start r l {x = x} i = record { makes = opens_then m start r x l i.0 i.1 }
+-- the same trace
+pub same_is : {m : List ℕ} {t u : Trace} {x : Notes} {l : List ℕ} {r : Going} {y : List ℕ} → t ≡ u → Makes m t x l r y → Makes m u x l r y
+same_is e i = rw e at i
 
-module _ {m : List ℕ} {t : ℕ → Trace} {r : Going} {l : List ℕ} {x : Going} {y : List ℕ} (i : Chain m t r l x y) where
-  pub chain_on : (u : ℕ → Trace) {a : Going} {b : List ℕ} → MakesThen m u x y a b → Chain m (λ p. and_then (t p) u) r l a b
-  chain_on u {a = a} {b = b} j = record { makes = then_after m t u r l x y i.makes a b j }
-
-  pub chain_end : (finish : List ℕ) {a : Going} → (a ≡ onward x (λ z. reads (end_of finish m z.at) z.notes)) × Fine m 0 a → Chain m (λ p. and_then (t p) (end_of finish m)) r l a y
-  chain_end finish {a = a} j = chain_on (end_of finish m) (ends_then m finish x a y j.0 j.1)
+-- the error that `?` hands on is the one that came
+pub handed_on : {m : List ℕ} {t : Trace} {x : Notes} {l y : List ℕ} (r : Refused) (z : Result State Refused) → IsErrAnd z (λ e. e ≡ r) → Makes m t x l (stepped (Err r)) y
+    → Makes m t x l (stepped z) y
+handed_on r z h i = let w = err_from_is_err_and z h in rw (w.1, w.2) i
 
 -- ---- the definition
 pub then_each : (t : Trace) (f g : ℕ → Trace) → ((p : ℕ) → f p ≡ g p) → and_then t f ≡ and_then t g

@@ -4,10 +4,10 @@ pub mod Words
 pub mod Spelled
 pub mod Ways
 pub mod Runs
-pub mod Pieces
+pub mod Owed
 pub mod WholeItem
-pub mod Noted
-pub mod Exact
+pub mod Starts
+pub mod Elements
 pub mod Groups
 pub mod Types
 pub mod Amounts

@@ -1,13 +1,14 @@
 -- The texts of the runs in their table; and what is kept of the runs: each way of spelling one.
-use Rattle.std.proofs.Common.{◌≡◌, ℕ, zero, suc, ◌+◌, ◌-◌, ◌*◌, ◌<◌, ◌≤◌, Bool, T, eqb, ltb, leb, List, [], ◌∷◌, length, get_or, take, drop, refl, arith, length-drop, length-take-le, ltb-true, eqb-true, leb-true}
+use Rattle.std.proofs.Common.{◌≡◌, ℕ, ◌+◌, ◌*◌, ◌<◌, Bool, T, eqb, ltb, leb, List, [], ◌∷◌, length, get_or, refl, ltb-true, eqb-true, leb-true}
 use Rattle.text.specs.Truth.{both, part}
 use Rattle.text.specs.Quoted.{alike}
 use Rattle.text.specs.Below.{below, passed, below_at, both_left, both_right}
-use Rattle.swift_values.specs.Stands.{Found}
+use Rattle.swift_values.proofs.Values.{found_at}
 use Rattle.straight.specs.Due.{Past}
 use Rattle.straight.specs.Spelled.{Spelled}
 use Rattle.straight.specs.Runs.{text_at, Texts}
-use Rattle.straight.specs.Kept.{Kept}
+use Rattle.straight.specs.declared.before.Spelling.{Spelling}
+use Rattle.straight.specs.Kept.{SpelledAs}
 use Rattle.straight.proofs.Spelled.{spelled_again}
 
 -- ---- the texts: one computed test of each row
@@ -42,34 +43,6 @@ texts_tested t l h = record {
     size : (j : ℕ) → j < 29 → T (fits t j)
     size j g = both_left (fits t j) (alike (part (96 * j) (size_at t j) t) (text_at j)) (row j g)
 
--- the text of a run, in its row
-module _ (t : List ℕ) (x : Texts t) (j n : ℕ) (h : j < 29) (e : n ≡ get_or t (96 * j + 80) 0) where
-  pub row_within : 96 * j + 96 ≤ length t
-  row_within = omega (arith, x.long)
-
-  pub size_short : n ≤ 80
-  size_short = omega (arith, x.short j h)
-
-  abbrev text_in : List ℕ
-  text_in = take (96 * j + n - 96 * j) (drop (96 * j) t)
-
-  pub text_is : text_in ≡ text_at j
-  text_is =
-      let z : 96 * j + n - 96 * j ≡ n = omega arith in
-      rw (z, e) (x.each j h)
-
-  pub text_some : 0 < length text_in
-  text_some =
-      let z : 96 * j + n - 96 * j ≡ n = omega arith in
-      let l : length text_in ≡ n = rw z (length-take-le n (drop (96 * j) t) (omega (arith, length-drop (96 * j) t, row_within, size_short))) in
-      omega (arith, l, x.some j h)
-
 -- as it was spelled before
-pub run_again : (m w : List ℕ) (p j r : ℕ) → Kept m w → j < 32 → (get_or w (j + 32) 0 ≡ 0 → r ≡ 0) → Found (Past m p (part (get_or w j 0) (get_or w (j + 32) 0) m)) r → Found (Spelled m p (text_at j)) r
-run_again m w p j zero k h z f = tt
-run_again m w p j (suc r) k h z f =
-    spelled_again m p (text_at j) (get_or w j 0) (get_or w (j + 32) 0) (suc r) (some (get_or w (j + 32) 0) z) (k.each j h) f
-  where
-    some : (n : ℕ) → (n ≡ 0 → suc r ≡ 0) → 0 < n
-    some zero g = absurd (let y : ⊥ = omega (arith, g refl) in y)
-    some (suc n) g = omega arith
+pub run_again : (m : List ℕ) (p j r : ℕ) (s : Spelling) → SpelledAs m j s → 0 < s.length → Past m p (part s.place s.length m) r → Spelled m p (text_at j) r
+run_again m p j r s k z f = spelled_again m p (text_at j) s.place s.length r (found_at (λ x. Spelled m s.place (text_at j) (s.place + x)) s.length z k) f

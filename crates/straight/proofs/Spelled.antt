@@ -7,7 +7,6 @@ use Rattle.text.specs.Truth.{both, pick, every, lead, part, first}
 use Rattle.text.proofs.Truths.{never, both_true}
 use Rattle.text.proofs.Scan.{next, rest_of, first_of_rest, lead_before, lead_every}
 use Rattle.tags.specs.Tags.{white}
-use Rattle.swift_values.specs.Stands.{Found}
 use Rattle.straight.specs.Due.{Token, tight, spaced, flat, Leads, Past, Went}
 use Rattle.straight.specs.Spelled.{spells, tagged, loose, is_tag, solid, Spelled, Onto}
 use Rattle.straight.specs.Words.{word_at, Eight, Match}
@@ -157,14 +156,12 @@ module _ (m : List ℕ) (p : ℕ) where
       let n : r - p ≡ length t = omega (arith, h.place) in
       ap (λ (k : ℕ). take k (drop p m)) n ∙ ap (take (length t)) h.stands ∙ take-append_seam t (drop r m)
 
-  pub spelled_again : (t : List ℕ) (q n r : ℕ) → 0 < n → Found (λ k. Spelled m q t (q + k)) n → Found (Past m p (part q n m)) r → Found (Spelled m p t) r
-  spelled_again t q n zero g f h = tt
-  spelled_again t q zero (suc r) g f h = absurd (let z : ⊥ = omega arith in z)
-  spelled_again t q (suc n) (suc r) g f h =
-      let k : q + suc n - q ≡ suc n = omega arith in
-      let e : part p (suc r - p) m ≡ part q (q + suc n - q) m = past_part (part q (suc n) m) (suc r) h ∙ ap (λ (x : ℕ). part q x m) (sym k) in
-      let l : length (part q (suc n) m) ≡ suc n = length-take-le (suc n) (drop q m) (omega (arith, length-drop q m, f.within)) in
-      record { some = h.some; from = omega (arith, h.place, l); within = h.within; spelt = ap (λ (x : List ℕ). spells x t) e ∙ f.spelt }
+  pub spelled_again : (t : List ℕ) (q n r : ℕ) → Spelled m q t (q + n) → Past m p (part q n m) r → Spelled m p t r
+  spelled_again t q n r f h =
+      let k : q + n - q ≡ n = omega arith in
+      let e : part p (r - p) m ≡ part q (q + n - q) m = past_part (part q n m) r h ∙ ap (λ (x : ℕ). part q x m) (sym k) in
+      let l : length (part q n m) ≡ n = length-take-le n (drop q m) (omega (arith, length-drop q m, f.within)) in
+      record { some = h.some; from = omega (arith, h.place, l, f.from); within = h.within; spelt = ap (λ (x : List ℕ). spells x t) e ∙ f.spelt }
 
 -- one byte more of a text, right here or after white space
 module _ (m : List ℕ) (p : ℕ) where
@@ -174,22 +171,21 @@ module _ (m : List ℕ) (p : ℕ) where
       let x : part p (p + 1 - p) m ≡ c ∷ [] = ap (λ (y : ℕ). part p y m) k ∙ rw (next m p h, e) refl in
       record { some = s; from = omega arith; within = omega arith; onto = λ u t g. ap (λ (y : List ℕ). spells (y ++ u) (c ∷ t)) x ∙ same_byte c u t g }
 
-  pub onto_behind : (w r : ℕ) → w ≡ lead white (take (length m - p) (drop p m)) → 0 < p → Found (Onto m (p + w) 60) r → Found (Onto m p 60) r
-  onto_behind w zero e s h = tt
-  onto_behind w (suc r) e s h =
+  pub onto_behind : (w r : ℕ) → w ≡ lead white (take (length m - p) (drop p m)) → 0 < p → Onto m (p + w) 60 r → Onto m p 60 r
+  onto_behind w r e s h =
       let v : w ≡ lead white (drop p m) = e ∙ ap (lead white) (rest_of p m) in
       let b : every white (take w (drop p m)) ≡ true = ap (λ (y : ℕ). every white (take y (drop p m))) v ∙ lead_every white (drop p m) in
-      let k : suc r - p ≡ w + (suc r - (p + w)) = omega (arith, h.from) in
-      let x : part p (suc r - p) m ≡ take w (drop p m) ++ part (p + w) (suc r - (p + w)) m =
-      ap (λ (y : ℕ). part p y m) k ∙ take-add w (suc r - (p + w)) (drop p m) ∙ ap (λ (y : List ℕ). take w (drop p m) ++ take (suc r - (p + w)) y) (drop-drop w p m) in
+      let k : r - p ≡ w + (r - (p + w)) = omega (arith, h.from) in
+      let x : part p (r - p) m ≡ take w (drop p m) ++ part (p + w) (r - (p + w)) m =
+      ap (λ (y : ℕ). part p y m) k ∙ take-add w (r - (p + w)) (drop p m) ∙ ap (λ (y : List ℕ). take w (drop p m) ++ take (r - (p + w)) y) (drop-drop w p m) in
       record {
         some = s;
         from = omega (arith, h.from);
         within = h.within;
         onto =
             λ u t g.
-            ap (λ (y : List ℕ). spells y (60 ∷ t)) (ap (λ (y : List ℕ). y ++ u) x ∙ append_assoc (take w (drop p m)) (part (p + w) (suc r - (p + w)) m) u)
-            ∙ blanks (take w (drop p m)) (part (p + w) (suc r - (p + w)) m ++ u) t b (h.onto u t g);
+            ap (λ (y : List ℕ). spells y (60 ∷ t)) (ap (λ (y : List ℕ). y ++ u) x ∙ append_assoc (take w (drop p m)) (part (p + w) (r - (p + w)) m) u)
+            ∙ blanks (take w (drop p m)) (part (p + w) (r - (p + w)) m ++ u) t b (h.onto u t g);
       }
 
 -- ---- the loop: the first i bytes of the text are spelled from p to q
@@ -424,14 +420,13 @@ module _ (m : List ℕ) (p : ℕ) (t : List ℕ) where
       let z : q + w + n ≡ q + (w + n) = omega arith in
       rw (← z) (sofar-alike i (q + w) n (sofar-white i q w a h c f (omega arith)) e g (omega arith))
 
-  pub sofar_then : (i q r : ℕ) → 0 < p → Sofar m p t i q → Found (Spelled m q (take (length t - i) (drop i t))) r → Found (Spelled m p t) r
-  sofar_then i q zero s a h = tt
-  sofar_then i q (suc r) s a h =
+  pub sofar_then : (i q r : ℕ) → 0 < p → Sofar m p t i q → Spelled m q (take (length t - i) (drop i t)) r → Spelled m p t r
+  sofar_then i q r s a h =
       record {
         some = s;
         from = omega (arith, a.from, h.from);
         within = h.within;
         spelt =
-            ap (λ (y : List ℕ). spells y t) (part_join m p q (suc r) a.from (omega (arith, h.from)))
-            ∙ a.goes (part q (suc r - q) m) (ap (spells (part q (suc r - q) m)) (sym (rest_of i t)) ∙ h.spelt);
+            ap (λ (y : List ℕ). spells y t) (part_join m p q r a.from (omega (arith, h.from)))
+            ∙ a.goes (part q (r - q) m) (ap (spells (part q (r - q) m)) (sym (rest_of i t)) ∙ h.spelt);
       }

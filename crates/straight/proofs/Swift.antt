@@ -1,5 +1,6 @@
 -- An item that the quick reader tells: it begins, there is room for its amount, and it is the first, or one more of those that come. And an item told in a row.
-use Rattle.std.proofs.Common.{◌≡◌, ℕ, ◌+◌, ◌-◌, ◌*◌, ◌/◌, ◌<◌, ◌≤◌, Bool, true, false, List, length, sym, refl, ◌∙◌, arith}
+use Rattle.std.proofs.Common.{◌≡◌, ℕ, ◌+◌, ◌-◌, ◌*◌, ◌/◌, ◌<◌, ◌≤◌, List, length, sym, refl, ◌∙◌, arith}
+use Rattle.std.specs.Prelude.{Option, None, Some}
 use borrow.Rule.Slice.PartMut.{put_same}
 use Rattle.tags.specs.declared.Look.TheVariants.{Whole}
 use Rattle.tags.specs.Tags.{skipped}
@@ -31,7 +32,7 @@ pub record Begun (v : Version) (m : List ℕ) (u : Ended Notes) (at : ℕ) (y : 
   pub was : Good m u
   pub good : Good m (here at y.notes)
   pub room : Room 1 y.notes
-  pub whole : (l : List ℕ) (z : Ended Notes) (f : List ℕ) → Makes m 0 (trace (in_item v) m at) y.notes l (on z) f → Makes m 0 (item_body v m (skipped m u.at)) u.notes l (on z) f
+  pub whole : (l : List ℕ) (z : Ended Notes) (f : List ℕ) → Makes m (trace (in_item v) m at) y.notes l (on z) f → Makes m (item_body v m (skipped m u.at)) u.notes l (on z) f
 
 -- so it is where it begins at b, by a step a that goes on
 module _ (v : Version) (m : List ℕ) (u : Ended Notes) (good : Good m u) (room : Room 0 u.notes) (at : ℕ) (i : ItemBegins m u.at at) (within : at ≤ length m)
@@ -55,11 +56,11 @@ module _ (v : Version) (m : List ℕ) (u : Ended Notes) (good : Good m u) (room 
     was = good;
     good = (item_fine m place u.notes a inner starts at goes (good_at m u place good (omega (arith, i.behind))) within).0;
     room = item_room m place u.notes a inner starts at goes room;
-    whole = λ l z f j. item_makes m place u.notes a inner starts at goes v i.behind l (on z) f j;
+    whole = λ l z f j. item_makes m place u.notes a inner starts at goes v i.behind l (on z) f (j.is, j.fine, j.places);
   }
 
 module _ {v : Version} {m : List ℕ} {u : Ended Notes} {at : ℕ} {y : Ended Notes} (x : Begun v m u at y) (l : List ℕ) (z : Ended Notes) (f : List ℕ)
-    (j : Makes m 0 (trace (in_item v) m at) y.notes l (on z) f) where
+    (j : Makes m (trace (in_item v) m at) y.notes l (on z) f) where
   abbrev q : ℕ
   q = skipped m u.at
 
@@ -72,8 +73,8 @@ module _ {v : Version} {m : List ℕ} {u : Ended Notes} {at : ℕ} {y : Ended No
       loop_next v m n r₀ l₀ left (on u) l k u refl (omega arith) x.was q refl near Whole (sym x.begins.whole) refl (here q u.notes) refl (on z) f (x.whole l z f j) h
 
   -- the first, which is due
-  pub swift_first : Makes m 0 (due_item v m u.at) u.notes l (on z) f
-  swift_first = by_whole m u.at u.notes x.was item_tag q refl near Whole (sym x.begins.whole) (item_body v m) (fault 4) l refl 0 (on z) f (x.whole l z f j)
+  pub swift_first : Makes m (due_item v m u.at) u.notes l (on z) f
+  swift_first = by_whole m u.at u.notes x.was item_tag q refl near Whole (sym x.begins.whole) (item_body v m) (fault 4) l refl (on z) f (x.whole l z f j)
 
 -- ---- rows
 module _ (v : Version) (m : List ℕ) (p : ℕ) (row : List ℕ) where
@@ -83,13 +84,13 @@ module _ (v : Version) (m : List ℕ) (p : ℕ) (row : List ℕ) where
   pub row_left : (x : Going) → x ≡ item_at v m p → (n q : ℕ) → x ≡ stop n q → ItemLeft v m p row row
   row_left x e n q h = record { number = n; place = q; is = sym e ∙ h; left = refl }
 
-module _ {v : Version} {m : List ℕ} {first : ℕ} {rows₀ : List ℕ} {i at : ℕ} {rows : List ℕ} (k : Reads v m first rows₀ i at rows) (h : i < length rows₀ / row_length) (b : Bool) where
-  pub row_stops : b ≡ false → (r : ℕ) (x : List ℕ) → RowRead b v m at (row_at k h) r x → Tells v m first rows₀ (record { read = i; at = at }) (with_row k h x)
-  row_stops e r x t =
+module _ {v : Version} {m : List ℕ} {first : ℕ} {rows₀ : List ℕ} {i at : ℕ} {rows : List ℕ} (k : Reads v m first rows₀ i at rows) (h : i < length rows₀ / row_length) (b : Option ℕ) where
+  pub row_stops : b ≡ None → (x : List ℕ) → RowRead v m at (row_at k h) b x → Tells v m first rows₀ (record { read = i; at = at }) (with_row k h x)
+  row_stops e x t =
       let l : ItemLeft v m at (row_at k h) x = rw e at t in
       rw (l.left, put_same (row_length * i) (row_length * i + row_length - row_length * i) rows) (reads_stop k h refl l.number l.place l.is)
 
-  pub row_goes : b ≡ true → (r : ℕ) (x : List ℕ) → RowRead b v m at (row_at k h) r x → length x ≡ length (row_at k h) → Reads v m first rows₀ (i + 1) r (with_row k h x) × (r ≤ length m)
-  row_goes e r x t l =
+  pub row_goes : (r : ℕ) → b ≡ Some r → (x : List ℕ) → RowRead v m at (row_at k h) b x → length x ≡ length (row_at k h) → Reads v m first rows₀ (i + 1) r (with_row k h x) × (r ≤ length m)
+  row_goes r e x t l =
       let o : ItemTold v m at (row_at k h) r x = rw e at t in
       (reads_on k h refl (here r o.notes) o.is x o.told l, o.within)

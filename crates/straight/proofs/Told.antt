@@ -1,5 +1,5 @@
 -- An item that the quick reader told is what the definition makes of it.
-use Rattle.std.proofs.Common.{◌≡◌, ℕ, ◌+◌, ◌<◌, ◌≤◌, List, length, refl, ap, ◌∙◌, arith}
+use Rattle.std.proofs.Common.{◌≡◌, ℕ, ◌+◌, ◌≤◌, List, length, refl, ap, ◌∙◌, arith}
 use Rattle.money.specs.declared.Range.TheVariants as range
 use Rattle.money.specs.Amount.{most}
 use Rattle.profile.specs.declared.Field.TheVariants.{TxId}
@@ -12,15 +12,13 @@ use Rattle.notes.specs.declared.Notes.{Notes}
 use Rattle.notes.specs.Steps.{Good, Room}
 use Rattle.notes.proofs.Notings.{here}
 use Rattle.engine.specs.Engine.{filed_by}
-use Rattle.swift_values.specs.Stands.{Found}
-use Rattle.swift_values.proofs.Values.{found_at}
-use Rattle.straight.specs.declared.quick.Front.{Front}
-use Rattle.straight.specs.declared.quick.Back.{Back}
-use Rattle.straight.specs.declared.quick.Item.{Item}
+use Rattle.straight.specs.declared.pieces.Front.{Front}
+use Rattle.straight.specs.declared.pieces.Back.{Back}
+use Rattle.straight.specs.declared.pieces.Item.{Item}
 use Rattle.straight.specs.Exact.{Makes}
 use Rattle.straight.specs.Ways.{Gone}
 use Rattle.straight.specs.Legs.{item_legs, FrontWithin, BackWithin, Followed, item_noted}
-use Rattle.straight.proofs.Exact.{made_makes}
+use Rattle.straight.proofs.Elements.{made_makes}
 use Rattle.straight.proofs.WholeItem.{item_made}
 
 abbrev Going : Type 0
@@ -63,10 +61,9 @@ back_within n k r h g = record {
 }
 
 module _ (m : List ℕ) (p : ℕ) (x : Notes) (v : Version) (r : Item) (g : Good m (here p x)) where
-  pub held_makes : BackWithin (length m) r.back → Found (Gone m p (item_legs v r)) r.back.at → ((0 < r.back.at) → Followed x.typed x.service r.front) → (r.back.at ≡ 0 → ⊥)
+  pub held_makes : BackWithin (length m) r.back → Gone m p (item_legs v r) r.back.at → Followed x.typed x.service r.front
       → (s : Ended Notes) → s ≡ here r.back.at (item_noted x.typed r.front.first r.back.text r x) → (a : Going) → a ≡ on s
-      → (l k : List ℕ) → k ≡ filed_by TxId r.front.tx l → Makes m 0 (trace (in_item v) m p) x l a k
-  held_makes b f w z s e a i l k j =
-      let h : 0 < r.back.at = omega arith in
-      let t = item_made m p v x.typed x.service r x l (found_at (Gone m p (item_legs v r)) r.back.at h f) (w h) refl refl in
+      → (l k : List ℕ) → k ≡ filed_by TxId r.front.tx l → Makes m (trace (in_item v) m p) x l a k
+  held_makes b f w s e a i l k j =
+      let t = item_made m p v x.typed x.service r x l f w refl refl in
       rw j (made_makes m p x g (in_item v) r.back.at _ l (filed_by TxId r.front.tx l) b.end refl t a (i ∙ ap on e))

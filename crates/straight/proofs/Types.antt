@@ -18,9 +18,9 @@ use Rattle.notes.specs.Steps.{staying, reads, Good, Fine}
 use Rattle.notes.proofs.Notings.{here}
 use Rattle.notes.proofs.Stays.{good_at, type_fine}
 use Rattle.engine.specs.Engine.{or_else, placed}
-use Rattle.straight.specs.Exact.{leaf_of, end_of, open_of, one_of, in_type_of, type_of, mandate_of, other_of, private_of, own_of, scheme_of, debit_of, Makes, MakesThen}
+use Rattle.straight.specs.Exact.{leaf_of, end_of, open_of, one_of, in_type_of, type_of, mandate_of, other_of, private_of, own_of, scheme_of, debit_of, Makes}
 use Rattle.straight.proofs.Made.{may_ends}
-use Rattle.straight.proofs.Exact.{child_once, end_is}
+use Rattle.straight.proofs.Elements.{child_once, end_is, MakesThen, makes_by}
 use Rattle.straight.proofs.Groups.{then_each, next_is, group_is, one_is}
 
 abbrev Going : Type 0
@@ -32,11 +32,15 @@ pub after_fine : (m : List ℕ) (q z : ℕ) (a b : Going) → Fine m q a → z �
 after_fine m q z (on s) b f h e = rw e (good_at m s z f.0 h, omega arith)
 after_fine m q z (stop n p) b f h e = rw e f
 
+-- where a step is taken, and its place is set then
+pub goes_at : (a : Going) (s : Ended Notes) → on s ≡ a → (z : ℕ) (t : Ended Notes) → t ≡ here z s.notes → on t ≡ onward a (λ (u : Ended Notes). on (here z u.notes))
+goes_at a s e z t h = rw (← e) (ap on h)
+
 module _ (m : List ℕ) (q : ℕ) (x : Notes) (ps : List ℕ) where
   pub type_there : (z : ℕ) (a : Going) → a ≡ staying q (type_noted true q x) → (b : Going) → b ≡ onward a (λ s. on (here z s.notes)) → (r : Going) (y : List ℕ) → MakesThen m (in_type_of m) b ps r y
-      → Makes m 0 (met (there type_name at q) (in_type_of m z)) x ps r y
+      → Makes m (met (there type_name at q) (in_type_of m z)) x ps r y
   unfolding is_type
-  type_there z a e b f r y i = go (type_noted true q x) (f ∙ ap (λ (c : Going). onward c (λ s. on (here z s.notes))) e) i
+  type_there z a e b f r y i = makes_by 0 r (go (type_noted true q x) (f ∙ ap (λ (c : Going). onward c (λ s. on (here z s.notes))) e) i)
     where
       go : (w : Reading Notes) → b ≡ onward (staying q w) (λ s. on (here z s.notes)) → MakesThen m (in_type_of m) b ps r y
           → (r ≡ onward w (reads (in_type_of m z))) × Fine m 0 r × (y ≡ or_else w (λ u. placed (in_type_of m z) u ps) ps)
@@ -51,9 +55,15 @@ module _ (m : List ℕ) (q : ℕ) (x : Notes) (ps : List ℕ) where
         j.2 ∙ ap (λ (c : Going). or_else c (λ s. placed (in_type_of m s.at) s.notes ps) ps) h,
       )
 
-  pub type_absent : Good m (here q x) → (a : Going) → a ≡ staying q (type_noted false q x) → Makes m q (met (absent type_name at q) (up_to q)) x ps a ps
+  pub type_refused : Good m (here q x) → (z : ℕ) → z ≤ length m → (a : Going) → a ≡ staying q (type_noted true q x) → (n p : ℕ) → stop n p ≡ a
+      → Makes m (met (there type_name at q) (in_type_of m z)) x ps (stop n p) ps
+  type_refused g z w a e n p h =
+      let f : stop n p ≡ onward a (λ (s : Ended Notes). on (here z s.notes)) = rw (← h) refl in
+      type_there z a e (stop n p) f (stop n p) ps (refl, after_fine m q z a (stop n p) (rw e (type_fine m q x g true)) w f, refl)
+
+  pub type_absent : Good m (here q x) → (a : Going) → a ≡ staying q (type_noted false q x) → Makes m (met (absent type_name at q) (up_to q)) x ps a ps
   unfolding is_type
-  type_absent g a e = (e, rw e (type_fine m q x g false), go (type_noted false q x))
+  type_absent g a e = makes_by q a (e, rw e (type_fine m q x g false), go (type_noted false q x))
     where
       go : (w : Reading Notes) → ps ≡ or_else w (λ u. ps) ps
       go (on u) = refl

@@ -1,4 +1,5 @@
 -- A run of fixed tags leads where `walk` says: one law for every run of the profile, whole or with white space.
+use Rattle.std.specs.Prelude.{Option}
 use Rattle.std.proofs.Common.{◌≡◌, ℕ, ◌+◌, ◌-◌, ◌<◌, ◌≤◌, Bool, true, false, not, eqb, List, [], ◌∷◌, ◌++◌, length, drop, sym, refl, ap, ◌∙◌, append_assoc, arith, length-append, drop-drop, lt-ltb, eqb-true}
 use Prim.Native.String.{String}
 use lib.Seq.{drop-append_seam}
@@ -17,11 +18,11 @@ use Rattle.profile.specs.Kinds.{is_amount}
 use Rattle.profile.specs.Tree.{Occ, once, optional, many, more, Shape, end, leaf, group}
 use Rattle.profile.specs.Profile.{is_type}
 use Rattle.reading.specs.Trace.{there, absent, value as a_value, ◌at◌, Trace, met, up_to, fault, and_then, ends, priced, closed, valued, leaf_body, group_body, missing, turn, follow, trace}
-use Rattle.reading.specs.Noted.{on, stop}
+use Rattle.reading.specs.Noted.{on}
 use Rattle.notes.specs.declared.Notes.{Notes}
-use Rattle.notes.specs.Notes.{type_number, type_refusal, with_type, type_noted, in_notes}
+use Rattle.notes.specs.Notes.{with_type, unsaid, said_by, type_noted, in_notes}
 use Rattle.engine.specs.Engine.{filed_by}
-use Rattle.straight.specs.Due.{Due, done, inside, value, close, run, made, Token, tight, spaced, Walked, lost, to, onto, is_other, opening, unsaid, said_by, allowed, heard, step, step_by, walk, Leads}
+use Rattle.straight.specs.Due.{Due, done, inside, value, close, run, made, Token, tight, spaced, Walked, lost, to, onto, is_other, opening, allowed, heard, step, step_by, walk, Leads}
 use Rattle.straight.proofs.Made.{made_met, once_ends, may_ends, unwrapped}
 
 -- ---- what fits is what it says
@@ -35,21 +36,21 @@ alike_eq (d ∷ t) (c ∷ s) e =
     let y : s ≡ t = alike_eq t s h.1 in
     cc
 
-to_same : (u s : ℕ) (d e : Due) → to u d ≡ to s e → (u ≡ s) × (d ≡ e)
+to_same : (u s : Option Bool) (d e : Due) → to u d ≡ to s e → (u ≡ s) × (d ≡ e)
 to_same u s d e h = (cc, cc)
 
-lost_not : {A : Type 0} (s : ℕ) (d : Due) → lost ≡ to s d → A
+lost_not : {A : Type 0} (s : Option Bool) (d : Due) → lost ≡ to s d → A
 lost_not s d h = never (cc)
 
-picked : (b : Bool) (w : Walked) (s : ℕ) (d : Due) → pick b w lost ≡ to s d → (b ≡ true) × (w ≡ to s d)
+picked : (b : Bool) (w : Walked) (s : Option Bool) (d : Due) → pick b w lost ≡ to s d → (b ≡ true) × (w ≡ to s d)
 picked true w s d h = (refl, h)
 picked false w s d h = lost_not s d h
 
 -- the same due, with the same said
-made_to : (m : List ℕ) (r : ℕ) (x : Notes) (l : List ℕ) (u s : ℕ) (d e : Due) → to u d ≡ to s e → made (run d m r) (with_type u x) l ≡ made (run e m r) (with_type s x) l
+made_to : (m : List ℕ) (r : ℕ) (x : Notes) (l : List ℕ) (u s : Option Bool) (d e : Due) → to u d ≡ to s e → made (run d m r) (with_type u x) l ≡ made (run e m r) (with_type s x) l
 made_to m r x l u s d e h =
     let z = to_same u s d e h in
-    ap (λ (k : ℕ). made (run d m r) (with_type k x) l) z.0 ∙ ap (λ (k : Due). made (run k m r) (with_type s x) l) z.1
+    ap (λ (k : Option Bool). made (run d m r) (with_type k x) l) z.0 ∙ ap (λ (k : Due). made (run k m r) (with_type s x) l) z.1
 
 -- ---- looks
 pub closed_here : (m : List ℕ) (n : String) (p : ℕ) → look (exactly (end_tag n)) (drop p m) ≡ Whole → closed n m p ≡ up_to (p + length (end_tag n))
@@ -99,12 +100,7 @@ module _ (m : List ℕ) (p : ℕ) (n : String) (s : List ℕ) where
 -- ---- that an element which is 0 or 1 is there, or is not
 type_heard : (b : Bool) (p : ℕ) (x : Notes) → unsaid x.typed b ≡ true → type_noted b p x ≡ on (with_type (said_by x.typed b) x)
 unfolding type_noted
-type_heard b p x h = go (eqb x.typed 0) (eqb x.typed (type_number b)) h
-  where
-    go : (u w : Bool) → not w ≡ true → pick u (on (with_type (type_number b) x)) (pick w (stop (type_refusal b) p) (on x)) ≡ on (with_type (pick u (type_number b) x.typed) x)
-    go true w h = refl
-    go false false h = refl
-    go false true h = never (cc)
+type_heard b p x h = rw h
 
 heard_noted : (b : Bool) (n : String) (p : ℕ) (x : Notes) → allowed x.typed b n ≡ true → pick (is_type n) (type_noted b p x) (on x) ≡ on (with_type (heard x.typed b n) x)
 heard_noted b n p x h = go (is_type n) h
@@ -185,25 +181,25 @@ module _ (m : List ℕ) (t s : List ℕ) (p : ℕ) (still : skipped m p ≡ p) (
 
   -- the walk's step is the definition's
   module _ (l : List ℕ) where
-    abbrev Leads-to : Notes → Due → ℕ → Due → Type 0
+    abbrev Leads-to : Notes → Due → Option Bool → Due → Type 0
     Leads-to x a s d = made (run a m p) x l ≡ made (run d m (p + length t)) (with_type s x) l
 
-    by-trace : (x : Notes) (a c : Due) (s : ℕ) (d : Due) → run a m p ≡ run c m (p + length t) → to x.typed c ≡ to s d → Leads-to x a s d
+    by-trace : (x : Notes) (a c : Due) (s : Option Bool) (d : Due) → run a m p ≡ run c m (p + length t) → to x.typed c ≡ to s d → Leads-to x a s d
     by-trace x a c s d z w = ap (λ (y : Trace). made y x l) z ∙ made_to m (p + length t) x l x.typed s c d w
 
-    by-there : (x : Notes) (a c : Due) (s : ℕ) (d : Due) (n : String) → run a m p ≡ met (there n at p) (run c m (p + length t))
+    by-there : (x : Notes) (a c : Due) (s : Option Bool) (d : Due) (n : String) → run a m p ≡ met (there n at p) (run c m (p + length t))
         → allowed x.typed true n ≡ true → to (heard x.typed true n) c ≡ to s d → Leads-to x a s d
     by-there x a c s d n z g w =
         let u = heard x.typed true n in
         ap (λ (y : Trace). made y x l) z
         ∙ (made_met (there n at p) (run c m (p + length t)) x (with_type u x) l (heard_noted true n p x g) ∙ made_to m (p + length t) x l u s c d w)
 
-    by-absent : (x : Notes) (a c : Due) (s : ℕ) (d : Due) (n : String) → run a m p ≡ met (absent n at p) (run c m p)
+    by-absent : (x : Notes) (a c : Due) (s : Option Bool) (d : Due) (n : String) → run a m p ≡ met (absent n at p) (run c m p)
         → allowed x.typed false n ≡ true → Leads-to (with_type (heard x.typed false n) x) c s d → Leads-to x a s d
     by-absent x a c s d n z g w =
         ap (λ (y : Trace). made y x l) z ∙ (made_met (absent n at p) (run c m p) x (with_type (heard x.typed false n) x) l (heard_noted false n p x g) ∙ w)
 
-    pub step_leads : (sh : Shape) (k : Due) (s : ℕ) (d : Due) (x : Notes) → step x.typed t sh k ≡ to s d → Leads-to x (inside sh k) s d
+    pub step_leads : (sh : Shape) (k : Due) (s : Option Bool) (d : Due) (x : Notes) → step x.typed t sh k ≡ to s d → Leads-to x (inside sh k) s d
     step_leads (end n) k s d x w =
         let o = picked (alike (end_tag n) t) (to x.typed k) s d w in
         by-trace x (inside (end n) k) k s d (end-at n k (alike_eq (end_tag n) t o.0)) o.1
@@ -219,7 +215,7 @@ module _ (m : List ℕ) (t s : List ℕ) (p : ℕ) (still : skipped m p ≡ p) (
         here-too : Due
         here-too = inside (leaf optional n kd f rest) k
 
-        u : ℕ
+        u : Option Bool
         u = heard x.typed false n
 
         other : Bool
@@ -249,7 +245,7 @@ module _ (m : List ℕ) (t s : List ℕ) (p : ℕ) (still : skipped m p ≡ p) (
         here-too : Due
         here-too = inside (group optional n inner rest) k
 
-        u : ℕ
+        u : Option Bool
         u = heard x.typed false n
 
         other : Bool
@@ -297,7 +293,7 @@ module _ (m : List ℕ) (p r : ℕ) (kd : Kind) (f : Field) (n : String) (k : Du
 
 -- ---- one piece of a run
 abbrev Steps : List ℕ → ℕ → Token → ℕ → Type 0
-Steps m p t r = (d e : Due) (u : ℕ) (x : Notes) (l : List ℕ) → step_by x.typed t d ≡ to u e → made (run d m p) x l ≡ made (run e m r) (with_type u x) l
+Steps m p t r = (d e : Due) (u : Option Bool) (x : Notes) (l : List ℕ) → step_by x.typed t d ≡ to u e → made (run d m p) x l ≡ made (run e m r) (with_type u x) l
 
 module _ (m : List ℕ) where
   pub leads_none : (p : ℕ) → Leads m p [] p

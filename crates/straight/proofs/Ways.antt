@@ -1,4 +1,5 @@
 -- One law for every item: what is made of a way is what its legs note.
+use Rattle.std.specs.Prelude.{Option}
 use Rattle.std.proofs.Common.{◌≡◌, ℕ, zero, suc, ◌+◌, ◌-◌, ◌<◌, ◌≤◌, Bool, true, false, eqb, List, [], ◌∷◌, ◌++◌, length, get_or, drop, sym, refl, ap, ◌∙◌, arith, length-drop, get_or-drop}
 use borrow.Author.Tests.{not-false}
 use Rattle.text.specs.Truth.{part, lead}
@@ -14,18 +15,17 @@ use Rattle.kinds.specs.Given.{kind_given}
 use Rattle.reading.specs.Trace.{value as a_value, ◌at◌}
 use Rattle.reading.specs.Noted.{on}
 use Rattle.notes.specs.declared.Notes.{Notes}
-use Rattle.notes.specs.Notes.{with_type, with_service, with_start, value_noted, service_kept, in_notes}
+use Rattle.notes.specs.Notes.{with_type, with_service, with_start, may_follow, value_noted, service_kept, in_notes}
 use Rattle.engine.specs.Engine.{filed_by}
-use Rattle.swift_values.specs.Stands.{Found, StandsFor}
-use Rattle.swift_values.proofs.Values.{found_at}
+use Rattle.swift_values.specs.Stands.{StandsFor}
 use Rattle.straight.specs.Due.{Due, done, inside, value, close, run, Made, made, Token, flat, Walked, lost, to, walk, Went, tight, spaced}
 use Rattle.straight.specs.Spelled.{tagged, loose, Spelled}
-use Rattle.straight.specs.Ways.{Leg, tags, holds, told, Opens, Passed, WorthNoted, Way, Gone, Onward, Walks, code_noting, noting, legs_noted, legs_filed, may_follow, CodeFits, Fits, LegsFit}
+use Rattle.straight.specs.Ways.{Leg, tags, holds, told, Opens, Passed, WorthNoted, Way, Gone, Onward, Walks, code_noting, noting, legs_noted, legs_filed, CodeFits, Fits, LegsFit}
 use Rattle.straight.proofs.Walks.{value_made}
 use Rattle.straight.proofs.Spelled.{went_spelled, went_loose}
 
 -- ---- a value that stands is noted
-service_kept_lem : (c p : ℕ) (x : Notes) → may_follow x.service c ≡ true → service_kept c p x ≡ on (with_service (suc c) x)
+service_kept_lem : (c p : ℕ) (x : Notes) → may_follow x.service c ≡ true → service_kept c p x ≡ on (with_service c x)
 unfolding service_kept
 service_kept_lem c p x h = rw h refl
 
@@ -49,7 +49,7 @@ noted_held Amount f v p c d x e n h = rw (e, n) refl
 noted_held (Code o) f v p c d x e n h = code_noted o f v p c d x e n h
 
 -- what is said of the payment type stays, and changes nothing else
-code_typed : (e : Element) (c s : ℕ) (x : Notes) → code_noting e c (with_type s x) ≡ with_type s (code_noting e c x)
+code_typed : (e : Element) (c : ℕ) (s : Option Bool) (x : Notes) → code_noting e c (with_type s x) ≡ with_type s (code_noting e c x)
 code_typed LclInstrm c s x = refl
 code_typed SttlmMtd c s x = refl
 code_typed SvcLvl c s x = refl
@@ -57,14 +57,14 @@ code_typed SeqTp c s x = refl
 code_typed ChrgBr c s x = refl
 code_typed Prtry c s x = refl
 
-noting_typed : (k : Kind) (f : Field) (p c s : ℕ) (x : Notes) → noting k f p c (with_type s x) ≡ with_type s (noting k f p c x)
+noting_typed : (k : Kind) (f : Field) (p c : ℕ) (s : Option Bool) (x : Notes) → noting k f p c (with_type s x) ≡ with_type s (noting k f p c x)
 noting_typed (Plain j) f p c s x = refl
 noting_typed Count f p c s x = refl
 noting_typed Total f p c s x = refl
 noting_typed Amount f p c s x = refl
 noting_typed (Code e) f p c s x = ap (with_start f p) (code_typed e c s x)
 
-code_fits : (e : Element) (c s : ℕ) (x : Notes) → CodeFits e c x → CodeFits e c (with_type s x)
+code_fits : (e : Element) (c : ℕ) (s : Option Bool) (x : Notes) → CodeFits e c x → CodeFits e c (with_type s x)
 code_fits LclInstrm c s x h = h
 code_fits SttlmMtd c s x h = tt
 code_fits SvcLvl c s x h = tt
@@ -72,7 +72,7 @@ code_fits SeqTp c s x h = tt
 code_fits ChrgBr c s x h = tt
 code_fits Prtry c s x h = tt
 
-fits_typed : (k : Kind) (c s : ℕ) (x : Notes) → Fits k c x → Fits k c (with_type s x)
+fits_typed : (k : Kind) (c : ℕ) (s : Option Bool) (x : Notes) → Fits k c x → Fits k c (with_type s x)
 fits_typed (Plain j) c s x h = tt
 fits_typed Count c s x h = tt
 fits_typed Total c s x h = tt
@@ -97,17 +97,17 @@ opens_at m p (spaced t ∷ ts) h = tt
 
 -- ---- the law
 module _ (m : List ℕ) where
-  pub way_made : (ls : List Leg) (p r u s : ℕ) (d e : Due) (x : Notes) (l : List ℕ) → Way m p ls r → Walks u ls d s e → LegsFit ls x
+  pub way_made : (ls : List Leg) (p r : ℕ) (u s : Option Bool) (d e : Due) (x : Notes) (l : List ℕ) → Way m p ls r → Walks u ls d s e → LegsFit ls x
       → made (run d m p) (with_type u x) l ≡ made (run e m r) (with_type s (legs_noted ls x)) (legs_filed ls l)
   way_made [] p r u s d e x l w g h =
-      ap (λ (k : ℕ). made (run d m k) (with_type u x) l) w ∙ (ap (λ (k : ℕ). made (run d m r) (with_type k x) l) g.0 ∙ ap (λ (k : Due). made (run k m r) (with_type s x) l) g.1)
+      ap (λ (k : ℕ). made (run d m k) (with_type u x) l) w ∙ (ap (λ (k : Option Bool). made (run d m r) (with_type k x) l) g.0 ∙ ap (λ (k : Due). made (run k m r) (with_type s x) l) g.1)
   way_made (tags ts ∷ ls) p r u s d e x l w g h = go (walk u ts d) refl g (λ v c k. way_made ls w.place r v s c e x l w.rest k h)
     where
       there : Made
       there = made (run e m r) (with_type s (legs_noted ls x)) (legs_filed ls l)
 
       go : (y : Walked) → walk u ts d ≡ y → Onward y (λ v c. Walks v ls c s e)
-          → ((v : ℕ) (c : Due) → Walks v ls c s e → made (run c m w.place) (with_type v x) l ≡ there) → made (run d m p) (with_type u x) l ≡ there
+          → ((v : Option Bool) (c : Due) → Walks v ls c s e → made (run c m w.place) (with_type v x) l ≡ there) → made (run d m p) (with_type u x) l ≡ there
       go lost i k f = absurd k
       go (to v c) i k f = (went_passed m p ts w.place w.first).leads d c v (with_type u x) l i ∙ f v c k
   way_made (holds k f a c ∷ ls) p r u s done e x l w g h = absurd g
@@ -140,18 +140,18 @@ lead_stops f (c ∷ s) (suc n) e h = go (f c) refl (lead_stops f s n)
     go true i k = k (let z : suc (lead f s) ≡ suc n = rw i at e in omega arith) (omega arith)
     go false i k = absurd (let z : 0 ≡ suc n = rw i at e in omega arith)
 
--- ---- ways are joined, from the end; 0 tells nothing
+-- ---- ways are joined, from the end
 module _ (m : List ℕ) where
-  pub gone_here : (r : ℕ) → r ≤ length m → Found (Gone m r []) r
-  gone_here zero h = tt
-  gone_here (suc r) h = record { some = omega arith; within = h; way = refl }
+  pub gone_here : (r : ℕ) → 0 < r → r ≤ length m → Gone m r [] r
+  gone_here r some within = record { some = some; within = within; way = refl }
+
+  -- a run at the end
+  pub gone_spelled : (p : ℕ) (t : List ℕ) (r : ℕ) → Spelled m p t r → Gone m r [] r
+  gone_spelled p t r g = gone_here r (omega (arith, g.from)) g.within
 
   -- a run at the beginning
-  pub gone_tags : (p : ℕ) (ts : List Token) (q : ℕ) (ls : List Leg) (r : ℕ) → loose ts ≡ true → Found (Spelled m p (flat ts)) q → Found (Gone m q ls) r → Found (Gone m p (tags ts ∷ ls)) r
-  gone_tags p ts q ls zero g f h = tt
-  gone_tags p ts q ls (suc r) g f h =
-      let a = found_at (Spelled m p (flat ts)) q h.some f in
-      record { some = a.some; within = h.within; way = record { place = q; first = passed_loose m p ts q g a; rest = h.way } }
+  pub gone_tags : (p : ℕ) (ts : List Token) (q : ℕ) (ls : List Leg) (r : ℕ) → loose ts ≡ true → Spelled m p (flat ts) q → Gone m q ls r → Gone m p (tags ts ∷ ls) r
+  gone_tags p ts q ls r g a h = record { some = a.some; within = h.within; way = record { place = q; first = passed_loose m p ts q g a; rest = h.way } }
 
   -- a value, and the run behind it
   pub lt_behind : (k : Kind) (g : Given) (p q : ℕ) → StandsFor k g m p q → eqb (get_or m q 0) 60 ≡ true
@@ -161,11 +161,8 @@ module _ (m : List ℕ) where
       not-false (eqb (get_or m q 0) 60) (ap in_value (ap (λ (k : ℕ). get_or m k 0) (sym z) ∙ sym (get_or-drop p m (q - p) 0)) ∙ e)
 
   pub gone_value : (k : Kind) (f : Field) (c d p q : ℕ) (ts : List Token) (a : ℕ) (ls : List Leg) (r : ℕ) → tagged ts ≡ true → WorthNoted k c d
-      → Found (StandsFor k (told k c) m p) q → Found (Spelled m q (flat ts)) a → Found (Gone m a ls) r → Found (Gone m p (holds k f p d ∷ tags ts ∷ ls)) r
-  gone_value k f c d p q ts a ls zero t n g i h = tt
-  gone_value k f c d p q ts a ls (suc r) t n g i h =
-      let y = found_at (Spelled m q (flat ts)) a h.some i in
-      let x = found_at (StandsFor k (told k c) m p) q y.some g in
+      → StandsFor k (told k c) m p q → Spelled m q (flat ts) a → Gone m a ls r → Gone m p (holds k f p d ∷ tags ts ∷ ls) r
+  gone_value k f c d p q ts a ls r t n x y h =
       record {
         some = x.some;
         within = h.within;
@@ -180,22 +177,14 @@ module _ (m : List ℕ) where
       }
 
   -- a value, and what stands behind it
-  pub gone_held : (k : Kind) (f : Field) (c d p q : ℕ) (ls : List Leg) (r : ℕ) → WorthNoted k c d → Found (StandsFor k (told k c) m p) q → Found (Gone m q ls) r → Found (Gone m p (holds k f p d ∷ ls)) r
-  gone_held k f c d p q ls zero n g h = tt
-  gone_held k f c d p q ls (suc r) n g h =
-      let x = found_at (StandsFor k (told k c) m p) q h.some g in
-      record { some = x.some; within = h.within; way = (refl, record { place = q; first = record { found = c; stands = x; noted = n }; rest = h.way }) }
+  pub gone_held : (k : Kind) (f : Field) (c d p q : ℕ) (ls : List Leg) (r : ℕ) → WorthNoted k c d → StandsFor k (told k c) m p q → Gone m q ls r → Gone m p (holds k f p d ∷ ls) r
+  gone_held k f c d p q ls r n x h = record { some = x.some; within = h.within; way = (refl, record { place = q; first = record { found = c; stands = x; noted = n }; rest = h.way }) }
 
   -- a run right behind a value, where a tag begins
-  pub gone_open : (p : ℕ) (ts : List Token) (o q : ℕ) (ls : List Leg) (r : ℕ) → tagged ts ≡ true → Found (λ y. (y ≡ p) × (get_or m y 0 ≡ 60)) o → Found (Spelled m o (flat ts)) q → Found (Gone m q ls) r
-      → Found (Gone m p (tags ts ∷ ls)) r
-  gone_open p ts o q ls zero t g i h = tt
-  gone_open p ts o q ls (suc r) t g i h =
-      let y = found_at (Spelled m o (flat ts)) q h.some i in
-      let x = found_at (λ y. (y ≡ p) × (get_or m y 0 ≡ 60)) o y.some g in
-      let e : eqb (get_or m o 0) 60 ≡ true = rw x.1 refl in
-      let z : Gone m o (tags ts ∷ ls) (suc r) = record { some = y.some; within = h.within; way = record { place = q; first = record { spelled = y; tagged = t; opens = opens_at m o ts e }; rest = h.way } } in
-      rw x.0 at z
+  pub gone_open : (p : ℕ) (ts : List Token) (q : ℕ) (ls : List Leg) (r : ℕ) → tagged ts ≡ true → get_or m p 0 ≡ 60 → Spelled m p (flat ts) q → Gone m q ls r → Gone m p (tags ts ∷ ls) r
+  gone_open p ts q ls r t x y h =
+      let e : eqb (get_or m p 0) 60 ≡ true = rw x refl in
+      record { some = y.some; within = h.within; way = record { place = q; first = record { spelled = y; tagged = t; opens = opens_at m p ts e }; rest = h.way } }
 
   -- one way behind another
   way-join : (ls ks : List Leg) (p q r : ℕ) → Way m p ls q → Way m q ks r → Way m p (ls ++ ks) r
@@ -203,8 +192,5 @@ module _ (m : List ℕ) where
   way-join (tags ts ∷ ls) ks p q r f g = record { place = f.place; first = f.first; rest = way-join ls ks f.place q r f.rest g }
   way-join (holds k i a d ∷ ls) ks p q r f g = (f.0, record { place = f.1.place; first = f.1.first; rest = way-join ls ks f.1.place q r f.1.rest g })
 
-  pub gone_join : (ls ks : List Leg) (p q r : ℕ) → Found (Gone m p ls) q → Found (Gone m q ks) r → Found (Gone m p (ls ++ ks)) r
-  gone_join ls ks p q zero f g = tt
-  gone_join ls ks p q (suc r) f g =
-      let a = found_at (Gone m p ls) q g.some f in
-      record { some = a.some; within = g.within; way = way-join ls ks p q (suc r) a.way g.way }
+  pub gone_join : (ls ks : List Leg) (p q r : ℕ) → Gone m p ls q → Gone m q ks r → Gone m p (ls ++ ks) r
+  gone_join ls ks p q r a g = record { some = a.some; within = g.within; way = way-join ls ks p q r a.way g.way }

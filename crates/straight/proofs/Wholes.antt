@@ -16,17 +16,17 @@ use Rattle.profile.specs.Profile.{bic_name, bic_kind, type_name, header_name, it
 use Rattle.items.specs.Sums.{an_amount}
 use Rattle.items.proofs.Room as law
 use Rattle.reading.specs.Trace.{there, absent, ◌at◌, Trace, met, up_to, fault, and_then, trace}
-use Rattle.reading.specs.Noted.{Reading, on, stop, onward, Ended}
+use Rattle.reading.specs.Noted.{Reading, on, Ended}
 use Rattle.notes.specs.declared.Notes.{Notes}
 use Rattle.notes.specs.Notes.{in_notes}
 use Rattle.notes.specs.Steps.{reads, Room}
 use Rattle.notes.proofs.Room.{adds}
-use Rattle.straight.specs.Due.{Made, made}
+use Rattle.straight.specs.Due.{made}
 use Rattle.straight.specs.Pieces.{pmt_id}
-use Rattle.straight.specs.Exact.{leaf_of, end_of, open_of, one_of, two_of, may_of, in_type_of, type_of, amount_of, debit_of, agent_of, head_of, parties_of, last_of, item_of, header_of, MakesThen, Behind}
+use Rattle.straight.specs.Exact.{leaf_of, end_of, open_of, one_of, two_of, may_of, in_type_of, type_of, amount_of, debit_of, agent_of, head_of, parties_of, last_of, item_of, header_of}
 use Rattle.straight.proofs.Made.{Alike, made_same}
-use Rattle.straight.proofs.Exact.{child_once, end_is, made_on, next_end_lem}
-use Rattle.straight.proofs.Groups.{Chain, then_each, next_is, group_is, one_is, two_is, may_is}
+use Rattle.straight.proofs.Elements.{child_once, end_is, made_on, next_end_lem}
+use Rattle.straight.proofs.Groups.{then_each, next_is, group_is, one_is, two_is, may_is}
 use Rattle.straight.proofs.Types.{in_type_is, type_is, scheme_in, debit_is}
 use Rattle.straight.proofs.Amounts.{amount_is}
 
@@ -47,13 +47,8 @@ Leaves = law.Leaves an_amount in_notes sum count adds
 abbrev pub Keeps : ℕ → (ℕ → Trace) → Type 0
 Keeps y t = (p : ℕ) (x : Notes) → Room y x → Leaves y (t p) x
 
-pub keeps_behind : (y : ℕ) (t : ℕ → Trace) → Keeps y t → (r s : Going) → s ≡ onward r (λ z. reads (t z.at) z.notes) → Behind r (Room y) → Behind s (Room y)
-keeps_behind y t k (on u) s e h = rw e (go (reads (t u.at) u.notes) refl)
-  where
-    go : (w : Going) → reads (t u.at) u.notes ≡ w → Behind w (Room y)
-    go (on z) i = law.ended_room an_amount in_notes sum count adds y (t u.at) u.notes z (k u.at u.notes h) i
-    go (stop n q) i = tt
-keeps_behind y t k (stop n q) s e h = rw e tt
+pub keeps : (y : ℕ) (t : ℕ → Trace) → Keeps y t → (u z : Ended Notes) → Room y u.notes → on z ≡ reads (t u.at) u.notes → Room y z.notes
+keeps y t k u z h e = law.ended_room an_amount in_notes sum count adds y (t u.at) u.notes z (k u.at u.notes h) (sym e)
 
 module _ (m : List ℕ) where
   pub open_keeps : (y : ℕ) (start : List ℕ) → Keeps y (open_of start m)
@@ -223,17 +218,3 @@ module _ (v : Version) (m : List ℕ) where
       ∙ (next_is g (trace h6 m) (type_of m) (trace h7 m) (type_is m h7)
       ∙ (next_is (and_then g (type_of m)) (trace h7 m) f7 (trace h8 m) (two_is m (bic_kind v) InstgBic (bic_no v) "InstgAgt" "FinInstnId" (bic_name v) h8)
       ∙ then_each (and_then (and_then g (type_of m)) f7) (trace h8 m) (end_of (end_tag header_name) m) (end_is m header_name)))))))))
-
--- ---- behind a step
-pub then_alike : (m : List ℕ) (t u : ℕ → Trace) → Alike t u → (r : Going) (l : List ℕ) (x : Going) (y : List ℕ) → MakesThen m t r l x y → MakesThen m u r l x y
-then_alike m t u h (on s) l x y i =
-    (i.0 ∙ ap (λ (d : Made). d.notes) (h s.at s.notes l), i.1, i.2 ∙ ap (λ (d : Made). d.places) (h s.at s.notes l))
-then_alike m t u h (stop n q) l x y i = i
-
--- what a chain makes is made of whatever is alike, or the same
-module _ {m : List ℕ} {t : ℕ → Trace} {r : Going} {l : List ℕ} {x : Going} {y : List ℕ} (i : Chain m t r l x y) (u : ℕ → Trace) where
-  pub chain_as : Alike t u → MakesThen m u r l x y
-  chain_as h = then_alike m t u h r l x y i.makes
-
-  pub chain_is : ((p : ℕ) → t p ≡ u p) → MakesThen m u r l x y
-  chain_is h = chain_as (λ p n b. ap (λ (w : Trace). made w n b) (h p))

@@ -1,5 +1,5 @@
 -- What is due at a place, as a stack; and where a run of fixed tags leads, which computes.
-use Rattle.std.specs.Prelude.{◌≡◌, ℕ, ◌+◌, ◌<◌, ◌≤◌, Bool, true, false, not, List, [], ◌∷◌, ◌++◌, length, drop, ◌==◌}
+use Rattle.std.specs.Prelude.{◌≡◌, ℕ, ◌+◌, ◌<◌, ◌≤◌, Bool, true, false, not, Option, List, [], ◌∷◌, ◌++◌, length, drop, ◌==◌}
 use Prim.Native.String.{String}
 use Rattle.text.specs.Truth.{both, either, pick, first}
 use Rattle.text.specs.Quoted.{bytes, alike}
@@ -14,7 +14,7 @@ use Rattle.profile.specs.Profile.{is_type}
 use Rattle.reading.specs.Trace.{Trace, up_to, and_then, closed, valued, trace}
 use Rattle.reading.specs.Noted.{Reading, Ended}
 use Rattle.notes.specs.declared.Notes.{Notes}
-use Rattle.notes.specs.Notes.{type_number, with_type}
+use Rattle.notes.specs.Notes.{with_type, unsaid, said_by}
 use Rattle.notes.specs.Steps.{reads}
 use Rattle.engine.specs.Engine.{placed}
 
@@ -53,12 +53,12 @@ abbrev pub flat : List Token → List ℕ
 flat [] = []
 flat (t ∷ ts) = text_of t ++ flat ts
 
--- where a run leads: what is said of the payment type then (0 nothing, 1 that it is there, 2 that it is absent), and what is due
+-- where a run leads: what is said of the payment type then, and what is due
 pub data Walked : Type 0 where
   lost : Walked
-  to : ℕ → Due → Walked
+  to : Option Bool → Due → Walked
 
-abbrev pub onto : Walked → (ℕ → Due → Walked) → Walked
+abbrev pub onto : Walked → (Option Bool → Due → Walked) → Walked
 onto lost f = lost
 onto (to s d) f = f s d
 
@@ -72,23 +72,15 @@ abbrev pub opening : Bool → String → List ℕ
 opening true n = amount_tag n ++ bytes "EUR\">"
 opening false n = plain_tag n
 
--- of the payment type the same is not said twice
-abbrev pub unsaid : ℕ → Bool → Bool
-unsaid said b = not (said == type_number b)
-
--- what is said first is kept
-abbrev pub said_by : ℕ → Bool → ℕ
-said_by said b = pick (said == 0) (type_number b) said
-
 -- an element that is 0 or 1, there or not: whether it may be, and what is said of the payment type then
-abbrev pub allowed : ℕ → Bool → String → Bool
+abbrev pub allowed : Option Bool → Bool → String → Bool
 allowed said b n = either (not (is_type n)) (unsaid said b)
 
-abbrev pub heard : ℕ → Bool → String → ℕ
+abbrev pub heard : Option Bool → Bool → String → Option Bool
 heard said b n = pick (is_type n) (said_by said b) said
 
 -- one tag, where this shape is due, after what was said of the payment type
-abbrev pub step : ℕ → List ℕ → Shape → Due → Walked
+abbrev pub step : Option Bool → List ℕ → Shape → Due → Walked
 step said t (end n) k = pick (alike (end_tag n) t) (to said k) lost
 step said t (leaf once n kd f rest) k = pick (alike (opening (is_amount kd) n) t) (to said (value kd f n (inside rest k))) lost
 step said t (leaf optional n kd f rest) k =
@@ -104,31 +96,31 @@ step said t (group many n inner rest) k = lost
 step said t (group more n inner rest) k = lost
 
 -- right here: an end tag
-abbrev pub step_tight : ℕ → List ℕ → Due → Walked
+abbrev pub step_tight : Option Bool → List ℕ → Due → Walked
 step_tight said t done = lost
 step_tight said t (inside sh k) = lost
 step_tight said t (value kd f n k) = lost
 step_tight said t (close n k) = pick (alike (end_tag n) t) (to said k) lost
 
 -- after white space
-abbrev pub step_spaced : ℕ → List ℕ → Due → Walked
+abbrev pub step_spaced : Option Bool → List ℕ → Due → Walked
 step_spaced said t done = lost
 step_spaced said t (inside sh k) = pick (first t == 60) (step said t sh k) lost
 step_spaced said t (value kd f n k) = lost
 step_spaced said t (close n k) = lost
 
-abbrev pub step_by : ℕ → Token → Due → Walked
+abbrev pub step_by : Option Bool → Token → Due → Walked
 step_by said (tight t) d = step_tight said t d
 step_by said (spaced t) d = step_spaced said t d
 
-abbrev pub walk : ℕ → List Token → Due → Walked
+abbrev pub walk : Option Bool → List Token → Due → Walked
 walk said [] d = to said d
 walk said (t ∷ ts) d = onto (step_by said t d) (λ s e. walk s ts e)
 
 -- ---- what a run is
 -- whatever is due at p, the run leads to what is due at r
 abbrev pub Leads : List ℕ → ℕ → List Token → ℕ → Type 0
-Leads m p ts r = (d e : Due) (s : ℕ) (x : Notes) (l : List ℕ) → walk x.typed ts d ≡ to s e → made (run d m p) x l ≡ made (run e m r) (with_type s x) l
+Leads m p ts r = (d e : Due) (s : Option Bool) (x : Notes) (l : List ℕ) → walk x.typed ts d ≡ to s e → made (run d m p) x l ≡ made (run e m r) (with_type s x) l
 
 -- the text t stands from p to r
 pub record Past (m : List ℕ) (p : ℕ) (t : List ℕ) (r : ℕ) : Type 0 where

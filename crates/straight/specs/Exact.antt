@@ -1,5 +1,6 @@
 -- A value's element alone, by its two tags; what the exact readers answer.
 use Rattle.std.specs.Prelude.{◌≡◌, ℕ, ◌+◌, ◌≤◌, Bool, true, false, List, ◌++◌, length, drop}
+use Rattle.std.specs.Prelude.{Option, None, Some}
 use Rattle.text.specs.Truth.{pick}
 use Rattle.tags.specs.declared.Look.TheVariants.{Whole}
 use Rattle.tags.specs.Tags.{skipped, look, on_look, exactly, plain_tag, amount_tag, end_tag, currency}
@@ -189,14 +190,11 @@ the_items v = group many item_name (in_item v) (end bulk_name)
 abbrev pub in_bulk : Version → Shape
 in_bulk v = group once header_name (in_header v) (the_items v)
 
--- x and y are what is made of t by one who has noted n and places l; and reading is fine from a place on
-abbrev pub Makes : List ℕ → ℕ → Trace → Notes → List ℕ → Reading (Ended Notes) → List ℕ → Type 0
-Makes m p t n l x y = (x ≡ reads t n) × Fine m p x × (y ≡ placed t n l)
-
--- the same behind a reading r
-abbrev pub MakesThen : List ℕ → (ℕ → Trace) → Reading (Ended Notes) → List ℕ → Reading (Ended Notes) → List ℕ → Type 0
-MakesThen m t r l x y =
-    (x ≡ onward r (λ s. reads (t s.at) s.notes)) × Fine m 0 x × (y ≡ or_else r (λ s. placed (t s.at) s.notes l) l)
+-- x and y are what is made of t by one who has noted n and places l; and reading is fine
+pub record Makes (m : List ℕ) (t : Trace) (n : Notes) (l : List ℕ) (x : Reading (Ended Notes)) (y : List ℕ) : Type 0 where
+  pub is : x ≡ reads t n
+  pub fine : Fine m 0 x
+  pub places : y ≡ placed t n l
 
 -- behind a reading: what holds of the notes where it goes on
 abbrev pub Behind : Reading (Ended Notes) → (Notes → Type 0) → Type 0
@@ -230,6 +228,6 @@ pub record ItemLeft (v : Version) (m : List ℕ) (p : ℕ) (row after : List ℕ
   pub is : item_at v m p ≡ stop number place
   pub left : after ≡ row
 
-abbrev pub RowRead : Bool → Version → List ℕ → ℕ → List ℕ → ℕ → List ℕ → Type 0
-RowRead true v m p row r after = ItemTold v m p row r after
-RowRead false v m p row r after = ItemLeft v m p row after
+abbrev pub RowRead : Version → List ℕ → ℕ → List ℕ → Option ℕ → List ℕ → Type 0
+RowRead v m p row (Some r) after = ItemTold v m p row r after
+RowRead v m p row None after = ItemLeft v m p row after

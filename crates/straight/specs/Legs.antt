@@ -1,5 +1,5 @@
 -- The legs of an item, in the order of the profile. An InstrId, a payment type or a remittance text at place 0 is none.
-use Rattle.std.specs.Prelude.{◌≡◌, ℕ, zero, suc, ◌+◌, ◌<◌, ◌≤◌, Bool, true, false, List, [], ◌∷◌, ◌++◌}
+use Rattle.std.specs.Prelude.{◌≡◌, ℕ, zero, suc, ◌+◌, ◌<◌, ◌≤◌, Bool, true, false, Option, Some, List, [], ◌∷◌, ◌++◌}
 use Rattle.money.specs.declared.Range as Range
 use Rattle.money.specs.Amount.{most}
 use Rattle.codes.specs.declared.Element.TheVariants as code
@@ -32,17 +32,16 @@ use Rattle.profile.specs.declared.Version.{Version}
 use Rattle.profile.specs.declared.Version.TheVariants.{V02, V08}
 use Rattle.profile.specs.Profile.{bic_kind}
 use Rattle.notes.specs.declared.Notes.{Notes}
-use Rattle.notes.specs.Notes.{started}
-use Rattle.straight.specs.declared.quick.Side.{Side}
-use Rattle.straight.specs.declared.quick.Side.TheVariants.{Creditor, Debtor}
-use Rattle.straight.specs.declared.quick.Codes.{Codes}
-use Rattle.straight.specs.declared.quick.CreditorSide.{CreditorSide}
-use Rattle.straight.specs.declared.quick.Front.{Front}
-use Rattle.straight.specs.declared.quick.Back.{Back}
-use Rattle.straight.specs.declared.quick.Item.{Item}
-use Rattle.straight.specs.Due.{unsaid, said_by}
+use Rattle.notes.specs.Notes.{started, may_follow, unsaid, said_by}
+use Rattle.straight.specs.declared.between.Side.{Side}
+use Rattle.straight.specs.declared.between.Side.TheVariants.{Creditor, Debtor}
+use Rattle.straight.specs.declared.before.Codes.{Codes}
+use Rattle.straight.specs.declared.before.CreditorSide.{CreditorSide}
+use Rattle.straight.specs.declared.pieces.Front.{Front}
+use Rattle.straight.specs.declared.pieces.Back.{Back}
+use Rattle.straight.specs.declared.pieces.Item.{Item}
 use Rattle.straight.specs.Runs.{tags_at}
-use Rattle.straight.specs.Ways.{Leg, tags, holds, may_follow}
+use Rattle.straight.specs.Ways.{Leg, tags, holds}
 
 -- up to the value of EndToEndId
 abbrev pub begun_legs : ℕ → List Leg
@@ -192,11 +191,11 @@ stood zero = false
 stood (suc a) = true
 
 -- what was said of the payment type is not said again, and a LclInstrm that stands in the item may follow the service of the items before
-pub record Follows (said before a i : ℕ) : Type 0 where
+pub record Follows (said : Option Bool) (before : Option ℕ) (a i : ℕ) : Type 0 where
   pub new : unsaid said (stood a) ≡ true
   pub fits : 0 < a → may_follow before i ≡ true
 
-abbrev pub Followed : ℕ → ℕ → Front → Type 0
+abbrev pub Followed : Option Bool → Option ℕ → Front → Type 0
 Followed said before r = Follows said before r.level r.listed
 
 -- ---- what an item adds to the notes: its cents, its service, what is said of the payment type, and where its values begin
@@ -208,9 +207,9 @@ abbrev pub type_from : ℕ → Front → List ℕ → List ℕ
 type_from zero r l = l
 type_from (suc a) r l = started SeqTp r.sequence (started LclInstrm r.service (started SvcLvl (suc a) l))
 
-abbrev pub service_from : ℕ → ℕ → ℕ → ℕ
+abbrev pub service_from : ℕ → ℕ → Option ℕ → Option ℕ
 service_from zero i b = b
-service_from (suc a) i b = suc i
+service_from (suc a) i b = Some i
 
 abbrev pub front_from : ℕ → ℕ → Front → List ℕ → List ℕ
 front_from i a r l =
@@ -223,7 +222,7 @@ back_from p x r l =
     (started CdtrNm r.creditor (started Prtry r.scheme (started CdtrId r.identifier (started DtOfSgntr r.signed (started MndtId p l))))))))))
 
 -- by where InstrId, the payment type and the remittance text begin
-abbrev pub noted_by : ℕ → ℕ → ℕ → ℕ → Item → Notes → Notes
+abbrev pub noted_by : Option Bool → ℕ → ℕ → ℕ → Item → Notes → Notes
 noted_by s i a x r n = record {
   count = n.count;
   first = n.first;
@@ -238,5 +237,5 @@ noted_by s i a x r n = record {
   starts = back_from r.front.at x r.back (front_from i a r.front n.starts);
 }
 
-abbrev pub item_noted : ℕ → ℕ → ℕ → Item → Notes → Notes
+abbrev pub item_noted : Option Bool → ℕ → ℕ → Item → Notes → Notes
 item_noted s i x r n = noted_by s i r.front.level x r n

@@ -1,6 +1,5 @@
 -- What stands from a place of an item on, leg by leg: runs of tags, and values with their places.
-use Rattle.std.specs.Prelude.{◌≡◌, ℕ, suc, ◌+◌, ◌<◌, ◌≤◌, Bool, true, List, [], ◌∷◌, length, ◌==◌, slice_index}
-use Rattle.text.specs.Truth.{either}
+use Rattle.std.specs.Prelude.{◌≡◌, ℕ, ◌+◌, ◌<◌, ◌≤◌, Bool, true, Option, List, [], ◌∷◌, length, ◌==◌, slice_index}
 use Rattle.answers.specs.Given.{Given, yes, worth}
 use Rattle.codes.specs.declared.Element.{Element}
 use Rattle.codes.specs.declared.Element.TheVariants.{SttlmMtd, SvcLvl, LclInstrm, SeqTp, ChrgBr, Prtry}
@@ -8,7 +7,7 @@ use Rattle.profile.specs.declared.Kind.{Kind}
 use Rattle.profile.specs.declared.Kind.TheVariants.{Plain, Count, Total, Amount, Code}
 use Rattle.profile.specs.declared.Field.{Field}
 use Rattle.notes.specs.declared.Notes.{Notes}
-use Rattle.notes.specs.Notes.{with_start, with_number, with_total, with_cents, with_sum, with_service}
+use Rattle.notes.specs.Notes.{with_start, with_number, with_total, with_cents, with_sum, with_service, may_follow}
 use Rattle.engine.specs.Engine.{filed_by}
 use Rattle.swift_values.specs.Stands.{StandsFor}
 use Rattle.straight.specs.Spelled.{tagged, Spelled}
@@ -83,7 +82,7 @@ lifted b (tags ts ∷ ls) = tags ts ∷ lifted b ls
 lifted b (holds k f a d ∷ ls) = holds k f (b + a) d ∷ lifted b ls
 
 -- ---- where it leads, which computes
-abbrev pub Onward : Walked → (ℕ → Due → Type 0) → Type 0
+abbrev pub Onward : Walked → (Option Bool → Due → Type 0) → Type 0
 Onward lost P = ⊥
 Onward (to s d) P = P s d
 
@@ -94,14 +93,14 @@ InValue k f (value j g n c) P = (k ≡ j) × (f ≡ g) × P (close n c)
 InValue k f (close n c) P = ⊥
 
 -- from d, after what was said of the payment type, to e and what is said then
-abbrev pub Walks : ℕ → List Leg → Due → ℕ → Due → Type 0
+abbrev pub Walks : Option Bool → List Leg → Due → Option Bool → Due → Type 0
 Walks said [] d s e = (said ≡ s) × (d ≡ e)
 Walks said (tags ts ∷ ls) d s e = Onward (walk said ts d) (λ u c. Walks u ls c s e)
 Walks said (holds k f a c ∷ ls) d s e = InValue k f d (λ x. Walks said ls x s e)
 
 -- ---- what is noted on the way
 abbrev pub code_noting : Element → ℕ → Notes → Notes
-code_noting LclInstrm c x = with_service (suc c) x
+code_noting LclInstrm c x = with_service c x
 code_noting SttlmMtd c x = x
 code_noting SvcLvl c x = x
 code_noting SeqTp c x = x
@@ -124,10 +123,6 @@ abbrev pub legs_filed : List Leg → List ℕ → List ℕ
 legs_filed [] l = l
 legs_filed (tags ts ∷ ls) l = legs_filed ls l
 legs_filed (holds k f p c ∷ ls) l = legs_filed ls (filed_by f p l)
-
--- LclInstrm is the first one's, or the first
-abbrev pub may_follow : ℕ → ℕ → Bool
-may_follow before c = either (before == 0) (before == suc c)
 
 abbrev pub CodeFits : Element → ℕ → Notes → Type 0
 CodeFits LclInstrm c x = may_follow x.service c ≡ true

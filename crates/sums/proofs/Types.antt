@@ -17,7 +17,7 @@ use Rattle.reading.proofs.Lists.{alike_same}
 use Rattle.postings.specs.Record.{value_for, cents_for}
 use Rattle.documents.specs.Holds.{Passes}
 use Rattle.sums.specs.Sums.{of_type, cents_by, each_type, total}
-use Rattle.sums.specs.Engine.{place_or_four, added}
+use Rattle.sums.specs.Engine.{place_of, added}
 
 data Which (v : List ℕ) : Type 0 where
   frst : v ≡ bytes "FRST" → Which v
@@ -64,12 +64,12 @@ module _ (v : List ℕ) (c : ℕ) where
       go (other p q r s) = rw (p, q, r, s) (omega arith)
 
   -- the code adds them to the sum at the type's place
-  added_is : (i j k l : ℕ) → added (place_or_four (code_given SeqTp v)) c (i ∷ j ∷ k ∷ l ∷ [])
+  added_is : (i j k l : ℕ) → added (place_of (code_given SeqTp v)) c (i ∷ j ∷ k ∷ l ∷ [])
       ≡ (i + pick (is "FRST" v) c 0) ∷ (j + pick (is "RCUR" v) c 0) ∷ (k + pick (is "FNAL" v) c 0) ∷ (l + pick (is "OOFF" v) c 0) ∷ []
   unfolding code_given
   added_is i j k l = go (which v)
     where
-      go : Which v → added (place_or_four (code_given SeqTp v)) c (i ∷ j ∷ k ∷ l ∷ [])
+      go : Which v → added (place_of (code_given SeqTp v)) c (i ∷ j ∷ k ∷ l ∷ [])
           ≡ (i + pick (is "FRST" v) c 0) ∷ (j + pick (is "RCUR" v) c 0) ∷ (k + pick (is "FNAL" v) c 0) ∷ (l + pick (is "OOFF" v) c 0) ∷ []
       go (frst e) = rw e (simp add-zero)
       go (rcur e) = rw e (simp add-zero)
@@ -84,7 +84,7 @@ module _ (h : List What) where
   by-more q (y ∷ l) x = omega (arith, by-more q l x)
 
   pub one_more : (l : List Item) (x : Item)
-      → added (place_or_four (code_given SeqTp (value_for (h ++ x.holds) field.TheVariants.SeqTp))) (cents_for (h ++ x.holds)) (each_type (codes_of SeqTp) h l) ≡ each_type (codes_of SeqTp) h (l ++ (x ∷ []))
+      → added (place_of (code_given SeqTp (value_for (h ++ x.holds) field.TheVariants.SeqTp))) (cents_for (h ++ x.holds)) (each_type (codes_of SeqTp) h l) ≡ each_type (codes_of SeqTp) h (l ++ (x ∷ []))
   one_more l x =
       added_is (value_for (h ++ x.holds) field.TheVariants.SeqTp) (cents_for (h ++ x.holds)) (cents_by "FRST" h l) (cents_by "RCUR" h l) (cents_by "FNAL" h l) (cents_by "OOFF" h l)
       ∙ rw (by-more "FRST" l x, by-more "RCUR" l x, by-more "FNAL" l x, by-more "OOFF" l x)

@@ -25,7 +25,7 @@ use Rattle.swift_values.specs.Stands.{StandsFor}
 use Rattle.swift_values.specs.Blocks.{All}
 use Rattle.swift_values.specs.Dates.{pair_at}
 use Rattle.swift_values.specs.Amounts.{Written, Cents}
-use Rattle.swift_values.proofs.Blocks.{all_none, part_size}
+use Rattle.swift_values.proofs.Blocks.{part_size}
 use Rattle.swift_values.proofs.Rests.{followed_more}
 use Rattle.swift_values.proofs.Parts.{part_listed, part_two, every_part, all_at, digit_in, stands_part}
 
@@ -41,7 +41,7 @@ all_next f s p k a e = record { each = go }
         ]
 
 pub written_none : (s : List ℕ) (p : ℕ) → Written s p 0 0
-written_none s p = record { digits = all_none digit s p; number = refl }
+written_none s p = record { digits = record { each = λ j h. absurd (let z : ⊥ = omega arith in z) }; number = refl }
 
 pub written_more : (s : List ℕ) (p k n : ℕ) → p + k < length s → Written s p k n → digit (get_or s (p + k) 0) ≡ true → Written s p (k + 1) (n * 10 + (get_or s (p + k) 0 - 48))
 written_more s p k n h w e = record { digits = all_next digit s p k w.digits e; number = number }

@@ -1,8 +1,8 @@
 -- Values in any spelling: the next `<`, and what the checker answers up to it.
-use mathlib.Core.Path.{◌≡◌, refl, sym, ap, ◌∙◌}
+use mathlib.Core.Path.{◌≡◌, sym, ap, ◌∙◌}
 use mathlib.Core.Bool.{Bool, true, false}
 use mathlib.Core.List.{List}
-use Prim.Native.Nat.{ℕ, zero, suc, ◌+◌, ◌-◌, ◌≤◌, ◌<◌}
+use Prim.Native.Nat.{ℕ, ◌+◌, ◌-◌, ◌≤◌, ◌<◌}
 use native.Mathlib.Omega.{arith}
 use lib.ListN.{length, take, drop, length-drop}
 use Rattle.text.specs.Truth.{lead, part}
@@ -19,7 +19,7 @@ use Rattle.tags.specs.Values.{in_value}
 use Rattle.profile.specs.declared.Kind.{Kind}
 use Rattle.profile.specs.declared.Kind.TheVariants.{Amount, Code}
 use Rattle.kinds.specs.Given.{kind_given}
-use Rattle.swift_values.specs.Stands.{Found, Ends, StandsFor}
+use Rattle.swift_values.specs.Stands.{Ends, StandsFor}
 
 -- ---- a place in a list
 pick_few : (b : Bool) (i : ℕ) (g : Given) → i ≤ 3 → value_of g ≤ 3 → value_of (or_else b i g) ≤ 3
@@ -44,31 +44,19 @@ module _ (m : List ℕ) (p n : ℕ) (at : p ≤ length m) (e : n ≡ lead in_val
   pub upto_within : p + n ≤ length m
   upto_within = omega (arith, upto_is, lead_le in_value (drop p m), length-drop p m)
 
-  pub ends_here : (0 < p) → (p + n ≡ length m → ⊥) → Found (Ends m p) (p + n)
-  ends_here some less = go (p + n) (omega arith) (record { some = some; from = omega arith; behind = omega (arith, upto_within); upto = sym upto_is ∙ back })
+  pub ends_here : (0 < p) → (p + n ≡ length m → ⊥) → Ends m p (p + n)
+  ends_here some less = record { some = some; from = omega arith; behind = omega (arith, upto_within); upto = sym upto_is ∙ back }
     where
       back : n ≡ p + n - p
       back = omega arith
 
-      go : (r : ℕ) → 0 < r → Ends m p r → Found (Ends m p) r
-      go zero h x = tt
-      go (suc r) h x = x
-
-module _ (m : List ℕ) (p : ℕ) where
-  pub ends_from : (r : ℕ) → (r ≡ 0 → ⊥) → Found (Ends m p) r → p ≤ r
-  ends_from zero h f = absurd (h refl)
-  ends_from (suc r) h f = f.from
-
-  pub stands_for : (k : Kind) (g : Given) (r : ℕ) → Found (Ends m p) r → kind_given k (part p (r - p) m) ≡ g → Found (StandsFor k g m p) r
-  stands_for k g zero f e = tt
-  stands_for k g (suc r) f e = record { some = f.some; from = f.from; behind = f.behind; upto = f.upto; given = e }
+module _ (m : List ℕ) (p r : ℕ) where
+  pub stands_for : (k : Kind) (g : Given) → Ends m p r → kind_given k (part p (r - p) m) ≡ g → StandsFor k g m p r
+  stands_for k g f e = record { some = f.some; from = f.from; behind = f.behind; upto = f.upto; given = e }
 
   -- ---- how much a value is worth
-  module _ (w : ℕ) where
-    pub amount_within : (r : ℕ) → (r ≡ 0 → w ≡ 0) → Found (StandsFor Amount (worth w) m p) r → w ≤ most Item
-    amount_within zero z f = omega (arith, z refl)
-    amount_within (suc r) z f = omega (arith, amount_most Item (part p (suc r - p) m), ap value_of f.given)
+  pub amount_within : (w : ℕ) → StandsFor Amount (worth w) m p r → w ≤ most Item
+  amount_within w f = omega (arith, amount_most Item (part p (r - p) m), ap value_of f.given)
 
-    pub code_within : (e : Element) (r : ℕ) → (r ≡ 0 → w ≡ 0) → Found (StandsFor (Code e) (worth w) m p) r → w ≤ 4
-    code_within e zero z f = omega (arith, z refl)
-    code_within e (suc r) z f = omega (arith, few_codes e (part p (suc r - p) m), ap value_of f.given)
+  pub code_within : (w : ℕ) (e : Element) → StandsFor (Code e) (worth w) m p r → w ≤ 4
+  code_within w e f = omega (arith, few_codes e (part p (r - p) m), ap value_of f.given)

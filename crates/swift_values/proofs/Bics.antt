@@ -24,7 +24,8 @@ use Rattle.swift_values.specs.Stands.{Stands}
 use Rattle.swift_values.specs.Blocks.{All, AllAt}
 use Rattle.swift_values.specs.Bics.{lowest, in_bic, bic_kind}
 use Rattle.swift_values.proofs.Blocks.{high_onto}
-use Rattle.swift_values.proofs.Parts.{and_split, part_listed, all_at, cap_in, stands_part}
+use Rattle.swift_values.proofs.Lanes.{and_split}
+use Rattle.swift_values.proofs.Parts.{part_listed, all_at, cap_in, stands_part}
 
 -- ---- a byte that may stand at a place is of the class that is due there: computed for bytes, and above none may stand
 abbrev implies : Bool → Bool → Bool

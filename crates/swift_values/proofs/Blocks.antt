@@ -1,6 +1,6 @@
 -- Blocks of bytes of one class, and the number that their characters write.
 use mathlib.Core.Path.{◌≡◌, refl, sym, ap, ◌∙◌}
-use mathlib.Core.Bool.{Bool, true, false}
+use mathlib.Core.Bool.{Bool, true, false, ◌&&◌}
 use mathlib.Core.List.{List, [], ◌∷◌}
 use Prim.Native.Nat.{ℕ, zero, suc, ◌+◌, ◌-◌, ◌*◌, ◌≤◌, ◌<◌}
 use native.Mathlib.Omega.{arith}
@@ -11,35 +11,45 @@ use lib.ListN.{length, drop, get_or, length-drop}
 use lib.Seq.{ext_get_or, get_or-take, get_or-drop, length-take-le}
 use Rattle.text.specs.Truth.{part, between, either}
 use Rattle.text.specs.Quoted.{among, followed_by}
-use Rattle.text.specs.Classes.{digit, capital, capital_or_digit}
-use Rattle.text.proofs.Truths.{between_true, between_under, between_over}
-use Rattle.text.proofs.Digits.{digit_range, capital_range, digit_bounds}
+use Rattle.text.specs.Classes.{digit, capital, reference_set, capital_or_digit}
+use Rattle.text.proofs.Truths.{between_true, between_over}
+use Rattle.text.proofs.Digits.{digit_range, capital_range}
 use Rattle.check97.specs.Check.{spell}
-use Rattle.check97.proofs.Spelled.{onto_digit, onto_capital}
+use Rattle.check97.proofs.Spelled.{onto_capital}
 use Rattle.check97.proofs.Told.{number_cons}
-use Rattle.swift_values.specs.Blocks.{All, AllAt, number}
+use Rattle.swift_values.specs.Lanes.{ref_one, cap_one, Run}
+use Rattle.swift_values.specs.Blocks.{All, AllAt, AllPassed, number}
+use Rattle.swift_values.proofs.Lanes.{and_split}
 
 -- ---- the loop over a block
 pub or_none : (a b : ℕ) → bit_or a b ≡ 0 → (a ≡ 0) × (b ≡ 0)
 or_none a b e = (omega (arith, or_add_and a b, and_le_r a b), omega (arith, or_add_and a b, and_le_l a b))
 
-module _ (f : ℕ → Bool) (s : List ℕ) (p : ℕ) where
-  pub all_none : All f s p 0
-  all_none = record { each = λ j h. absurd (let z : ⊥ = omega arith in z) }
+module _ (P : ℕ → ℕ → Bool → Type 0) (s : List ℕ) (p : ℕ) where
+  pub passed_none : AllPassed P s p 0
+  passed_none = record { each = λ j h. absurd (let z : ⊥ = omega arith in z) }
 
-  pub all_on : (i r k : ℕ) (b : Bool) → (r ≡ 0 → All f s p i) → b ≡ f (get_or s (p + i) 0) → (k ≡ 0 → b ≡ true) → bit_or r k ≡ 0 → All f s p (i + 1)
-  all_on i r k b h e w z = record { each = go }
+  pub passed_on : (i : ℕ) (r b : Bool) → (r ≡ true → AllPassed P s p i) → P i (get_or s (p + i) 0) b → (r && b) ≡ true → AllPassed P s p (i + 1)
+  passed_on i r b h e z = record { each = go }
     where
-      o : (r ≡ 0) × (k ≡ 0)
-      o = or_none r k z
+      o : (r ≡ true) × (b ≡ true)
+      o = and_split r b z
 
-      go : (j : ℕ) → j < i + 1 → f (get_or s (p + j) 0) ≡ true
+      go : (j : ℕ) → j < i + 1 → P j (get_or s (p + j) 0) true
       go j l =
           elim (dec_lt j i) [
             | yes a ↦ (h o.0).each j a
-            | no a ↦ let y : j ≡ i = omega arith in ap (λ (x : ℕ). f (get_or s (p + x) 0)) y ∙ sym e ∙ w o.1
+            | no a ↦ let y : j ≡ i = omega arith in rw (y, ← o.1) e
           ]
 
+  -- what each pass tells of the byte
+  pub all_of : (f : ℕ → Bool) → ((j c : ℕ) → P j c true → f c ≡ true) → (n : ℕ) → AllPassed P s p n → All f s p n
+  all_of f h n a = record { each = λ j l. h _ _ (a.each j l) }
+
+  pub all_at_of : (f : ℕ → ℕ → Bool) → ((j c : ℕ) → P j c true → f j c ≡ true) → (n : ℕ) → AllPassed P s p n → AllAt f s p n
+  all_at_of f h n a = record { each = λ j l. h _ _ (a.each j l) }
+
+module _ (f : ℕ → Bool) (s : List ℕ) (p : ℕ) where
   pub all_part : (n q k : ℕ) → All f s p n → p ≤ q → q + k ≤ p + n → All f s q k
   all_part n q k a h g =
       record {
@@ -61,23 +71,11 @@ module _ (f : ℕ → Bool) (s : List ℕ) (p : ℕ) where
                 ap (λ (y : ℕ). f (get_or s y 0)) (sym z) ∙ b.each (p + j - q) (omega arith)
           ]
 
--- the same by a test of each place
-module _ (f : ℕ → ℕ → Bool) (s : List ℕ) (p : ℕ) where
-  pub each_none : AllAt f s p 0
-  each_none = record { each = λ j h. absurd (let z : ⊥ = omega arith in z) }
+pub run_refs : (s : List ℕ) (p k : ℕ) → Run ref_one s p k → All reference_set s p k
+run_refs s p k r = record { each = λ j h. r.each j h }
 
-  pub each_on : (i r k : ℕ) (b : Bool) → (r ≡ 0 → AllAt f s p i) → b ≡ f i (get_or s (p + i) 0) → (k ≡ 0 → b ≡ true) → bit_or r k ≡ 0 → AllAt f s p (i + 1)
-  each_on i r k b h e w z = record { each = go }
-    where
-      o : (r ≡ 0) × (k ≡ 0)
-      o = or_none r k z
-
-      go : (j : ℕ) → j < i + 1 → f j (get_or s (p + j) 0) ≡ true
-      go j l =
-          elim (dec_lt j i) [
-            | yes a ↦ (h o.0).each j a
-            | no a ↦ let y : j ≡ i = omega arith in ap (λ (x : ℕ). f x (get_or s (p + x) 0)) y ∙ sym e ∙ w o.1
-          ]
+pub run_caps : (s : List ℕ) (p k : ℕ) → Run cap_one s p k → All capital_or_digit s p k
+run_caps s p k r = record { each = λ j h. r.each j h }
 
 -- ---- a capital or a digit
 pub cap_either : (c : ℕ) → capital_or_digit c ≡ either (between 65 90 c) (either (between 48 57 c) false)
@@ -85,13 +83,6 @@ unfolding capital_or_digit among
 cap_either c = refl
 
 module _ (c : ℕ) (h : capital_or_digit c ≡ true) where
-  pub cap_low : c < 65 → digit c ≡ true
-  cap_low l = digit_range c ∙ go (between 48 57 c) (sym (ap (λ (x : Bool). either x (either (between 48 57 c) false)) (between_under 65 90 c l)) ∙ sym (cap_either c) ∙ h)
-    where
-      go : (b : Bool) → either false (either b false) ≡ true → b ≡ true
-      go true e = refl
-      go false e = e
-
   pub cap_high : 65 ≤ c → (digit c ≡ false) × (capital c ≡ true)
   cap_high l = (no, capital_range c ∙ go (between 65 90 c) (sym (ap (λ (x : Bool). either (between 65 90 c) (either x false)) (between_over 48 57 c (omega arith))) ∙ sym (cap_either c) ∙ h))
     where
@@ -101,9 +92,6 @@ module _ (c : ℕ) (h : capital_or_digit c ≡ true) where
       go : (b : Bool) → either b (either false false) ≡ true → b ≡ true
       go true e = refl
       go false e = e
-
-  pub low_onto : (s : ℕ) → c < 65 → (48 ≤ c) × (c ≤ 57) × (followed_by s (spell c) ≡ s * 10 + (c - 48))
-  low_onto s l = let b = digit_bounds c (cap_low l) in (b.0, b.1, onto_digit s c (cap_low l))
 
   pub high_onto : (s : ℕ) → 65 ≤ c → (c ≤ 90) × (followed_by s (spell c) ≡ s * 100 + (c - 55))
   high_onto s l =

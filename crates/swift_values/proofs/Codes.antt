@@ -17,7 +17,8 @@ use Rattle.profile.specs.declared.Kind.TheVariants.{Code}
 use Rattle.tags.specs.Values.{in_value}
 use Rattle.swift_values.specs.Stands.{StandsFor}
 use Rattle.swift_values.proofs.Blocks.{part_byte, four_list}
-use Rattle.swift_values.proofs.Parts.{and_split, stands_part}
+use Rattle.swift_values.proofs.Lanes.{and_split}
+use Rattle.swift_values.proofs.Parts.{stands_part}
 
 module _ (m : List ℕ) (p : ℕ) where
   pub four_are : (a b c d : ℕ) → p + 4 ≤ length m → (((eqb (get_or m p 0) a && eqb (get_or m (p + 1) 0) b) && eqb (get_or m (p + 2) 0) c) && eqb (get_or m (p + 3) 0) d) ≡ true

@@ -23,7 +23,8 @@ use Rattle.kinds.specs.Given.{simple_given}
 use Rattle.swift_values.specs.Stands.{Stands}
 use Rattle.swift_values.specs.Blocks.{All}
 use Rattle.swift_values.specs.Dates.{pair_at, Dated, RealDay}
-use Rattle.swift_values.proofs.Parts.{and_split, part_listed, all_at, digit_in, stands_part}
+use Rattle.swift_values.proofs.Lanes.{and_split}
+use Rattle.swift_values.proofs.Parts.{part_listed, all_at, digit_in, stands_part}
 
 -- ---- what the code tells
 pub two_digits_lem : (s : List ℕ) (p : ℕ) (a b : Bool) → a ≡ digit (get_or s p 0) → b ≡ digit (get_or s (p + 1) 0) → (a && b) ≡ true → All digit s p 2

@@ -18,7 +18,6 @@ use Rattle.text.proofs.Digits.{capital_bounds, digit_range}
 use Rattle.text.proofs.Decimal.{linear, decimal_followed}
 use Rattle.check97.specs.Check.{spelled, leaves_one, in_range, iban_checked}
 use Rattle.check97.proofs.Spelled.{spell_digit, spell_capital}
-use Rattle.check97.proofs.Modulo.{same_behind}
 use Rattle.check97.proofs.Told.{number_append}
 use Rattle.answers.specs.Given.{yes}
 use Rattle.accounts.specs.Head.{head}
@@ -30,7 +29,8 @@ use Rattle.tags.specs.Values.{in_value}
 use Rattle.kinds.specs.Given.{simple_given}
 use Rattle.swift_values.specs.Stands.{Stands}
 use Rattle.swift_values.specs.Blocks.{number, Headed, Checked}
-use Rattle.swift_values.proofs.Parts.{and_split, stands_part, every_part, cap_in}
+use Rattle.swift_values.proofs.Lanes.{and_split}
+use Rattle.swift_values.proofs.Parts.{stands_part, every_part, cap_in}
 use Rattle.swift_values.proofs.Blocks.{part_size, part_byte, four_list, all_part}
 
 pub headed : (s : List ℕ) (p : ℕ) (a b c d : Bool) → a ≡ capital (get_or s p 0) → b ≡ capital (get_or s (p + 1) 0) → c ≡ digit (get_or s (p + 2) 0) → d ≡ digit (get_or s (p + 3) 0)
@@ -73,12 +73,6 @@ module _ (m : List ℕ) (p : ℕ) (fits : p + 4 ≤ length m) (h : Headed m p) w
     where
       no : (c : ℕ) → capital c ≡ true → digit c ≡ false
       no c e = digit_range c ∙ between_over 48 57 c (omega (arith, capital_bounds c e))
-
-  pub head_leaves : (s q : ℕ) → q ≡ number 0 (part p 4 m) → eqb ((s % 97 * 1000000 + q) % 97) 1 ≡ true → number s (part p 4 m) % 97 ≡ 1
-  head_leaves s q e t =
-      let r : (s % 97) % 97 ≡ s % 97 = omega arith in
-      let x : number (s % 97) (part p 4 m) ≡ s % 97 * 1000000 + q = linear (s % 97) (spelled (part p 4 m)) ∙ rw (six-places, e) refl in
-      sym (same_behind (s % 97) s (spelled (part p 4 m)) r) ∙ ap (λ (k : ℕ). k % 97) x ∙ eqb-true ((s % 97 * 1000000 + q) % 97) 1 t
 
 -- two numbers that differ by multiples of 97
 pub same_rest : (x u y : ℕ) → x ≡ y + 97 * u → x % 97 ≡ y % 97
@@ -124,6 +118,14 @@ module _ (m : List ℕ) (p n : ℕ) (some : 4 ≤ n) (fits : p + n ≤ length m)
       let y : decimal (spelled w) % 97 ≡ 1 =
       ap (λ (k : ℕ). k % 97) (decimal_followed (spelled w) ∙ ap (number 0) x ∙ number_append 0 (part (p + a) (n - a) m) (part p 4 m)) ∙ e in
       rw y refl
+
+-- the same the other way
+pub one_left : (m : List ℕ) (p q j k l : ℕ) → k ≡ j → l ≡ 4 → leaves_one (take k (drop q m) ++ take l (drop p m)) ≡ true → number (number 0 (part q j m)) (part p 4 m) % 97 ≡ 1
+unfolding leaves_one
+one_left m p q j k l ek el e =
+    let w = part q j m ++ part p 4 m in
+    let h : eqb (decimal (spelled w) % 97) 1 ≡ true = rw (← ek, ← el) e in
+    ap (λ (x : ℕ). x % 97) (sym (decimal_followed (spelled w) ∙ number_append 0 (part q j m) (part p 4 m))) ∙ eqb-true _ 1 h
 
 -- ---- the IBAN
 module _ (m : List ℕ) (p n : ℕ) (begun : 0 < p) (fits : p + n < length m) (behind : get_or m (p + n) 0 ≡ 60) (k : Checked m p n)

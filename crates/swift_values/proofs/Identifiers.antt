@@ -21,7 +21,8 @@ use Rattle.swift_values.specs.Stands.{Stands}
 use Rattle.swift_values.specs.Blocks.{All, number, Headed, Identified}
 use Rattle.swift_values.proofs.Values.{ref_in}
 use Rattle.swift_values.proofs.Blocks.{part_size, part_byte, all_join}
-use Rattle.swift_values.proofs.Parts.{and_split, every_part, stands_part}
+use Rattle.swift_values.proofs.Lanes.{and_split}
+use Rattle.swift_values.proofs.Parts.{every_part, stands_part}
 use Rattle.swift_values.proofs.Ibans.{part_part, drop_part, head_is, range_is, turned_leaves}
 
 pub three_of : (s : List ℕ) (p : ℕ) (a b c : Bool) → a ≡ letter_or_digit (get_or s p 0) → b ≡ letter_or_digit (get_or s (p + 1) 0) → c ≡ letter_or_digit (get_or s (p + 2) 0)

@@ -1,21 +1,13 @@
--- How long an IBAN is, by the two letters of its country as one number.
+-- How long an IBAN is, by the two letters of its country.
 use mathlib.Core.Path.{◌≡◌, refl}
-use mathlib.Core.List.{List, [], ◌∷◌}
-use Prim.Native.Nat.{ℕ, ◌+◌, ◌*◌, ◌≤◌, ◌<◌}
-use native.Mathlib.Omega.{arith}
+use mathlib.Core.List.{[], ◌∷◌}
+use Prim.Native.Nat.{ℕ, ◌≤◌}
 use Rattle.accounts.specs.Lengths.{lengths, length_of}
 use Rattle.swift_values.specs.Blocks.{Long}
 
 -- ---- the lengths by country
-module _ (a b w x y n : ℕ) (e : w ≡ a * 256 + b) (h : b < 256) (low : y < 256) (is : w ≡ x * 256 + y) (lo : 15 ≤ n) (hi : n ≤ 34) where
-  pub long_of : length_of (x ∷ y ∷ []) ≡ n → Long (a ∷ b ∷ []) n
-  long_of l =
-      let ax : a ≡ x = omega arith in
-      let by : b ≡ y = omega arith in
-      record { is = λ s. (rw (ax, by) l, lo, hi) }
-
-pub long_none : (c : List ℕ) → Long c 0
-long_none c = record { is = λ s. absurd (let z : ⊥ = omega arith in z) }
+pub long_of : (x y n a b : ℕ) → a ≡ x → b ≡ y → 15 ≤ n → n ≤ 34 → length_of (x ∷ y ∷ []) ≡ n → Long (a ∷ b ∷ []) n
+long_of x y n a b e f lo hi l = record { is = rw (e, f) l; least = lo; most = hi }
 
 pub ad_long : length_of (65 ∷ 68 ∷ []) ≡ 24
 unfolding length_of lengths

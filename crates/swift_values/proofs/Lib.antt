@@ -12,4 +12,3 @@ pub mod Dates
 pub mod Bics
 pub mod Amounts
 pub mod Codes
-pub mod Writes

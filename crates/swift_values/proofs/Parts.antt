@@ -1,11 +1,11 @@
 -- A part of a message as the list of its bytes, and a value that it is.
 use mathlib.Core.Path.{◌≡◌, refl, sym, ap, ◌∙◌}
-use mathlib.Core.Bool.{Bool, true, false, not, ◌&&◌}
+use mathlib.Core.Bool.{Bool, true, false, not}
 use mathlib.Core.List.{List, [], ◌∷◌, ◌++◌}
 use Prim.Native.Nat.{ℕ, zero, suc, ◌+◌, ◌-◌, ◌≤◌, ◌<◌}
 use native.Mathlib.Omega.{arith}
 use native.Mathlib.Nat.{add-zero}
-use borrow.Author.Tests.{eqb-true}
+use borrow.Author.Tests.{eqb-true, eq-eqb}
 use lib.Dec.{eqb}
 use lib.ListN.{length, take, drop, get_or}
 use lib.Seq.{take-add, drop-drop}
@@ -20,12 +20,13 @@ use Rattle.profile.specs.declared.Kind.{Kind}
 use Rattle.kinds.specs.Given.{kind_given}
 use Rattle.swift_values.specs.Stands.{StandsFor}
 use Rattle.swift_values.specs.Blocks.{All}
+use Rattle.swift_values.proofs.Lanes.{unlike}
 use Rattle.swift_values.proofs.Values.{every_of, value_ends}
 use Rattle.swift_values.proofs.Blocks.{part_size, part_byte, cap_either}
 
-pub and_split : (a b : Bool) → (a && b) ≡ true → (a ≡ true) × (b ≡ true)
-and_split true b e = (refl, e)
-and_split false b e = (e, (cc))
+-- two that are told apart
+pub differs : (a b : ℕ) → not (eqb a b) ≡ true → a ≡ b → ⊥
+differs a b h e = unlike (rw (eq-eqb a b e) at h)
 
 -- the n bytes from p + i on
 abbrev pub listed : List ℕ → ℕ → ℕ → ℕ → List ℕ

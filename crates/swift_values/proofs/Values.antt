@@ -10,6 +10,8 @@ use borrow.Author.Tests.{ne_eqb, eqb-true}
 use lib.Dec.{eqb}
 use lib.ListN.{length, drop, get_or, length-drop, take-append-drop, get_or-eq_default}
 use lib.Seq.{get_or-take, get_or-drop, length-take-le, drop-drop}
+use Rattle.std.specs.Prelude.{IfSome}
+use Rattle.std.specs.Bool.{then_some}
 use Rattle.text.specs.Truth.{both, either, every, lead, part, first, last, between, all_of}
 use Rattle.text.specs.Quoted.{among}
 use Rattle.text.specs.Classes.{reference_set, text_set}
@@ -27,7 +29,7 @@ use Rattle.tags.specs.Values.{in_value}
 use Rattle.kinds.specs.Given.{simple_given}
 use Rattle.swift_values.specs.Lanes.{ref_pair, slashless, text_one, Run}
 use Rattle.swift_values.specs.Stands.{Found, Stands}
-use Rattle.swift_values.proofs.Lanes.{unlike}
+use Rattle.swift_values.proofs.Lanes.{unlike, and_split}
 
 -- ---- tests of each byte
 pub every_of : (f : ℕ → Bool) (v : List ℕ) → ((i : ℕ) → i < length v → f (get_or v i 0) ≡ true) → every f v ≡ true
@@ -59,10 +61,6 @@ module _ (m : List ℕ) (p n : ℕ) (fits : p + n < length m) where
 abbrev inside : ℕ → Bool
 inside c = either (not (reference_set c)) (in_value c)
 
-and_true : (a b : Bool) → (a && b) ≡ true → (a ≡ true) × (b ≡ true)
-and_true true b e = (refl, e)
-and_true false b e = (e, (cc))
-
 -- a byte of the set is no `<`
 pub ref_in : (c : ℕ) → reference_set c ≡ true → in_value c ≡ true
 unfolding reference_set among
@@ -85,7 +83,7 @@ slash_free b c e = go (reference_set b) (slash b) (slash c) (eqb c 60) e
 module _ (m : List ℕ) (p n : ℕ) (fits : p + n < length m) (run : Run ref_pair m p n) (behind : get_or m (p + n) 0 ≡ 60)
     (begun : 0 < p) (some : 0 < n) (few : n ≤ 35) (start : get_or m p 0 ≡ 47 → ⊥) where
   ref-each : (i : ℕ) → i < n → reference_set (get_or m (p + i) 0) ≡ true
-  ref-each i h = (and_true (reference_set (get_or m (p + i) 0)) _ (run.each i h)).0
+  ref-each i h = (and_split (reference_set (get_or m (p + i) 0)) _ (run.each i h)).0
 
   ref-every : every reference_set (part p n m) ≡ true
   ref-every = every_of reference_set (part p n m) (λ i h. let l : i < n = omega (arith, part_long m p n fits) in rw (part_at m p n fits i l) (ref-each i l))
@@ -154,7 +152,7 @@ module _ (m : List ℕ) (p n : ℕ) (fits : p + n < length m) (run : Run slashle
       go false true y e = e
 
   starts : get_or m p 0 ≡ 47 → ⊥
-  starts e = let h : (reference_set 47 && false) ≡ true = rw (add-zero p, e) at (run.each 0 some) in unlike (and_true (reference_set 47) false h).1
+  starts e = let h : (reference_set 47 && false) ≡ true = rw (add-zero p, e) at (run.each 0 some) in unlike (and_split (reference_set 47) false h).1
 
   pub usual_stands : Stands Reference m p (p + n)
   usual_stands = reference_stands m p n fits pairs behind begun some few starts
@@ -165,11 +163,12 @@ unfolding simple_given
 as_end_to_end m p r h =
     record { some = h.some; from = h.from; behind = h.behind; upto = h.upto; given = reference_end_to_end (part p (r - p) m) h.given }
 
-pub found_end_to_end : (m : List ℕ) (p r : ℕ) → Found (Stands Reference m p) r → Found (Stands EndToEnd m p) r
-found_end_to_end m p zero f = tt
-found_end_to_end m p (suc r) f = as_end_to_end m p (suc r) f
-
 -- ---- a place that was found
+-- where a test has passed
+pub if_passed : (b : Bool) (r : ℕ) (P : ℕ → Type 0) → (b ≡ true → P r) → IfSome (then_some b r) P
+if_passed true r P h = h refl
+if_passed false r P h = tt
+
 pub found : (P : ℕ → Type 0) (r : ℕ) → P r → Found P r
 found P zero h = tt
 found P (suc r) h = h

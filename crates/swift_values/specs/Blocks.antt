@@ -14,6 +14,10 @@ pub record All (f : ℕ → Bool) (s : List ℕ) (p n : ℕ) : Type 0 where
 pub record AllAt (f : ℕ → ℕ → Bool) (s : List ℕ) (p n : ℕ) : Type 0 where
   pub each : (j : ℕ) → j < n → f j (get_or s (p + j) 0) ≡ true
 
+-- the n bytes from p on may be told to pass, each by a test of its place
+pub record AllPassed (P : ℕ → ℕ → Bool → Type 0) (s : List ℕ) (p n : ℕ) : Type 0 where
+  pub each : (j : ℕ) → j < n → P j (get_or s (p + j) 0) true
+
 -- a weight that a remainder by 97 may be
 abbrev pub light : ℕ → Bool
 light k = leb k 96
@@ -26,10 +30,6 @@ balance s p w (suc n) = balance s p w n + get_or s (p + n) 0 * get_or w n 0
 -- n with the characters of s written behind it
 abbrev pub number : ℕ → List ℕ → ℕ
 number n s = followed_by n (spelled s)
-
--- the characters of t write, behind a number, that number times w, and v more
-pub record Writes (t : List ℕ) (w v : ℕ) : Type 0 where
-  pub is : (s : ℕ) → number s t ≡ s * w + v
 
 -- two capitals, two digits
 pub record Headed (s : List ℕ) (p : ℕ) : Type 0 where
@@ -54,6 +54,8 @@ pub record Identified (s : List ℕ) (p k : ℕ) : Type 0 where
   pub range : between 2 98 (decimal (get_or s (p + 2) 0 ∷ get_or s (p + 3) 0 ∷ [])) ≡ true
   pub leaves : number (number 0 (part (p + 7) k s)) (part p 4 s) % 97 ≡ 1
 
--- an IBAN whose country has these two letters is n characters long; 0 tells nothing
+-- an IBAN whose country has these two letters is n characters long
 pub record Long (c : List ℕ) (n : ℕ) : Type 0 where
-  pub is : 0 < n → (length_of c ≡ n) × (15 ≤ n) × (n ≤ 34)
+  pub is : length_of c ≡ n
+  pub least : 15 ≤ n
+  pub most : n ≤ 34

@@ -24,3 +24,7 @@ cap_one b c = capital_or_digit b
 -- the first r bytes from p on pass, each with the byte behind it
 pub record Run (f : ℕ → ℕ → Bool) (s : List ℕ) (p r : ℕ) : Type 0 where
   pub each : (j : ℕ) → j < r → f (get_or s (p + j) 0) (get_or s (p + j + 1) 0) ≡ true
+
+-- the first r bytes from p on may be told to pass, each with the byte behind it
+pub record Passed (P : ℕ → ℕ → Bool → Type 0) (s : List ℕ) (p r : ℕ) : Type 0 where
+  pub each : (j : ℕ) → j < r → P (get_or s (p + j) 0) (get_or s (p + j + 1) 0) true

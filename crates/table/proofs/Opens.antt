@@ -10,16 +10,16 @@ use Rattle.text.specs.Truth.{pick, part}
 use Rattle.tags.specs.Tags.{look, exactly, amount_tag, plain_tag, currency, start_tag}
 use Rattle.tags.proofs.Looks.{and_then, look_append, exactly_length}
 use Rattle.table.specs.declared.Row.{Row}
-use Rattle.table.specs.Table.{start_text, amount_kind, opens_by, width}
+use Rattle.table.specs.Table.{start_text, amount_due, opens_by, width}
 
 -- t is the text of its tag
 pub opens : (tags s t : List ℕ) (r : Row) → t ≡ part r.tag r.start tags
-    → look (opens_by tags r) s ≡ and_then (look (exactly t) s) (look (pick (amount_kind r.kind) currency []) (drop (length t) s))
+    → look (opens_by tags r) s ≡ and_then (look (exactly t) s) (look (pick (amount_due r.what) currency []) (drop (length t) s))
 unfolding opens_by
 opens tags s t r e = rw (← e, look_append, exactly_length)
 
 -- where its text is that of an element's start tag, so are its tests, and how many they are
-module _ (b : Bool) (n : String) (r : Row) (amount : amount_kind r.kind ≡ b) where
+module _ (b : Bool) (n : String) (r : Row) (amount : amount_due r.what ≡ b) where
   pub opens_by_lem : (tags : List ℕ) → part r.tag r.start tags ≡ start_text b n → opens_by tags r ≡ start_tag b n
   unfolding opens_by
   opens_by_lem tags e = rw (e, amount) (go b)

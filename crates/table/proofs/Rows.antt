@@ -20,8 +20,8 @@ use Rattle.profile.specs.Kinds.{is_amount}
 use Rattle.profile.specs.Tree.{Shape, end, leaf, group, many}
 use Rattle.profile.specs.Profile.{bulk_name, item_name, in_header, in_item, is_type, profile}
 use Rattle.table.specs.declared.Row.{Row}
-use Rattle.table.specs.Table.{rows_of, start_text, tags_of, numbers_at, numbers_of, row_of, row_in, opens_by, closes_by, room, tags, table, due, many_rows, item_row, Element}
-use Rattle.table.proofs.Numbers.{occ_of_lem, name_of, kind_numbers, field_of_lem}
+use Rattle.table.specs.Table.{rows_of, start_text, tags_of, numbers_at, numbers_of, kind_of, field_of, row_of, row_in, opens_by, closes_by, room, tags, table, due, many_rows, item_row, Element}
+use Rattle.table.proofs.Numbers.{occ_of_lem, marked}
 use Rattle.table.proofs.Opens.{opens_by_lem, width_by}
 use Rattle.table.proofs.Tied.{TiedBy, KeptBy, Tied, RowKept}
 
@@ -134,7 +134,7 @@ module _ (S : Shape) (more : List ℕ) where
     (
       rw (standing k p (end n) h).here
           (record {
-            kind = refl;
+            what = refl;
             close = ap exactly (parts (text) p [] (end_tag n) h.behind h.wording).two;
             finish = refl;
           }),
@@ -148,21 +148,17 @@ module _ (S : Shape) (more : List ℕ) where
       let q = p + length (start_text (is_amount kd) n) + length (end_tag n) in
       let d : Due (suc k) q rest = record { after = h.after; rows = s.next; behind = h.behind; wording = t.on } in
       let y = standing (suc k) q rest d in
-      let x = kind_numbers kd in
       let r = numbers_at k p (leaf o n kd f rest) in (
         (
           rw s.here
               (record {
-                kind = x.kind;
-                judged = x.judged;
-                noted = field_of_lem f;
-                number = refl;
-                amount = x.amount;
+                what = refl;
+                amount = refl;
                 occ = occ_of_lem o;
-                name = name_of n;
+                name = marked (is_type n);
                 some = some_tag (is_amount kd) n;
-                start = opens_by_lem (is_amount kd) n r x.amount (text) t.one;
-                width = width_by (is_amount kd) n r x.amount refl;
+                start = opens_by_lem (is_amount kd) n r refl (text) t.one;
+                width = width_by (is_amount kd) n r refl refl;
                 close = ap exactly t.two;
                 finish = refl;
                 later = omega arith;
@@ -195,10 +191,10 @@ module _ (S : Shape) (more : List ℕ) where
         (
           rw s.here
               (record {
-                kind = refl;
+                what = refl;
                 amount = refl;
                 occ = occ_of_lem o;
-                name = name_of n;
+                name = marked (is_type n);
                 some = some_tag false n;
                 start = opens_by_lem false n r refl (text) t.one;
                 width = width_by false n r refl refl ∙ exactly_length (plain_tag n);
@@ -216,7 +212,7 @@ module _ (S : Shape) (more : List ℕ) where
 -- ---- the table of a version
 -- each row is had again from its number
 had_again : (v : Version) → map row_of (table v) ≡ numbers_of 0 0 (profile v)
-unfolding table profile is_type
+unfolding table profile is_type kind_of field_of
 had_again V02 = refl
 had_again V08 = refl
 

@@ -1,7 +1,7 @@
 -- The table that the code goes by, computed from the tree: a row for each element in the order of the profile, and one for each group's end.
-use Rattle.std.specs.Prelude.{ℕ, zero, suc, ◌+◌, ◌-◌, ◌*◌, ◌/◌, ◌%◌, ◌^◌, ◌≡◌, Bool, List, [], ◌∷◌, ◌++◌, map, length, get_or, replicate, eqb}
+use Rattle.std.specs.Prelude.{ℕ, zero, suc, ◌+◌, ◌-◌, ◌*◌, ◌/◌, ◌%◌, ◌^◌, ◌≡◌, Bool, true, false, not, List, [], ◌∷◌, ◌++◌, map, length, get_or, replicate, eqb}
 use Prim.Native.String.{String}
-use Rattle.text.specs.Truth.{either, pick, part}
+use Rattle.text.specs.Truth.{pick, part}
 use Rattle.text.specs.Quoted.{byte}
 use Rattle.codes.specs.declared.Element as code
 use Rattle.tags.specs.Tags.{exactly, end_tag, plain_tag, amount_tag, currency}
@@ -17,6 +17,9 @@ use Rattle.profile.specs.Listed.{fields}
 use Rattle.profile.specs.Kinds.{is_amount}
 use Rattle.profile.specs.Tree.{Occ, once, optional, many, more, Shape, end, leaf, group}
 use Rattle.profile.specs.Profile.{type_name, is_type, in_header, profile}
+use Rattle.table.specs.declared.Occ as code_occ
+use Rattle.table.specs.declared.What.{What}
+use Rattle.table.specs.declared.What.TheVariants.{End, Group, Value}
 use Rattle.table.specs.declared.Row.{Row}
 
 -- ---- what a row's numbers mean
@@ -74,33 +77,67 @@ kind_in_table Amount = 4
 kind_in_table Count = 5
 kind_in_table (Code e) = code_in_table e
 
-abbrev pub amount_kind : ℕ → Bool
-amount_kind n = either (eqb n 3) (eqb n 4)
-
--- how often an element may come
-abbrev pub occ_of : ℕ → Occ
-occ_of zero = once
-occ_of (suc zero) = optional
-occ_of (suc (suc zero)) = many
-occ_of (suc (suc (suc n))) = more
-
-abbrev pub occ_number : Occ → ℕ
-occ_number once = 0
-occ_number optional = 1
-occ_number many = 2
-occ_number more = 3
-
--- a name by its mark: the payment type's, or one that is not
-abbrev pub mark_name : ℕ → String
-mark_name zero = ""
-mark_name (suc n) = type_name
-
-abbrev pub name_mark : String → ℕ
-name_mark n = pick (is_type n) 1 0
-
 -- the fields by their numbers
 unfoldable pub field_of : ℕ → Field
 field_of n = get_or fields n MsgId
+
+-- what is due: 0 is an end, 1 a group, every other number a value's kind
+abbrev pub what_of : ℕ → ℕ → What
+what_of zero f = End
+what_of (suc zero) f = Group
+what_of (suc (suc n)) f = Value (kind_of (suc (suc n))) (field_of f)
+
+abbrev what_number : What → ℕ
+what_number End = 0
+what_number Group = 1
+what_number (Value k f) = kind_in_table k
+
+abbrev number_of_field : What → ℕ
+number_of_field End = 0
+number_of_field Group = 0
+number_of_field (Value k f) = field_number f
+
+abbrev pub amount_due : What → Bool
+amount_due End = false
+amount_due Group = false
+amount_due (Value k f) = is_amount k
+
+-- how often an element may come
+abbrev pub occ_of : code_occ.Occ → Occ
+occ_of code_occ.TheVariants.Once = once
+occ_of code_occ.TheVariants.Optional = optional
+occ_of code_occ.TheVariants.Many = many
+occ_of code_occ.TheVariants.More = more
+
+abbrev pub as_occ : Occ → code_occ.Occ
+as_occ once = code_occ.TheVariants.Once
+as_occ optional = code_occ.TheVariants.Optional
+as_occ many = code_occ.TheVariants.Many
+as_occ more = code_occ.TheVariants.More
+
+-- whether another one may follow it
+abbrev pub repeats : code_occ.Occ → Bool
+repeats code_occ.TheVariants.Once = false
+repeats code_occ.TheVariants.Optional = false
+repeats code_occ.TheVariants.Many = true
+repeats code_occ.TheVariants.More = true
+
+abbrev pub occ_by : ℕ → code_occ.Occ
+occ_by zero = code_occ.TheVariants.Once
+occ_by (suc zero) = code_occ.TheVariants.Optional
+occ_by (suc (suc zero)) = code_occ.TheVariants.Many
+occ_by (suc (suc (suc n))) = code_occ.TheVariants.More
+
+abbrev occ_number : code_occ.Occ → ℕ
+occ_number code_occ.TheVariants.Once = 0
+occ_number code_occ.TheVariants.Optional = 1
+occ_number code_occ.TheVariants.Many = 2
+occ_number code_occ.TheVariants.More = 3
+
+-- a name by its mark: the payment type's, or one that is not
+abbrev pub mark_name : Bool → String
+mark_name false = ""
+mark_name true = type_name
 
 -- ---- the rows of a tree
 -- a shape and all that is due later, in the order of the list: a row for each
@@ -118,31 +155,29 @@ tags_of (end n) = end_tag n
 tags_of (leaf o n k f rest) = start_text (is_amount k) n ++ (end_tag n ++ tags_of rest)
 tags_of (group o n inner rest) = plain_tag n ++ (tags_of inner ++ tags_of rest)
 
--- the numbers of row k, whose tags stand from p on: where they stand; how many bytes its start tag has there, and its end tag behind it; 0 for an end, 1 for a group, else the kind;
--- how often it may come; the row of what is due after it (a group's first child is the row below); a value's field; the mark of its name
+-- row k, whose tags stand from p on: where they stand; how many bytes its start tag has there, and its end tag behind it; what is due;
+-- how often it may come; the row of what is due after it (a group's first child is the row below); whether its name is the payment type's
 abbrev pub numbers_at : ℕ → ℕ → Shape → Row
-numbers_at k p (end n) = record { tag = p; start = 0; finish = length (end_tag n); kind = 0; occ = 0; next = 0; field = 0; mark = 0 }
+numbers_at k p (end n) = record { tag = p; start = 0; finish = length (end_tag n); what = End; occ = as_occ once; next = 0; typed = false }
 numbers_at k p (leaf o n kd f rest) =
     record {
       tag = p;
       start = length (start_text (is_amount kd) n);
       finish = length (end_tag n);
-      kind = kind_in_table kd;
-      occ = occ_number o;
+      what = Value kd f;
+      occ = as_occ o;
       next = suc k;
-      field = field_number f;
-      mark = name_mark n;
+      typed = is_type n;
     }
 numbers_at k p (group o n inner rest) =
     record {
       tag = p;
       start = length (plain_tag n);
       finish = 0;
-      kind = 1;
-      occ = occ_number o;
+      what = Group;
+      occ = as_occ o;
       next = suc k + length (rows_of inner);
-      field = 0;
-      mark = name_mark n;
+      typed = is_type n;
     }
 
 -- the numbers of all rows, of which the first is row k
@@ -158,7 +193,14 @@ numbers_of k p (group o n inner rest) =
 -- ---- a row as one number: its own numbers one behind the other, the first in four digits to the base 16, how often it may come and the mark in one, each other in two
 abbrev pub as_number : Row → ℕ
 as_number r =
-    r.tag * 16 ^ 12 + r.start * 16 ^ 10 + r.finish * 16 ^ 8 + r.kind * 16 ^ 6 + r.occ * 16 ^ 5 + r.next * 16 ^ 3 + r.field * 16 + r.mark
+    r.tag * 16 ^ 12
+    + r.start * 16 ^ 10
+    + r.finish * 16 ^ 8
+    + what_number r.what * 16 ^ 6
+    + occ_number r.occ * 16 ^ 5
+    + r.next * 16 ^ 3
+    + number_of_field r.what * 16
+    + pick r.typed 1 0
 
 abbrev pub row_of : ℕ → Row
 row_of n =
@@ -166,11 +208,10 @@ row_of n =
       tag = n / 16 ^ 12 % 65536;
       start = n / 16 ^ 10 % 256;
       finish = n / 16 ^ 8 % 256;
-      kind = n / 16 ^ 6 % 256;
-      occ = n / 16 ^ 5 % 16;
+      what = what_of (n / 16 ^ 6 % 256) (n / 16 % 256);
+      occ = occ_by (n / 16 ^ 5 % 16);
       next = n / 16 ^ 3 % 256;
-      field = n / 16 % 256;
-      mark = n / 1 % 16;
+      typed = not (eqb (n / 1 % 16) 0);
     }
 
 -- ---- of a version
@@ -205,14 +246,14 @@ row_in t k = row_of (get_or t k 0)
 
 -- the tests of a row's tags, by all tags
 unfoldable pub opens_by : List ℕ → Row → List (ℕ → Bool)
-opens_by t r = exactly (part r.tag r.start t) ++ pick (amount_kind r.kind) currency []
+opens_by t r = exactly (part r.tag r.start t) ++ pick (amount_due r.what) currency []
 
 unfoldable pub closes_by : List ℕ → Row → List (ℕ → Bool)
 closes_by t r = exactly (part (r.tag + r.start) r.finish t)
 
 -- how many bytes a row's start tag has
 abbrev pub width : Row → ℕ
-width r = r.start + pick (amount_kind r.kind) (length currency) 0
+width r = r.start + pick (amount_due r.what) (length currency) 0
 
 -- no end of a group
 abbrev pub Element : Shape → Type 0

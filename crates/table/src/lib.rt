@@ -4,23 +4,51 @@
 ghost use Rattle.std.specs.Prelude.{◌≡◌, ◌<◌, ◌≤◌, ◌/◌, ◌%◌};
 ghost use Rattle.text.specs.Truth.{part};
 ghost use Rattle.tags.specs.Tags.{look};
-ghost use Rattle.table.specs.Table.{tags as all_tags, table, ItemsRow, row_of, row_in, kind_of, field_of, amount_kind, opens_by, closes_by, width};
+ghost use Rattle.table.specs.Table.{tags as all_tags, table, ItemsRow, row_of, row_in, kind_of, field_of, what_of, occ_by, repeats, amount_due, opens_by, closes_by, width};
 
 use codes::Element;
 use profile::{Field, Kind, Simple, Version};
 use tags::Look;
 
+// How often an element may come: 1; 0 or 1; 1 or more; and what is left of the last once one has come, 0 or more.
+#[derive(Clone, Copy, PartialEq, Eq)]
+pub enum Occ {
+    Once,
+    Optional,
+    Many,
+    More,
+}
+
+impl Occ {
+    // Whether another one may follow it.
+    pub fn repeats(self) -> bool
+        ensures { result ≡ repeats self }
+    {
+        matches!(self, Occ::Many | Occ::More)
+    }
+}
+
+// What is due at a row.
+#[derive(Clone, Copy)]
+pub enum What {
+    End,
+    Group,
+    Value(Kind, Field),
+}
+
 // A row of the table.
 #[derive(Clone, Copy)]
 pub struct Row {
+    // Where its tags stand, and how long its start tag and its end tag are there.
     pub tag: u16,
     pub start: u16,
     pub finish: u16,
-    pub kind: u16,
-    pub occ: u16,
+    pub what: What,
+    pub occ: Occ,
+    // The row of what is due after it.
     pub next: u16,
-    pub field: u16,
-    pub mark: u16,
+    // Whether it is the payment type's.
+    pub typed: bool,
 }
 
 // How many bytes the tags of a version take.
@@ -33,6 +61,7 @@ pub const ROWS: usize = 93;
 const ITEM: usize = 25;
 
 // The tags as a message with nothing in it has them, each as often as it comes; an amount's start tag as far as its quotation mark.
+// Two versions, which differ in BIC and BICFI: spelt out, so that each is compared with its tree by computing.
 const TAGS_02: [u8; BYTES] = *b"\
     <FIToFICstmrDrctDbt>\
         <GrpHdr>\
@@ -135,7 +164,7 @@ const TAGS_08: [u8; BYTES] = *b"\
     </FIToFICstmrDrctDbt>\
     </Document>";
 
-// The rows, with the names of their elements behind them.
+// The rows, with the names of their elements behind them. Each is packed into a number: as a struct it would take nine lines, 186 times.
 const TABLE_02: [u64; ROWS] = [
     0x0000_14_00_01_0_5c_00_0, // 0 FIToFICstmrDrctDbt
     0x0014_08_00_01_0_19_00_0, // 1 GrpHdr
@@ -338,7 +367,7 @@ pub fn tags_of(v: Version) -> [u8; BYTES]
     }
 }
 
-// All rows of a version, for whoever lends them down.
+// All rows of a version, for whoever lends them down. (Rows are numbers and tags are bytes, each lent alone: so `tags_of` is another function.)
 pub fn rows_of(v: Version) -> [u64; ROWS]
     ensures { result ≡ table v }
 {
@@ -363,33 +392,8 @@ fn digits(n: u64, below: u64, most: u64) -> u16
     (n / below % most) as u16
 }
 
-// A row from its number.
-fn row_of(n: u64) -> Row
-    ensures { result ≡ row_of n }
-{
-    Row {
-        tag: digits(n, 0x1_00_00_00_0_00_00_0, 0x1_0000),
-        start: digits(n, 0x1_00_00_0_00_00_0, 0x1_00),
-        finish: digits(n, 0x1_00_0_00_00_0, 0x1_00),
-        kind: digits(n, 0x1_0_00_00_0, 0x1_00),
-        occ: digits(n, 0x1_00_00_0, 0x1_0),
-        next: digits(n, 0x1_00_0, 0x1_00),
-        field: digits(n, 0x1_0, 0x1_00),
-        mark: digits(n, 1, 0x1_0),
-    }
-}
-
-// Row k of the lent rows.
-pub fn row_at(rows: &[u64], k: usize) -> Row
-    ensures { result ≡ row_in rows.now k }
-{
-    if k < rows.len() {
-        return row_of(rows[k]);
-    }
-    row_of(0)
-}
-
-// The kind of a value by its number.
+// The kind of a value by its number. (By number, since the row is one number and the tables are written so.)
+#[tactic(auto, using(crate::proofs::Numbers::other_kind), unfolding(crate::specs::Table::kind_of))]
 pub fn kind_of(n: u16) -> Kind
     ensures { result ≡ kind_of n }
 {
@@ -416,7 +420,8 @@ pub fn kind_of(n: u16) -> Kind
     }
 }
 
-// A field by its number.
+// A field by its number. (By number, since the row is one number and the tables are written so.)
+#[tactic(auto, unfolding(crate::specs::Table::field_of))]
 pub fn field_of(n: u16) -> Field
     ensures { result ≡ field_of n }
 {
@@ -451,28 +456,70 @@ pub fn field_of(n: u16) -> Field
     }
 }
 
-// Whether the kind of this number is an amount's.
-pub fn is_amount(kind: u16) -> bool
-    ensures { result ≡ amount_kind kind }
+// What is due, by the numbers of its kind and its field.
+pub fn what_of(kind: u16, field: u16) -> What
+    ensures { result ≡ what_of kind field }
 {
-    if kind == 3 {
-        return true;
+    match kind {
+        0 => What::End,
+        1 => What::Group,
+        _ => What::Value(kind_of(kind), field_of(field)),
     }
-    kind == 4
+}
+
+// How often it may come, by its number.
+fn occ_by(n: u16) -> Occ
+    ensures { result ≡ occ_by n }
+{
+    match n {
+        0 => Occ::Once,
+        1 => Occ::Optional,
+        2 => Occ::Many,
+        _ => Occ::More,
+    }
+}
+
+// A row from its number.
+fn row_of(n: u64) -> Row
+    ensures { result ≡ row_of n }
+{
+    let kind = digits(n, 0x1_0_00_00_0, 0x1_00);
+    let field = digits(n, 0x1_0, 0x1_00);
+    Row {
+        tag: digits(n, 0x1_00_00_00_0_00_00_0, 0x1_0000),
+        start: digits(n, 0x1_00_00_0_00_00_0, 0x1_00),
+        finish: digits(n, 0x1_00_0_00_00_0, 0x1_00),
+        what: what_of(kind, field),
+        occ: occ_by(digits(n, 0x1_00_00_0, 0x1_0)),
+        next: digits(n, 0x1_00_0, 0x1_00),
+        typed: digits(n, 1, 0x1_0) != 0,
+    }
+}
+
+// Row k of the lent rows.
+pub fn row_at(rows: &[u64], k: usize) -> Row
+    ensures { result ≡ row_in rows.now k }
+{
+    row_of(rows.get(k).copied().unwrap_or(0))
+}
+
+// Whether an amount is due.
+pub fn is_amount(what: What) -> bool
+    ensures { result ≡ amount_due what }
+{
+    match what {
+        What::Value(kind, _) => profile::is_amount(kind),
+        _ => false,
+    }
 }
 
 // A part of the tags, as far as they go.
 fn piece(tags: &[u8], from: usize, len: usize) -> &[u8]
     ensures { result.now ≡ part from len tags.now }
 {
-    if tags.len() < from {
-        return &tags[..0];
-    }
-    if tags.len() - from < len {
-        return &tags[from..];
-    }
-    let e = from + len;
-    &tags[from..e]
+    let from = from.min(tags.len());
+    let len = len.min(tags.len() - from);
+    &tags[from..from + len]
 }
 
 // How a row's start tag lies at the beginning of s.
@@ -480,17 +527,14 @@ pub fn opening(tags: &[u8], r: Row, s: &[u8]) -> Look
     ensures { result ≡ look (opens_by tags.now r) s.now }
 {
     let text = piece(tags, r.tag as usize, r.start as usize);
-    let first = tags::text_at(text, s);
-    match first {
-        Look::Whole => {
-            if is_amount(r.kind) {
-                let n = text.len();
-                return tags::currency_at(&s[n..]);
-            }
-            Look::Whole
-        }
-        Look::Cut => Look::Cut,
-        Look::Other => Look::Other,
+    let look = tags::text_at(text, s);
+    let Look::Whole = look else {
+        return look;
+    };
+    if is_amount(r.what) {
+        tags::currency_at(&s[text.len()..])
+    } else {
+        look
     }
 }
 
@@ -506,8 +550,10 @@ pub fn closing(tags: &[u8], r: Row, s: &[u8]) -> Look
 pub fn width_of(r: Row) -> usize
     ensures { result ≡ width r }
 {
-    if is_amount(r.kind) {
-        return r.start as usize + tags::CURRENCY;
+    let start = r.start as usize;
+    if is_amount(r.what) {
+        start + tags::CURRENCY
+    } else {
+        start
     }
-    r.start as usize
 }

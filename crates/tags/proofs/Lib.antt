@@ -1,5 +1,4 @@
 pub mod Looks
-pub mod Question
 pub mod Euro
 pub mod White
 pub mod Ends

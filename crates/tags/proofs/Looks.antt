@@ -1,46 +1,35 @@
 -- How tests lie at the beginning of a text: what a loop over them reads, and what two lists of tests, one behind the other, say.
-use mathlib.Core.Path.{◌≡◌, refl, ap}
-use mathlib.Core.Bool.{Bool, true, false}
+use mathlib.Core.Path.{◌≡◌, refl, sym, ap}
+use mathlib.Core.Bool.{Bool, true, false, ◌&&◌}
 use mathlib.Core.List.{List, [], ◌∷◌, ◌++◌}
 use Prim.Native.Nat.{ℕ, zero, suc, ◌+◌, ◌≤◌, ◌<◌}
 use native.Mathlib.Numerals.{add-one}
 use native.Mathlib.Omega.{arith}
-use borrow.Author.Tests.{eq-eqb, eqb-true}
+use borrow.Author.Tests.{eq-eqb, ne_eqb, eqb-true, eqb-false}
 use lib.Dec.{eqb}
+use Rattle.std.specs.List.{starts_with}
 use lib.ListN.{length, drop, get_or, drop_of_length-le}
 use lib.Seq.{drop-cons}
 use Rattle.text.specs.Truth.{pick}
-use Rattle.text.specs.Quoted.{equal}
 use Rattle.text.proofs.Scan.{next}
 use Rattle.tags.specs.declared.Look.{Look}
 use Rattle.tags.specs.declared.Look.TheVariants.{Whole, Cut, Other}
 use Rattle.text.specs.Classes.{capital}
 use Rattle.text.proofs.Truths.{never}
-use Rattle.tags.specs.Tags.{look, exactly, currency}
+use Rattle.tags.specs.Tags.{look, on_look, exactly, currency}
 
 -- ---- the tests of a text
 pub exactly_length : (t : List ℕ) → length (exactly t) ≡ length t
 exactly_length [] = refl
 exactly_length (d ∷ t) = ap suc (exactly_length t)
 
-pub exactly_at : (t : List ℕ) (i : ℕ) → get_or (exactly t) i (equal 0) ≡ equal (get_or t i 0)
-exactly_at [] i = refl
-exactly_at (d ∷ t) zero = refl
-exactly_at (d ∷ t) (suc i) = exactly_at t i
-
 -- ---- test i, and byte i
 module _ (d : ℕ → Bool) (t : List (ℕ → Bool)) (s : List ℕ) (i : ℕ) where
   pub look_cut : i < length t → length s ≤ i → look (drop i t) (drop i s) ≡ Cut
   look_cut h g = rw (drop-cons t i d h, drop_of_length-le s g)
 
-  pub look_stop : i < length t → i < length s → get_or t i d (get_or s i 0) ≡ false → look (drop i t) (drop i s) ≡ Other
-  look_stop h g e = rw (drop-cons t i d h, next s i g, e)
-
   pub look_go : i < length t → i < length s → get_or t i d (get_or s i 0) ≡ true → look (drop i t) (drop i s) ≡ look (drop (i + 1) t) (drop (i + 1) s)
   look_go h g e = rw (drop-cons t i d h, next s i g, e, add-one)
-
-  pub look_end : length t ≤ i → look (drop i t) (drop i s) ≡ Whole
-  look_end h = rw (drop_of_length-le t h)
 
 -- ---- what lies there whole is no longer than the text
 pub look_fits : (t : List (ℕ → Bool)) (s : List ℕ) → look t s ≡ Whole → length t ≤ length s
@@ -101,9 +90,36 @@ look_append (f ∷ t) u (c ∷ s) = go (f c) (look_append t u s)
     go true h = h
     go false h = refl
 
--- ---- the first tests of a currency
-pub capitals : (i : ℕ) → i < 3 → get_or currency i capital ≡ capital
-capitals zero h = refl
-capitals (suc zero) h = refl
-capitals (suc (suc zero)) h = refl
-capitals (suc (suc (suc i))) h = never (omega arith)
+-- ---- the other tests of a currency
+pub capitals : (i : ℕ) → (i ≡ 3 → ⊥) → (i ≡ 4 → ⊥) → get_or currency i capital ≡ capital
+capitals zero h g = refl
+capitals (suc zero) h g = refl
+capitals (suc (suc zero)) h g = refl
+capitals (suc (suc (suc zero))) h g = absurd (h refl)
+capitals (suc (suc (suc (suc zero)))) h g = absurd (g refl)
+capitals (suc (suc (suc (suc (suc i))))) h g = refl
+
+-- ---- how a text lies, as `starts_with` says it: of the text at the beginning of s, and of s at the beginning of the text
+abbrev pub as_asked : Bool → Bool → Look
+as_asked true b = Whole
+as_asked false true = Cut
+as_asked false false = Other
+
+pub look_asked : (t s : List ℕ) → as_asked (starts_with eqb s t) (starts_with eqb t s) ≡ look (exactly t) s
+look_asked [] s = refl
+look_asked (d ∷ t) [] = refl
+look_asked (d ∷ t) (c ∷ s) = go (eqb c d) refl (look_asked t s)
+  where
+    go : (b : Bool) → eqb c d ≡ b → as_asked (starts_with eqb s t) (starts_with eqb t s) ≡ look (exactly t) s
+        → as_asked (eqb d c && starts_with eqb s t) (eqb c d && starts_with eqb t s) ≡ pick b (look (exactly t) s) Other
+    go true e h = rw (e, eq-eqb d c (sym (eqb-true c d e))) h
+    go false e h = rw (e, ne_eqb d c (λ x. eqb-false c d e (sym x)))
+
+-- whether it lies there whole
+pub whole_asked : (t s : List ℕ) → starts_with eqb s t ≡ on_look (look (exactly t) s) true false false
+whole_asked t s = rw (sym (look_asked t s)) (go (starts_with eqb s t) (starts_with eqb t s))
+  where
+    go : (a b : Bool) → a ≡ on_look (as_asked a b) true false false
+    go true b = refl
+    go false true = refl
+    go false false = refl

@@ -1,5 +1,6 @@
 pub mod Truths
 pub mod Scan
+pub mod Chains
 pub mod Sets
 pub mod Digits
 pub mod Decimal

@@ -1,7 +1,7 @@
 // Bytes as text: the classes of characters that the paper names, and the questions that every value kind asks of them.
 #![tactic(auto)]
 
-ghost use Rattle.std.specs.Prelude.{◌≡◌, List, [], ◌∷◌, length, ◌-◌, ◌<◌};
+ghost use Rattle.std.specs.Prelude.{◌≡◌, List, [], ◌∷◌, ◌++◌, length, take, drop, ◌-◌, ◌<◌};
 ghost use Rattle.text.specs.Truth.{every, some, lead};
 ghost use Rattle.text.specs.Quoted.{alike, decimal};
 ghost use Rattle.text.specs.Classes.{in_class, holds, Names};
@@ -17,60 +17,26 @@ pub enum Class {
     Text,
 }
 
-// A set of bytes below 128: bit c of the low word, bit c - 64 of the high one.
-#[derive(Clone, Copy)]
-pub struct Mask {
-    pub low: u64,
-    pub high: u64,
-}
-
-// The set that a class names.
-fn mask_of(k: Class) -> Mask
+// The set that a class names, of bytes below 128: bit c stands for byte c. So a byte of any class costs one shift.
+fn mask_of(k: Class) -> u128
     ensures { Names result (in_class k) }
 {
     match k {
-        Class::Digit => Mask {
-            low: 0x03FF000000000000,
-            high: 0,
-        },
-        Class::Capital => Mask {
-            low: 0,
-            high: 0x0000000007FFFFFE,
-        },
-        Class::Small => Mask {
-            low: 0,
-            high: 0x07FFFFFE00000000,
-        },
-        Class::CapitalOrDigit => Mask {
-            low: 0x03FF000000000000,
-            high: 0x0000000007FFFFFE,
-        },
-        Class::LetterOrDigit => Mask {
-            low: 0x03FF000000000000,
-            high: 0x07FFFFFE07FFFFFE,
-        },
-        Class::Reference => Mask {
-            low: 0x87FFFB8000000000,
-            high: 0x07FFFFFE07FFFFFE,
-        },
-        Class::Text => Mask {
-            low: 0x87FFFB8100000000,
-            high: 0x07FFFFFE07FFFFFE,
-        },
+        Class::Digit => 0x00000000_00000000_03FF0000_00000000,
+        Class::Capital => 0x00000000_07FFFFFE_00000000_00000000,
+        Class::Small => 0x07FFFFFE_00000000_00000000_00000000,
+        Class::CapitalOrDigit => 0x00000000_07FFFFFE_03FF0000_00000000,
+        Class::LetterOrDigit => 0x07FFFFFE_07FFFFFE_03FF0000_00000000,
+        Class::Reference => 0x07FFFFFE_07FFFFFE_87FFFB80_00000000,
+        Class::Text => 0x07FFFFFE_07FFFFFE_87FFFB81_00000000,
     }
 }
 
 // Whether the set holds the byte.
-fn is_held(m: Mask, c: u8) -> bool
+fn is_held(m: u128, c: u8) -> bool
     ensures { result ≡ holds m c }
 {
-    if c < 64 {
-        return (m.low >> c) % 2 == 1;
-    }
-    if c < 128 {
-        return (m.high >> (c - 64)) % 2 == 1;
-    }
-    false
+    c < 128 && (m >> c) % 2 == 1
 }
 
 // Whether the byte is of the class.
@@ -85,22 +51,15 @@ pub fn run_in(k: Class, s: &[u8]) -> usize
     ensures { result ≡ lead (in_class k) s.now }
 {
     let m = mask_of(k);
-    let mut i = 0;
-    while i < s.len() {
-        if is_held(m, s[i]) {
-            i += 1;
-        } else {
-            return i;
-        }
-    }
-    i
+    s.iter().take_while(|c| is_held(m, **c)).count()
 }
 
 // Whether every byte is of the class.
 pub fn all_in(k: Class, s: &[u8]) -> bool
     ensures { result ≡ every (in_class k) s.now }
 {
-    run_in(k, s) == s.len()
+    let m = mask_of(k);
+    s.iter().all(|c| is_held(m, *c))
 }
 
 // Whether some byte is of the class.
@@ -108,31 +67,25 @@ pub fn some_in(k: Class, s: &[u8]) -> bool
     ensures { result ≡ some (in_class k) s.now }
 {
     let m = mask_of(k);
-    let mut i = 0;
-    while i < s.len() {
-        if is_held(m, s[i]) {
-            return true;
-        }
-        i += 1;
-    }
-    false
+    s.iter().any(|c| is_held(m, *c))
 }
 
 // Whether s holds the bytes of t, and as many.
 pub fn same(t: &[u8], s: &[u8]) -> bool
     ensures { result ≡ alike t.now s.now }
 {
-    if t.len() != s.len() {
-        return false;
+    t == s
+}
+
+// The bytes of s, laid over those of `to` from its beginning, as far as both go.
+// (Byte by byte: for `copy_from_slice` a C program would have to bring `memmove` as well.)
+pub fn lay(to: &mut [u8], s: &[u8])
+    ensures laid { to.new ≡ take (length to.old) s.now ++ drop (length s.now) to.old }
+    ensures whole { length to.old ≡ length s.now → to.new ≡ s.now }
+{
+    for i in 0..to.len().min(s.len()) {
+        to[i] = s[i];
     }
-    let mut i = 0;
-    while i < t.len() {
-        if s[i] != t[i] {
-            return false;
-        }
-        i += 1;
-    }
-    true
 }
 
 // What a character adds to a number: a digit's worth, and 0 for what stands below the digits.
@@ -140,10 +93,7 @@ fn unit(c: u8) -> u32
     ensures value { result ≡ c - 48 }
     ensures upper_bound { result < 256 }
 {
-    if c < 48 {
-        return 0;
-    }
-    (c - 48) as u32
+    c.saturating_sub(b'0') as u32
 }
 
 // The number that two digits write.

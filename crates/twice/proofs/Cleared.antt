@@ -1,35 +1,29 @@
--- The index cleared, number by number.
-use Rattle.std.proofs.Common.{◌≡◌, ℕ, ◌+◌, ◌<◌, ◌≤◌, List, length, drop, set, replicate, refl, ◌∙◌, append-nil, arith, length-append, length-drop, drop_of_length-le, le-leb}
-use borrow.Author.Fill.{fill_more}
+-- The index cleared.
+use Rattle.std.proofs.Common.{◌≡◌, ℕ, ◌<◌, ◌≤◌, List, ◌++◌, length, drop, take, replicate, ap, ◌∙◌, arith, length-append, length-drop, le-leb, length-take-le}
 use borrow.Author.Tests.{lt-leb}
 use lib.ListN.{length-replicate, get_or-replicate, get_or-append}
-use Rattle.text.specs.Truth.{at}
 use Rattle.twice.specs.Twice.{least_index, cleared}
-use Rattle.twice.specs.Engine.{cleared_to}
-
-pub cleared_none : (index : List ℕ) → index ≡ cleared_to 0 index
-unfolding cleared_to
-cleared_none index = refl
-
-pub cleared_long : (n : ℕ) (index : List ℕ) → n ≤ length index → length (cleared_to n index) ≡ length index
-unfolding cleared_to
-cleared_long n index h = omega (arith, length-append (replicate n 0) (drop n index), length-replicate {A = ℕ} n 0, length-drop n index)
-
-pub cleared_more : (n : ℕ) (was index : List ℕ) → index ≡ cleared_to n was → n < length was → set index n 0 ≡ cleared_to (n + 1) was
-unfolding cleared_to
-cleared_more n was index e h = rw e (fill_more n 0 was h)
+use Rattle.twice.specs.Engine.{AllFree}
 
 -- the slots cleared are free
-pub cleared_free : (n : ℕ) (index : List ℕ) (slot : ℕ) → slot < n → at (cleared_to n index) slot ≡ 0
-unfolding cleared_to
-cleared_free n index slot h =
-    get_or-append (replicate n 0) (drop n index) 0 slot (omega (arith, length-replicate {A = ℕ} n 0)) ∙ get_or-replicate n slot 0 0 h
+pub cleared_free : (index x : List ℕ) → 16384 ≤ length index → x ≡ replicate (length (take 16384 index)) 0
+    → (least_index ≤ length (x ++ drop 16384 index)) × AllFree (x ++ drop 16384 index)
+unfolding least_index
+cleared_free index x h e =
+    let n : length (take 16384 index) ≡ 16384 = length-take-le 16384 index h in
+    let l : length x ≡ 16384 = ap length e ∙ length-replicate {A = ℕ} _ 0 ∙ n in (
+      omega (arith, length-append x (drop 16384 index)),
+      λ slot g. get_or-append x (drop 16384 index) 0 slot (omega arith) ∙ rw e (get_or-replicate (length (take 16384 index)) slot 0 0 (omega arith)),
+    )
+
+-- and the index is as long
+pub cleared_long : (index x y : List ℕ) → 16384 ≤ length index → length x ≡ length (take 16384 index) → length y ≡ length (x ++ drop 16384 index) → length y ≡ length index
+cleared_long index x y h e f = omega (arith, length-append x (drop 16384 index), length-drop 16384 index, length-take-le 16384 index h)
 
 -- all cleared at the end, whatever the search wrote
-pub cleared_whole : (index x y : List ℕ) → length x ≡ length index → least_index ≤ length index → y ≡ cleared_to (length index) x → y ≡ cleared index
-unfolding cleared cleared_to
-cleared_whole index x y e h f =
-    f ∙ rw (le-leb least_index (length index) h, drop_of_length-le x {i = length index} (omega arith)) (append-nil (replicate (length index) 0))
+pub cleared_whole : (index y : List ℕ) (n : ℕ) → n ≡ length index → least_index ≤ length index → y ≡ replicate n 0 → y ≡ cleared index
+unfolding cleared
+cleared_whole index y n l h e = e ∙ rw (l, le-leb least_index (length index) h)
 
 pub cleared_not : (index : List ℕ) → length index < least_index → index ≡ cleared index
 unfolding cleared

@@ -1,10 +1,16 @@
 -- The plain search: each value against all before it.
-use Rattle.std.proofs.Common.{◌≡◌, ℕ, ◌+◌, ◌<◌, ◌≤◌, true, false, List, length, take, drop, sym, ◌∙◌, add-one, arith, drop_of_length-le, length-take-le, get_or-take, take-suc, ne_eqb}
+use Rattle.std.proofs.Common.{◌≡◌, ℕ, zero, suc, ◌+◌, ◌<◌, ◌≤◌, true, false, List, length, take, drop, refl, sym, ◌∙◌, add-one, arith, drop_of_length-le, length-take-le, get_or-take, take-suc, ne_eqb}
+use Rattle.std.specs.Prelude.{Some}
 use Rattle.text.specs.Truth.{either, at}
 use Rattle.text.specs.Quoted.{alike}
 use Rattle.text.proofs.Scan.{next}
 use Rattle.tags.specs.Values.{value_at}
-use Rattle.twice.specs.Twice.{stands_among, second_from, second}
+use Rattle.twice.specs.Twice.{stands_among, second_from, second, if_any}
+
+-- a place that is one
+pub some_place : (p : ℕ) → (p ≡ 0 → ⊥) → Some p ≡ if_any p
+some_place zero h = absurd (h refl)
+some_place (suc p) h = refl
 
 -- ---- one place more or the last: what the search from item i on gives
 module _ (m places : List ℕ) (i : ℕ) where

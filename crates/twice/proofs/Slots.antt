@@ -9,7 +9,7 @@ use Rattle.twice.specs.Twice.{stands_among, second_from, second, least_index}
 use Rattle.twice.specs.Engine.{most, passed, slot_at, steps, probe, slots_from, AllFree}
 use Rattle.twice.proofs.Values.{alike_equal}
 use Rattle.twice.proofs.Pairs.{second_end, second_zero, second_here, second_later}
-use Rattle.twice.proofs.Walks.{passed_free, passed_same, slots_end, slots_zero, slots_here, slots_later}
+use Rattle.twice.proofs.Walks.{passed_free, passed_not, slots_end, slots_zero, slots_here, slots_later}
 use Rattle.twice.proofs.Room.{taken, taken_none, taken_one, some_free, reach, Stopped, stops}
 
 -- ---- whether a value stands among places, by their items
@@ -35,7 +35,7 @@ module _ (m places v : List ℕ) (n : ℕ) where
   passed-tells : passed m places v n ≡ true → (n ≡ 0 → ⊥) × (alike (value_at m (at places (n - 1))) v ≡ true → ⊥)
   passed-tells e =
       let full : n ≡ 0 → ⊥ = λ z. let w : ◌≡◌ {A = ℕ} 0 1 = never_both (passed_free m places v n z) in omega arith in
-      (full, λ y. let w : ◌≡◌ {A = ℕ} 0 1 = never_both (passed_same m places v n full y) in omega arith)
+      (full, λ y. let w : ◌≡◌ {A = ℕ} 0 1 = never_both (rw y at (passed_not m places v n full)) in omega arith)
     where
       never_both : false ≡ passed m places v n → ◌≡◌ {A = ℕ} 0 1
       never_both f = cc

@@ -1,7 +1,7 @@
 -- The quick way: an index of numbers, of which each is 0 or that of an item, counted from 1. The mix of a value's bytes says where its search begins;
 -- from there it goes on from slot to slot, round about, past the numbers of items with another value. Above the number stand the upper bits of that
 -- item's mix: where they differ, so do the values, and no byte of them is read.
-use Rattle.std.specs.Prelude.{◌≡◌, ℕ, zero, suc, ◌+◌, ◌-◌, ◌*◌, ◌/◌, ◌%◌, ◌^◌, ◌<◌, Bool, not, List, [], ◌∷◌, ◌++◌, length, drop, replicate, ◌==◌, ◌≢◌, nat_le, slice_set}
+use Rattle.std.specs.Prelude.{◌≡◌, ℕ, zero, suc, ◌+◌, ◌-◌, ◌*◌, ◌/◌, ◌%◌, ◌^◌, ◌<◌, Bool, not, List, [], ◌∷◌, length, drop, ◌==◌, ◌≢◌, nat_le, slice_set}
 use Rattle.text.specs.Truth.{both, pick, at, lead}
 use Rattle.text.specs.Quoted.{alike}
 use Rattle.tags.specs.Values.{in_value, value_at}
@@ -41,10 +41,6 @@ strewn h = lowered 13 (raised 11 (lowered 16 h))
 
 unfoldable pub mix : List ℕ → ℕ
 mix v = strewn (mix_from 0 v)
-
--- the first n numbers cleared
-unfoldable pub cleared_to : ℕ → List ℕ → List ℕ
-cleared_to n index = replicate n 0 ++ drop n index
 
 -- the items that the slots have room for: fewer than there are slots, so that one is always free
 unfoldable pub most : ℕ

@@ -1,6 +1,6 @@
 -- "Refuse exactly if two items have equal TxId bytes [..], at the earliest second one."
 -- The places of the values are a list of numbers, in the message's order. A place 0 ends the list: no value begins at 0.
-use Rattle.std.specs.Prelude.{ℕ, Bool, false, List, [], ◌∷◌, ◌++◌, length, replicate, ◌==◌, nat_le}
+use Rattle.std.specs.Prelude.{ℕ, zero, suc, Option, None, Some, Bool, false, List, [], ◌∷◌, ◌++◌, length, replicate, ◌==◌, nat_le}
 use Rattle.text.specs.Truth.{either, pick}
 use Rattle.text.specs.Quoted.{alike}
 use Rattle.tags.specs.Values.{value_at}
@@ -18,6 +18,11 @@ second_from m before (p ∷ places) =
 
 unfoldable pub second : List ℕ → List ℕ → ℕ
 second m places = second_from m [] places
+
+-- a place, where it is one
+abbrev pub if_any : ℕ → Option ℕ
+if_any zero = None
+if_any (suc p) = Some (suc p)
 
 -- 25: "index under 16,384 numbers"
 unfoldable pub least_index : ℕ

@@ -1,9 +1,10 @@
 -- The line of an input: too long, or what the judge says of it.
-use Rattle.std.proofs.Common.{◌≡◌, ℕ, ◌+◌, ◌≤◌, ◌<◌, ◌⊎◌, inl, inr, List, ◌++◌, length, take, codes, Some, None, IfSome}
-use Rattle.std.proofs.Common.{sym, ap, ◌∙◌, subst, arith, length-append, length-take-le, append-nil}
+use Rattle.std.proofs.Common.{◌≡◌, ℕ, ◌+◌, ◌≤◌, ◌<◌, ◌⊎◌, inl, inr, List, ◌++◌, length, take, codes, Some, None, IfSome, Result, Ok, Err, MatchResult, IfOk, OnOk, IsErr, is_ok, false}
+use Rattle.std.proofs.Common.{refl, sym, ap, ◌∙◌, subst, arith, length-append, length-take-le, append-nil}
+use Rattle.std.proofs.lemmas.Result.{IfOk-at_ok, IfOk-from_err}
 use Rattle.std.specs.Io.KnownBytes.{Consumes, IsAtEnd, Appends}
 use Rattle.std.specs.declared.option.Option.{Option}
-use Rattle.text.proofs.Truths.{lt_or_ge}
+use Rattle.text.proofs.Truths.{lt_or_ge, never}
 use borrow.Author.Tests.{lt-ltb, le-ltb}
 use Rattle.reading.specs.Judged.{judged}
 use Rattle.twice.specs.Twice.{least_index}
@@ -39,6 +40,19 @@ of_taken (Some m) (Some rest) n area e h c last = go (lt_or_ge n (length area))
     go (inl p) = ap answered (sym (c ∙ ap (λ l. take n area ++ l) (last p) ∙ append-nil (take n area)))
     go (inr p) = too_many m (take n area) rest c (length-take-le n area h ∙ omega arith)
 
-pub of_whole : (a x y : Option (List ℕ)) (v : List ℕ) → IfSome a (λ m. v ≡ answered m) → Appends x y v → IfSome a (λ m. Appends x y (answered m))
-of_whole None x y v e p = tt
-of_whole (Some m) x y v e p = subst (Appends x y) e p
+-- ---- of a result of which the error alone was made another
+module _ {T E F : Type 0} (s : Result T F) (Q : E → Type 0) where
+  -- what holds of the value holds of it still
+  pub came : (r : Result T E) (x : T) → MatchResult r (λ y. s ≡ Ok y) Q → is_ok s ≡ is_ok r → s ≡ Ok x → (P : T → Type 0) → IfOk r P → P x
+  came (Ok y) x h k e P p = IfOk-at_ok P (sym h ∙ e) p
+  came (Err y) x h k e P p = never (cc (sym (ap is_ok e) ∙ k))
+
+  pub of_whole : (r : Result T E) → MatchResult r (λ y. s ≡ Ok y) Q → is_ok s ≡ is_ok r → (a x y : Option (List ℕ)) (v : List ℕ)
+      → IfSome a (λ m. v ≡ answered m) → OnOk r (Appends x y v) → OnOk s (IfSome a (λ m. Appends x y (answered m)))
+  of_whole (Ok z) h k None x y v e p = rw h tt
+  of_whole (Ok z) h k (Some m) x y v e p = rw h (subst (Appends x y) e p)
+  of_whole (Err z) h k a x y v e p = IfOk-from_err s _ (is_err_of s k)
+    where
+      is_err_of : (s : Result T F) → is_ok s ≡ false → IsErr s
+      is_err_of (Ok w) e = never (cc e)
+      is_err_of (Err w) e = refl

@@ -1,31 +1,18 @@
 -- `accounts::is_checked` meets its contract.
-use mathlib.Core.List.{◌++◌}
-use lib.ListN.{take, drop}
-use Rattle.check97.specs.Check.{leaves_one}
-use mathlib.Core.Path.{sym}
+use mathlib.Core.Path.{◌∙◌}
 use native.Mathlib.Omega.{arith}
-use lib.Seq.{length-take-le}
-use Rattle.accounts.proofs.Forms.{range_under, range_over, range_within}
+use Rattle.text.proofs.Chains.{range_between}
+use Rattle.accounts.proofs.Forms.{checked_then, checked_else}
 use Rattle.accounts.proofs.is_checked.Goals as goal
 
-pub returns-then-n-lt2 : goal.returns-then-n-lt2
-returns-then-n-lt2 c =
+pub returns-then-contains : goal.returns-then-contains
+returns-then-contains c =
     let a = c.args in
-    sym
-    (range_under a.s.now (leaves_one (drop a.m a.s.now ++ take 4 a.s.now)) c.pair-n.result (omega arith) c.pair-n.ensures c.if-n-lt2.true)
+    let r = c.new.ensures in
+    checked_then a.s.now a.m (omega arith) c.pair.ensures (c.contains.ensures.value ∙ range_between _ _ _ c.pair.result r.start r.end r.exhausted) c.if-contains.true c.leaves_one.ensures
 
-pub returns-then-n-gt98 : goal.returns-then-n-gt98
-returns-then-n-gt98 c =
+pub returns-else-contains : goal.returns-else-contains
+returns-else-contains c =
     let a = c.args in
-    sym
-    (range_over a.s.now (leaves_one (drop a.m a.s.now ++ take 4 a.s.now)) c.pair-n.result (omega arith) c.pair-n.ensures c.if-n-gt98.true)
-
-pub slice_bounds-leaves_one-end-2 : goal.slice_bounds-leaves_one-end-2
-slice_bounds-leaves_one-end-2 c = sym (length-take-le 4 c.args.s.now (omega arith))
-
-pub returns : goal.returns
-returns c =
-    range_within c.args.s.now
-    c.args.m c.leaves_one.result
-    c.pair-n.result (omega arith) c.pair-n.ensures
-    c.if-n-lt2.false c.if-n-gt98.false c.leaves_one.ensures
+    let r = c.new.ensures in
+    checked_else a.s.now a.m (omega arith) c.pair.ensures (c.contains.ensures.value ∙ range_between _ _ _ c.pair.result r.start r.end r.exhausted) c.if-contains.false

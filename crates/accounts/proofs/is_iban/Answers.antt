@@ -1,26 +1,39 @@
 -- `accounts::is_iban` meets its contract.
-use Rattle.text.proofs.Truths.{yes_of, no_of, fails, pass, lastly, between_of, between_under, between_over}
-use mathlib.Core.Path.{sym, ap, ◌∙◌}
-use Rattle.text.specs.Truth.{every}
-use Rattle.text.specs.Classes.{in_class, capital_or_digit}
+use mathlib.Core.Path.{◌≡◌, refl, ap, ◌∙◌}
+use mathlib.Core.List.{[], ◌∷◌}
+use lib.ListN.{length}
+use Rattle.text.specs.Truth.{all_of, every, between}
+use Rattle.text.specs.Classes.{capital_or_digit, in_class}
+use Rattle.text.proofs.Truths.{first_test, and_then, and_else}
 use Rattle.text.proofs.Scan.{rest_of}
+use Rattle.text.proofs.Chains.{range_between}
+use Rattle.accounts.specs.Head.{head}
 use Rattle.accounts.specs.Iban.{iban_form}
 use Rattle.accounts.proofs.is_iban.Goals as goal
+use Rattle.accounts.proofs.is_iban.Goals.{then-contains, else-contains}
 
-pub returns-then-s-lt15 : goal.returns-then-s-lt15
-unfolding iban_form
-returns-then-s-lt15 c = sym (fails _ 0 (between_under 15 34 _ c.if-s-lt15.true))
-
-pub returns-then-s-gt34 : goal.returns-then-s-gt34
-unfolding iban_form
-returns-then-s-gt34 c = sym (fails _ 0 (between_over 15 34 _ c.if-s-gt34.true))
-
-pub returns-then-not-is_head : goal.returns-then-not-is_head
-unfolding iban_form
-returns-then-not-is_head c = sym (fails _ 1 (no_of c.is_head.ensures c.if-not-is_head.true))
-
-pub returns : goal.returns
+pub returns-then-is_head : goal.returns-then-is_head
 unfolding iban_form in_class
-returns c =
-    sym
-    (pass _ _ _ (between_of 15 34 _ c.if-s-lt15.false c.if-s-gt34.false) (pass _ _ _ (yes_of c.is_head.ensures c.if-not-is_head.false) (lastly _ _ (c.all_in.ensures ∙ ap (every capital_or_digit) (rest_of 4 c.args.s.now)))))
+returns-then-is_head c =
+    let s = c.args.s.now in
+    let r = c.new.ensures in
+    let t0 = first_test (c.contains.ensures.value ∙ range_between _ _ _ (length s) r.start r.end r.exhausted) in
+    let t1 : c.if-contains.value ≡ all_of (between 15 34 (length s) ∷ head s ∷ []) =
+    elim c.if-contains.branch [
+      | then-contains w ↦ and_then _ t0 w.if-contains.true (w.value-is ∙ w.is_head.ensures)
+      | else-contains w ↦ and_else _ t0 _ w.if-contains.false w.value-is
+    ] in
+    and_then _ t1 c.if-is_head.true (c.all_in.ensures ∙ ap (every capital_or_digit) (rest_of 4 s))
+
+pub returns-else-is_head : goal.returns-else-is_head
+unfolding iban_form in_class
+returns-else-is_head c =
+    let s = c.args.s.now in
+    let r = c.new.ensures in
+    let t0 = first_test (c.contains.ensures.value ∙ range_between _ _ _ (length s) r.start r.end r.exhausted) in
+    let t1 : c.if-contains.value ≡ all_of (between 15 34 (length s) ∷ head s ∷ []) =
+    elim c.if-contains.branch [
+      | then-contains w ↦ and_then _ t0 w.if-contains.true (w.value-is ∙ w.is_head.ensures)
+      | else-contains w ↦ and_else _ t0 _ w.if-contains.false w.value-is
+    ] in
+    and_else _ t1 _ c.if-is_head.false refl

@@ -1,41 +1,59 @@
 -- `accounts::is_identifier` meets its contract.
-use Rattle.text.proofs.Truths.{yes_of, no_of, fails, pass, lastly, between_of, between_under, between_over}
-use mathlib.Core.Path.{sym, ap, ◌∙◌}
-use Rattle.text.specs.Truth.{every, some}
-use Rattle.text.specs.Classes.{in_class, letter_or_digit, reference_set}
+use mathlib.Core.Path.{◌≡◌, refl, ap, ◌∙◌}
+use mathlib.Core.List.{[], ◌∷◌}
+use lib.ListN.{length, drop}
+use Rattle.text.specs.Truth.{all_of, every, some, between, part}
+use Rattle.text.specs.Classes.{letter_or_digit, reference_set, in_class}
+use Rattle.text.proofs.Truths.{first_test, and_then, and_else}
 use Rattle.text.proofs.Scan.{rest_of}
+use Rattle.text.proofs.Chains.{range_between}
+use Rattle.accounts.specs.Head.{head}
 use Rattle.accounts.specs.Identifier.{identifier_form}
 use Rattle.accounts.proofs.is_identifier.Goals as goal
+use Rattle.accounts.proofs.is_identifier.Goals.{then-contains, else-contains, then-is_head, else-is_head, then-all_in, else-all_in}
 
-pub returns-then-s-lt8 : goal.returns-then-s-lt8
-unfolding identifier_form
-returns-then-s-lt8 c = sym (fails _ 0 (between_under 8 35 _ c.if-s-lt8.true))
-
-pub returns-then-s-gt35 : goal.returns-then-s-gt35
-unfolding identifier_form
-returns-then-s-gt35 c = sym (fails _ 0 (between_over 8 35 _ c.if-s-gt35.true))
-
-pub returns-then-not-is_head : goal.returns-then-not-is_head
-unfolding identifier_form
-returns-then-not-is_head c = sym (fails _ 1 (no_of c.is_head.ensures c.if-not-is_head.true))
-
-pub returns-then-not-all_in : goal.returns-then-not-all_in
+pub returns-then-all_in-2 : goal.returns-then-all_in-2
 unfolding identifier_form in_class
-returns-then-not-all_in c = sym (fails _ 2 (no_of c.all_in.ensures c.if-not-all_in.true))
-
-pub returns-then-not-all_in-2 : goal.returns-then-not-all_in-2
-unfolding identifier_form in_class
-returns-then-not-all_in-2 c =
-    sym
-    (fails _ 3 (no_of (c.all_in-2.ensures ∙ ap (every reference_set) (rest_of 7 c.args.s.now)) c.if-not-all_in-2.true))
-
-pub returns : goal.returns
-unfolding identifier_form in_class
-returns c =
+returns-then-all_in-2 c =
     let s = c.args.s.now in
-    let long = between_of 8 35 _ c.if-s-lt8.false c.if-s-gt35.false in
-    let first = yes_of c.is_head.ensures c.if-not-is_head.false in
-    let three = yes_of c.all_in.ensures c.if-not-all_in.false in
-    let set = yes_of (c.all_in-2.ensures ∙ ap (every reference_set) (rest_of 7 s)) c.if-not-all_in-2.false in
-    let rest = c.some_in.ensures ∙ ap (some letter_or_digit) (rest_of 7 s) in
-    sym (pass _ _ _ long (pass _ _ _ first (pass _ _ _ three (pass _ _ _ set (lastly _ _ rest)))))
+    let r = c.new.ensures in
+    let t0 = first_test (c.contains.ensures.value ∙ range_between _ _ _ (length s) r.start r.end r.exhausted) in
+    let t1 : c.if-contains.value ≡ all_of (between 8 35 (length s) ∷ head s ∷ []) =
+    elim c.if-contains.branch [
+      | then-contains w ↦ and_then _ t0 w.if-contains.true (w.value-is ∙ w.is_head.ensures)
+      | else-contains w ↦ and_else _ t0 _ w.if-contains.false w.value-is
+    ] in
+    let t2 : c.if-is_head.value ≡ all_of (between 8 35 (length s) ∷ head s ∷ every letter_or_digit (part 4 3 s) ∷ []) =
+    elim c.if-is_head.branch [
+      | then-is_head w ↦ and_then _ t1 w.if-is_head.true (w.value-is ∙ w.all_in.ensures)
+      | else-is_head w ↦ and_else _ t1 _ w.if-is_head.false w.value-is
+    ] in
+    let t3 : c.if-all_in.value ≡ all_of (between 8 35 (length s) ∷ head s ∷ every letter_or_digit (part 4 3 s) ∷ every reference_set (drop 7 s) ∷ []) =
+    elim c.if-all_in.branch [
+      | then-all_in w ↦ and_then _ t2 w.if-all_in.true (w.value-is ∙ w.all_in-then-all_in.ensures ∙ ap (every reference_set) (rest_of 7 s))
+      | else-all_in w ↦ and_else _ t2 _ w.if-all_in.false w.value-is
+    ] in
+    and_then _ t3 c.if-all_in-2.true (c.some_in.ensures ∙ ap (some letter_or_digit) (rest_of 7 s))
+
+pub returns-else-all_in-2 : goal.returns-else-all_in-2
+unfolding identifier_form in_class
+returns-else-all_in-2 c =
+    let s = c.args.s.now in
+    let r = c.new.ensures in
+    let t0 = first_test (c.contains.ensures.value ∙ range_between _ _ _ (length s) r.start r.end r.exhausted) in
+    let t1 : c.if-contains.value ≡ all_of (between 8 35 (length s) ∷ head s ∷ []) =
+    elim c.if-contains.branch [
+      | then-contains w ↦ and_then _ t0 w.if-contains.true (w.value-is ∙ w.is_head.ensures)
+      | else-contains w ↦ and_else _ t0 _ w.if-contains.false w.value-is
+    ] in
+    let t2 : c.if-is_head.value ≡ all_of (between 8 35 (length s) ∷ head s ∷ every letter_or_digit (part 4 3 s) ∷ []) =
+    elim c.if-is_head.branch [
+      | then-is_head w ↦ and_then _ t1 w.if-is_head.true (w.value-is ∙ w.all_in.ensures)
+      | else-is_head w ↦ and_else _ t1 _ w.if-is_head.false w.value-is
+    ] in
+    let t3 : c.if-all_in.value ≡ all_of (between 8 35 (length s) ∷ head s ∷ every letter_or_digit (part 4 3 s) ∷ every reference_set (drop 7 s) ∷ []) =
+    elim c.if-all_in.branch [
+      | then-all_in w ↦ and_then _ t2 w.if-all_in.true (w.value-is ∙ w.all_in-then-all_in.ensures ∙ ap (every reference_set) (rest_of 7 s))
+      | else-all_in w ↦ and_else _ t2 _ w.if-all_in.false w.value-is
+    ] in
+    and_else _ t3 _ c.if-all_in-2.false refl

@@ -1,5 +1,5 @@
 -- `bulk::bulk_book_check` meets its contract: a checked book stands where its sum is the stored total.
-use Rattle.std.proofs.Common.{ap, ◌∙◌}
+use Rattle.std.proofs.Common.{refl, ap, ◌∙◌}
 use Rattle.book.proofs.Answers.{sum_stands}
 use Rattle.bulk.specs.Told.{told_is, lent_book}
 use Rattle.bulk.proofs.bulk_book_check.Goals as goal
@@ -7,4 +7,5 @@ use Rattle.bulk.proofs.bulk_book_check.Goals as goal
 pub returns : goal.returns
 returns c =
     let a = c.args in
-    c.tell_is.ensures ∙ rw (c.check-a.ensures, c.total_in.ensures, c.number_in.ensures, c.numbers_at-o.ensures) (ap told_is (sum_stands (lent_book a.entries.now a.numbers.now)))
+    let n = c.numbers_in-lent in
+    c.tell_is.ensures ∙ ap told_is (rw n.ensures (sum_stands c.check.result (lent_book a.entries.now a.numbers.now) (c.check.ensures ∙ rw n.ensures refl)))

@@ -1,32 +1,31 @@
 -- `calendar::days_in` meets its contract.
+use mathlib.Core.Path.{ap, sym}
+use borrow.Author.Tests.{ne_eqb}
+use mathlib.Core.Logic.{inl, inr}
+use native.Mathlib.Omega.{arith}
 use Rattle.text.proofs.Truths.{tests, yes_of, no_of}
 use Rattle.calendar.specs.Date.{days_in}
 use Rattle.calendar.proofs.days_in.Goals as goal
 
-pub returns-then-is_leap : goal.returns-then-is_leap
+pub returns-in-2 : goal.returns-in-2
 unfolding days_in
-returns-then-is_leap c = search (tests, yes_of c.is_leap.ensures)
+returns-in-2 c = search (tests, yes_of c.is_leap.ensures)
 
-pub returns-then-m-eq2 : goal.returns-then-m-eq2
+pub returns-in-2-2 : goal.returns-in-2-2
 unfolding days_in
-returns-then-m-eq2 c = search (tests, no_of c.is_leap.ensures)
+returns-in-2-2 c = search (tests, no_of c.is_leap.ensures)
 
-pub returns-then-m-eq4 : goal.returns-then-m-eq4
+pub returns-in-4 : goal.returns-in-4
 unfolding days_in
-returns-then-m-eq4 c = search tests
+returns-in-4 c =
+    let y = c.args.y in
+    elim c.in-4.is [
+      | inl e ↦ sym (ap (days_in y) e)
+      | inr r ↦ elim r [ inl e ↦ sym (ap (days_in y) e) | inr t ↦ elim t [ inl e ↦ sym (ap (days_in y) e) | inr e ↦ sym (ap (days_in y) e) ] ]
+    ]
 
-pub returns-then-m-eq6 : goal.returns-then-m-eq6
+pub returns-in_default : goal.returns-in_default
 unfolding days_in
-returns-then-m-eq6 c = search tests
-
-pub returns-then-m-eq9 : goal.returns-then-m-eq9
-unfolding days_in
-returns-then-m-eq9 c = search tests
-
-pub returns-then-m-eq11 : goal.returns-then-m-eq11
-unfolding days_in
-returns-then-m-eq11 c = search tests
-
-pub returns : goal.returns
-unfolding days_in
-returns c = search tests
+returns-in_default c =
+    let m = c.args.m in
+    simp (ne_eqb m 2 (grind arith), ne_eqb m 4 (grind arith), ne_eqb m 6 (grind arith), ne_eqb m 9 (grind arith), ne_eqb m 11 (grind arith))

@@ -1,20 +1,21 @@
 -- `calendar::is_day` meets its contract.
-use Rattle.text.proofs.Truths.{tests}
+use Rattle.std.proofs.Common.{refl, ◌∙◌}
+use Rattle.text.proofs.Truths.{both_then, both_else}
+use Rattle.text.proofs.Chains.{range_between}
 use Rattle.calendar.specs.Date.{real_day}
 use Rattle.calendar.proofs.is_day.Goals as goal
 
-pub returns-then-m-lt1 : goal.returns-then-m-lt1
+pub returns-then-contains : goal.returns-then-contains
 unfolding real_day
-returns-then-m-lt1 c = search tests
+returns-then-contains c =
+    let a = c.args in
+    let m = c.new.ensures in
+    let d = c.new-then-contains.ensures in
+    both_then (c.contains.ensures.value ∙ range_between _ _ _ a.m m.start m.end m.exhausted) c.if-contains.true
+    (c.contains-then-contains.ensures.value ∙ range_between _ _ _ a.d d.start (d.end ∙ c.days_in.ensures) d.exhausted)
 
-pub returns-then-m-gt12 : goal.returns-then-m-gt12
+pub returns-else-contains : goal.returns-else-contains
 unfolding real_day
-returns-then-m-gt12 c = search tests
-
-pub returns-then-d-lt1 : goal.returns-then-d-lt1
-unfolding real_day
-returns-then-d-lt1 c = search tests
-
-pub returns : goal.returns
-unfolding real_day
-returns c = search (tests, c.days_in.ensures)
+returns-else-contains c =
+    let m = c.new.ensures in
+    both_else (c.contains.ensures.value ∙ range_between _ _ _ c.args.m m.start m.end m.exhausted) _ c.if-contains.false refl

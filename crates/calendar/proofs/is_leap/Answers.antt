@@ -7,10 +7,10 @@ pub returns-then-y-ne0 : goal.returns-then-y-ne0
 unfolding leap
 returns-then-y-ne0 c = search tests
 
-pub returns-then-y-ne0-2 : goal.returns-then-y-ne0-2
+pub returns-else-y-ne0 : goal.returns-else-y-ne0
 unfolding leap
-returns-then-y-ne0-2 c = search tests
+returns-else-y-ne0 c = search tests
 
-pub returns : goal.returns
+pub returns-else-y-eq0 : goal.returns-else-y-eq0
 unfolding leap
-returns c = search tests
+returns-else-y-eq0 c = search tests

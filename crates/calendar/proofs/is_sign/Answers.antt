@@ -1,12 +1,14 @@
 -- `calendar::is_sign` meets its contract.
-use Rattle.text.proofs.Truths.{tests}
+use Rattle.std.proofs.Common.{arith, sym, ap}
+use mathlib.Core.Logic.{inl, inr}
+use borrow.Author.Tests.{ne_eqb}
 use Rattle.text.specs.Quoted.{among}
 use Rattle.calendar.proofs.is_sign.Goals as goal
 
-pub returns-then-c-eq43 : goal.returns-then-c-eq43
+pub returns-in-43 : goal.returns-in-43
 unfolding among
-returns-then-c-eq43 c = search tests
+returns-in-43 c = elim c.in-43.is [ inl e ↦ sym (ap (among "+ -") e) | inr e ↦ sym (ap (among "+ -") e) ]
 
-pub returns : goal.returns
+pub returns-in_default : goal.returns-in_default
 unfolding among
-returns c = search tests
+returns-in_default c = simp (ne_eqb c.args.c 43 (grind arith), ne_eqb c.args.c 45 (grind arith))

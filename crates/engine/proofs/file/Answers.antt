@@ -1,30 +1,29 @@
 -- `engine::file` meets its contract.
+use Rattle.std.proofs.Common.{sym, rules}
+use borrow.Author.Tests.{eqb-true}
+use denote.Enum.Bare.{differs_true, differs_false}
+use Rattle.profile.specs.contracts.Field.{the_type}
 use Rattle.engine.proofs.Placed.{file_other, file_none, file_full, file_last, file_more}
 use Rattle.engine.proofs.file.Goals as goal
+use Rattle.engine.proofs.file.Goals.{then-ne-via-then-ne, then-ne-via-else-ne+then-is_empty, else-many-via-then-many+else-next-places, else-many-via-else-many}
 
-pub returns-then-number_of-ne-TX_ID : goal.returns-then-number_of-ne-TX_ID
-returns-then-number_of-ne-TX_ID c = file_other c.args.f c.args.at c.args.places.now c.number_of.result c.number_of.ensures c.if-number_of-ne-TX_ID.true
-
-pub returns-then-places-eq0 : goal.returns-then-places-eq0
-returns-then-places-eq0 c = file_none c.args.f c.args.at c.args.places.now c.number_of.result c.number_of.ensures c.if-number_of-ne-TX_ID.false c.if-places-eq0.true
-
-pub returns-then-many-ge-MOST : goal.returns-then-many-ge-MOST
-returns-then-many-ge-MOST c =
-    let the-args = c.args in
-    let the-number-of = c.number_of in
-    let the-if1 = c.if-number_of-ne-TX_ID in
-    file_full the-args.f the-args.at the-args.places.now the-number-of.result the-number-of.ensures the-if1.false c.if-many-ge-MOST.true
+pub returns-then-ne : goal.returns-then-ne
+returns-then-ne c =
+    let a = c.args in
+    elim c.then-ne.branch [
+      | then-ne-via-then-ne w ↦ file_other a.f a.at a.places.now (differs_true the_type _ _ (sym w.if-ne.ensures))
+      | then-ne-via-else-ne+then-is_empty w ↦ file_none a.f a.at a.places.now (differs_false the_type (search rules) _ _ (sym w.if-ne.ensures)) (eqb-true _ 0 (sym w.if-is_empty.ensures))
+    ]
 
 pub returns-then-next-places : goal.returns-then-next-places
 returns-then-next-places c =
     let a = c.args in
-    let the-number-of = c.number_of in
-    let the-if1 = c.if-number_of-ne-TX_ID in
-    file_more a.f a.at a.places.now the-number-of.result the-number-of.ensures the-if1.false c.if-many-ge-MOST.false c.if-next-places.true
+    file_more a.f a.at a.places.now (differs_false the_type (search rules) _ _ (sym c.if-ne.ensures)) c.if-many.true c.if-next-places.true
 
-pub returns-else-next-places : goal.returns-else-next-places
-returns-else-next-places c =
+pub returns-else-many : goal.returns-else-many
+returns-else-many c =
     let a = c.args in
-    let the-number-of = c.number_of in
-    let the-if1 = c.if-number_of-ne-TX_ID in
-    file_last a.f a.at a.places.now the-number-of.result the-number-of.ensures the-if1.false c.if-many-ge-MOST.false c.if-next-places.false
+    elim c.else-many.branch [
+      | else-many-via-then-many+else-next-places w ↦ file_last a.f a.at a.places.now (differs_false the_type (search rules) _ _ (sym c.if-ne.ensures)) w.if-many.true w.if-next-places.false
+      | else-many-via-else-many w ↦ file_full a.f a.at a.places.now (differs_false the_type (search rules) _ _ (sym c.if-ne.ensures)) w.if-many.false
+    ]

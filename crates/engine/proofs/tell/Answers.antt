@@ -1,6 +1,5 @@
--- `engine::tell` meets its contract. The loop's invariant: the first i starts stand in the part. The measure is how many fields are left.
+-- `engine::tell` meets its contract. The loop's invariant: the first i starts stand in the part.
 use mathlib.Core.Path.{◌≡◌, refl}
-use Prim.Native.Nat.{◌-◌}
 use native.Mathlib.Omega.{arith}
 use borrow.Author.Rules.{rules}
 use lib.ListN.{length}

@@ -1,17 +1,12 @@
 -- `judge::judge_by` meets its contract.
-use mathlib.Core.Path.{◌∙◌, ap}
-use Rattle.reading.specs.Verdict.{refused}
-use Rattle.judge.specs.Found.{Found, denied, found}
-use Rattle.judge.specs.Index.{or_short}
-use Rattle.judge.proofs.Walks.{found_verdict}
-use Rattle.judge.proofs.Index.{made_of}
+use Rattle.std.proofs.lemmas.Result.{err_from_is_err_and}
+use Rattle.judge.proofs.Walks.{judged_with_index}
 use Rattle.judge.proofs.judge_by.Goals as goal
 
+pub returns-in_err-read_by : goal.returns-in_err-read_by
+returns-in_err-read_by c =
+    let p = err_from_is_err_and c.from_residual.result c.from_residual.ensures.1 in
+    rw (p.1, p.2) (judged_with_index c.args.index.now c.args.m.now _ c.in_err-read_by.ensures.0, c.read_by.ensures.1)
+
 pub returns : goal.returns
-returns c =
-    let a = c.args in (
-      ap (λ (f : Found). f.verdict) c.find_by-f.ensures.0
-          ∙ (made_of (λ (f : Found). f.verdict) a.index.now (denied 25 0) (found a.m.now)
-          ∙ ap (or_short a.index.now (refused 25 0)) (found_verdict a.m.now)),
-      c.find_by-f.ensures.1,
-    )
+returns c = (judged_with_index c.args.index.now c.args.m.now _ c.in_ok-read_by.ensures.0, c.read_by.ensures.1)

@@ -1,10 +1,12 @@
 -- `judge::judge_plainly` meets its contract.
-use mathlib.Core.Path.{◌∙◌, ap}
-use Rattle.judge.specs.Survey.{Surveyed}
-use Rattle.judge.specs.Found.{Found}
-use Rattle.judge.proofs.Judges.{survey_found}
-use Rattle.judge.proofs.Walks.{found_verdict}
+use Rattle.std.proofs.lemmas.Result.{err_from_is_err_and}
+use Rattle.judge.proofs.Walks.{verdict_surveyed}
 use Rattle.judge.proofs.judge_plainly.Goals as goal
 
+pub returns-in_err-read_plainly : goal.returns-in_err-read_plainly
+returns-in_err-read_plainly c =
+    let p = err_from_is_err_and c.from_residual.result c.from_residual.ensures.1 in
+    rw (p.1, p.2) (verdict_surveyed c.args.m.now _ c.in_err-read_plainly.ensures)
+
 pub returns : goal.returns
-returns c = ap (λ (s : Surveyed). s.found.verdict) c.read_plainly-s.ensures ∙ (ap (λ (f : Found). f.verdict) (survey_found c.args.m.now) ∙ found_verdict c.args.m.now)
+returns c = verdict_surveyed c.args.m.now _ c.in_ok-read_plainly.ensures

@@ -36,13 +36,12 @@ returns-in-Cut c =
     let a = c.args in
     let the-has-question = c.has_question in
     let the-declaration-at = c.declaration_at in
-    declaration_cut a.m.now (yes_of the-has-question.ensures c.if-not-has_question.false) the-declaration-at.result the-declaration-at.ensures
-    c.in-Cut.is
+    rw c.at.ensures (declaration_cut a.m.now (yes_of the-has-question.ensures c.if-not-has_question.false) the-declaration-at.result the-declaration-at.ensures c.in-Cut.is)
 
 pub returns-in-Other : goal.returns-in-Other
 returns-in-Other c =
     let a = c.args in
     let the-has-question = c.has_question in
     let the-declaration-at = c.declaration_at in
-    declaration_other a.m.now (yes_of the-has-question.ensures c.if-not-has_question.false) the-declaration-at.result the-declaration-at.ensures
-    c.in-Other.is
+    rw c.at-in-Other.ensures
+    (declaration_other a.m.now (yes_of the-has-question.ensures c.if-not-has_question.false) the-declaration-at.result the-declaration-at.ensures c.in-Other.is)

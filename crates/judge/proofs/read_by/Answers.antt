@@ -1,13 +1,13 @@
 -- `judge::read_by` meets its contract.
-use mathlib.Core.Path.{◌∙◌, ap}
-use Rattle.judge.specs.Survey.{surveyed_as, without}
+use mathlib.Core.Path.{◌∙◌}
+use Rattle.judge.specs.Survey.{surveyed_as}
 use Rattle.judge.proofs.Ids.{found_second}
 use Rattle.judge.proofs.Index.{too_short_lem, has_room, as_lent_lem}
 use Rattle.judge.proofs.read_by.Goals as goal
 
 pub returns-then-index-lt-LEAST_INDEX : goal.returns-then-index-lt-LEAST_INDEX
 returns-then-index-lt-LEAST_INDEX c = (
-  c.bare.ensures ∙ (ap without c.deny.ensures ∙ too_short_lem c.args.index.now _ _ c.if-index-lt-LEAST_INDEX.true),
+  rw c.at.ensures (too_short_lem c.args.index.now _ _ c.if-index-lt-LEAST_INDEX.true),
   as_lent_lem c.args.index.now c.if-index-lt-LEAST_INDEX.true,
 )
 

@@ -1,32 +1,22 @@
 -- `judge::read_through` meets its contract.
-use mathlib.Core.Path.{ap, sym}
-use Rattle.notes.specs.Steps.{stepped}
-use Rattle.judge.specs.Verdict.{opened_as}
+use mathlib.Core.Path.{refl}
+use Rattle.std.proofs.lemmas.Result.{err_from_is_err_and}
 use Rattle.judge.proofs.Begins.{through_from, through_faulty, filed_from, filed_faulty}
 use Rattle.judge.proofs.read_through.Goals as goal
 
-pub returns-in-From : goal.returns-in-From
-returns-in-From c =
-    let a = c.args in
-    let the-pre = c.requires in
-    let the-open-message = c.open_message in (
-      through_from a.m.now (the-pre) (opened_as the-open-message.result) the-open-message.ensures.0 the-open-message.ensures.1 _ _
-          (ap opened_as (sym c.in-From.is)) (stepped c.message.result) c.message.ensures.0,
+pub returns : goal.returns
+returns c =
+    let m = c.args.m.now in
+    let e = c.in_ok-o.ensures in (
+      through_from m c.requires _ e.0 e.1 _ _ refl _ c.message.ensures.0,
       c.message.ensures.1,
-      filed_from a.m.now (the-pre) (opened_as the-open-message.result) the-open-message.ensures.0 the-open-message.ensures.1 _ _
-          (ap opened_as (sym c.in-From.is)) a.places.now _ c.message.ensures.2,
+      filed_from m c.requires _ e.0 e.1 _ _ refl c.args.places.now _ c.message.ensures.2,
     )
 
-pub returns-in-Faulty : goal.returns-in-Faulty
-returns-in-Faulty c =
-    let a = c.args in
-    let the-pre = c.requires in
-    let the-open-message = c.open_message in
-    let y =
-    through_faulty a.m.now (the-pre) (opened_as the-open-message.result) the-open-message.ensures.0 the-open-message.ensures.1 _ _
-    (ap opened_as (sym c.in-Faulty.is)) (stepped c.refuse.result) c.refuse.ensures in (
-      y.0,
-      y.1,
-      filed_faulty a.m.now (the-pre) (opened_as the-open-message.result) the-open-message.ensures.0 the-open-message.ensures.1 _ _
-          (ap opened_as (sym c.in-Faulty.is)) a.places.now,
-    )
+pub returns-in_err-o : goal.returns-in_err-o
+returns-in_err-o c =
+    let m = c.args.m.now in
+    let e = c.in_err-o.ensures in
+    let p = err_from_is_err_and c.from_residual.result c.from_residual.ensures.1 in
+    let y = through_faulty m c.requires _ e.0 e.1 _ _ refl _ refl in
+    rw (p.1, p.2) (y.0, y.1, filed_faulty m c.requires _ e.0 e.1 _ _ refl c.args.places.now)

@@ -13,7 +13,7 @@ pub returns-in-Cut : goal.returns-in-Cut
 returns-in-Cut c =
     let a = c.args in
     let r = c.root_at in
-    root_cut a.m.now a.v a.at c.requires.0 r.result r.ensures (opened_as a.other) c.in-Cut.is
+    rw c.at.ensures (root_cut a.m.now a.v a.at c.requires.0 r.result r.ensures (opened_as a.other) c.in-Cut.is)
 
 pub returns-in-Other : goal.returns-in-Other
 returns-in-Other c =

@@ -4,12 +4,12 @@ use Rattle.judge.specs.Verdict.{opened_as, version_in}
 use Rattle.judge.proofs.Begins.{version_is}
 use Rattle.judge.proofs.version_of.Goals as goal
 
-pub returns-in-From : goal.returns-in-From
-returns-in-From c =
+pub returns-in-Ok : goal.returns-in-Ok
+returns-in-Ok c =
     let o = c.open_message in
-    version_is c.args.m.now (opened_as o.result) o.ensures.0 _ (ap (λ x. version_in (opened_as x)) (sym c.in-From.is))
+    version_is c.args.m.now (opened_as o.result) o.ensures.0 _ (ap (λ x. version_in (opened_as x)) (sym c.in-Ok.is))
 
-pub returns-in-Faulty : goal.returns-in-Faulty
-returns-in-Faulty c =
+pub returns-in-Err : goal.returns-in-Err
+returns-in-Err c =
     let o = c.open_message in
-    version_is c.args.m.now (opened_as o.result) o.ensures.0 _ (ap (λ x. version_in (opened_as x)) (sym c.in-Faulty.is))
+    version_is c.args.m.now (opened_as o.result) o.ensures.0 _ (ap (λ x. version_in (opened_as x)) (sym c.in-Err.is))

@@ -2,14 +2,8 @@
 use Rattle.keys.proofs.Entered.{unfit_call, fit_call}
 use Rattle.keys.proofs.entering.Goals as goal
 
-pub returns-in-Refused : goal.returns-in-Refused
-returns-in-Refused c =
-    let a = c.args in
-    let k = c.key-k in
-    (unfit_call a.index.now a.message.now k.result k.ensures.0 _ _ c.blank.result c.in-Refused.is, k.ensures.1)
+pub returns-in-Ok : goal.returns-in-Ok
+returns-in-Ok c = (fit_call c.args.index.now c.args.message.now _ c.in-Ok.ensures.0, c.key.ensures.1)
 
-pub returns-in-Accepted : goal.returns-in-Accepted
-returns-in-Accepted c =
-    let a = c.args in
-    let k = c.key-k in
-    (fit_call a.index.now a.message.now k.result k.ensures.0 _ _ c.in-Accepted.is, k.ensures.1)
+pub returns-in-Err : goal.returns-in-Err
+returns-in-Err c = (unfit_call c.args.index.now c.args.message.now _ c.in-Err.ensures.0, c.key.ensures.1)

@@ -1,13 +1,9 @@
--- `keys::key_from` meets its contract: refused, and accepted.
-use Rattle.keys.proofs.Whole.{no_key, the_key}
+-- `keys::key_from` meets its contract.
+use Rattle.std.proofs.lemmas.Result.{err_from_is_err_and}
+use Rattle.keys.proofs.Whole.{keyed_unread}
 use Rattle.keys.proofs.key_from.Goals as goal
 
-pub returns-in-Refused : goal.returns-in-Refused
-returns-in-Refused c =
-    let a = c.args in
-    no_key a.m.now a.s _ _ c.in-Refused.is
-
-pub returns-in-Accepted : goal.returns-in-Accepted
-returns-in-Accepted c =
-    let a = c.args in
-    the_key a.m.now a.s _ _ c.in-Accepted.is _ c.make_key-key.ensures
+pub returns-in_err-s : goal.returns-in_err-s
+returns-in_err-s c =
+    let p = err_from_is_err_and c.from_residual.result c.from_residual.ensures.1 in
+    rw (p.1, p.2, c.in_err-s.was) (keyed_unread c.args.m.now _)

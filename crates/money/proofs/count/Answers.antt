@@ -1,24 +1,26 @@
 -- `money::count` meets its contract.
-use native.Mathlib.Omega.{arith}
-use Rattle.text.specs.Classes.{in_class}
-use Rattle.text.proofs.Truths.{yes_of, no_of}
-use Rattle.money.proofs.Counts.{too_few, too_many_lem, no_digits, counted}
+use Rattle.std.proofs.Common.{ap, []}
+use Rattle.std.proofs.lemmas.Result.{err_from_is_err_and}
+use Rattle.text.specs.Quoted.{decimal}
+use Rattle.answers.specs.Given.{worth}
+use Rattle.answers.proofs.Rules.{rule_held, rule_failed, past_first}
+use Rattle.money.specs.Count.{count_given}
+use Rattle.money.proofs.Counts.{counted}
 use Rattle.money.proofs.count.Goals as goal
 
-pub returns-then-s-lt1 : goal.returns-then-s-lt1
-returns-then-s-lt1 c = too_few _ c.if-s-lt1.true
+pub returns-in_err-require : goal.returns-in_err-require
+unfolding count_given
+returns-in_err-require c =
+    let p = err_from_is_err_and c.from_residual.result c.from_residual.ensures.1 in
+    rw (p.1, p.2) (rule_failed _ _ c.require.ensures c.is_count.ensures c.in_err-require.was [] (worth (decimal c.args.s.now)))
 
-pub returns-then-s-gt15 : goal.returns-then-s-gt15
-returns-then-s-gt15 c = too_many_lem _ c.if-s-gt15.true
+pub number-requires-clause-s_len_bound : goal.number-requires-clause-s_len_bound
+number-requires-clause-s_len_bound c = (counted _ (rule_held _ _ c.require.ensures c.is_count.ensures c.in_ok-require.was)).short
 
-pub returns-then-not-all_in : goal.returns-then-not-all_in
-unfolding in_class
-returns-then-not-all_in c = no_digits _ (no_of c.all_in.ensures c.if-not-all_in.true)
-
-pub number-requires : goal.number-requires
-unfolding in_class
-number-requires c = record { s_len_bound = omega arith; s_value = yes_of c.all_in.ensures c.if-not-all_in.false }
+pub number-requires-clause-s_value : goal.number-requires-clause-s_value
+number-requires-clause-s_value c = (counted _ (rule_held _ _ c.require.ensures c.is_count.ensures c.in_ok-require.was)).digits
 
 pub returns : goal.returns
-unfolding in_class
-returns c = counted _ (omega arith) (omega arith) (yes_of c.all_in.ensures c.if-not-all_in.false) _ c.number.ensures
+unfolding count_given
+returns c =
+    past_first _ 7 [] _ (rule_held _ _ c.require.ensures c.is_count.ensures c.in_ok-require.was) (ap worth c.number.ensures)

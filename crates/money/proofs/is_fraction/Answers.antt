@@ -1,21 +1,27 @@
 -- `money::is_fraction` meets its contract.
 use native.Mathlib.Omega.{arith}
+use mathlib.Core.Path.{◌∙◌}
+use Prim.Native.Nat.{◌-◌}
+use lib.ListN.{length, take, drop}
 use Rattle.text.specs.Classes.{in_class}
-use Rattle.money.proofs.Fractions.{nothing, no_point, too_short_lem, too_long_lem, point_and_digits}
+use Rattle.text.proofs.Chains.{range_between}
+use Rattle.money.proofs.Fractions.{no_point, point_then, point_else}
 use Rattle.money.proofs.is_fraction.Goals as goal
 
-pub returns-then-s-eq0 : goal.returns-then-s-eq0
-returns-then-s-eq0 c = nothing c.args.s.now c.if-s-eq0.true
-
-pub returns-then-s-ne46 : goal.returns-then-s-ne46
-returns-then-s-ne46 c = no_point c.args.s.now c.if-s-eq0.false c.if-s-ne46.true
-
-pub returns-then-s-lt2 : goal.returns-then-s-lt2
-returns-then-s-lt2 c = too_short_lem c.args.s.now c.if-s-eq0.false c.if-s-lt2.true
-
-pub returns-then-s-gt3 : goal.returns-then-s-gt3
-returns-then-s-gt3 c = too_long_lem c.args.s.now c.if-s-eq0.false c.if-s-gt3.true
-
-pub returns : goal.returns
+pub returns-then-contains : goal.returns-then-contains
 unfolding in_class
-returns c = point_and_digits c.args.s.now c.if-s-eq0.false c.if-s-ne46.false (omega arith) (omega arith) _ c.all_in.ensures
+returns-then-contains c =
+    let s = c.args.s.now in
+    let r = c.new.ensures in
+    let v = c.contains.ensures.value ∙ range_between _ _ _ (length (take (length s - 1) (drop 1 s))) r.start r.end r.exhausted in
+    point_then s (omega arith) (omega arith) v c.if-contains.true _ c.all_in.ensures
+
+pub returns-else-contains : goal.returns-else-contains
+returns-else-contains c =
+    let s = c.args.s.now in
+    let r = c.new.ensures in
+    let v = c.contains.ensures.value ∙ range_between _ _ _ (length (take (length s - 1) (drop 1 s))) r.start r.end r.exhausted in
+    point_else s (omega arith) (omega arith) v c.if-contains.false
+
+pub returns-in_default : goal.returns-in_default
+returns-in_default c = no_point c.args.s.now (omega arith) (omega arith)

@@ -1,26 +1,18 @@
--- `money::needless` meets its contract. The loop's invariant: the first i zeros are needless. The measure is what is left of the number.
-use native.Mathlib.Omega.{arith}
-use mathlib.Core.Path.{refl, ◌∙◌}
-use Prim.Native.Nat.{◌-◌}
-use Rattle.money.proofs.Plain.{zeros_turn, zeros_stop, zeros_end}
+-- `money::needless` meets its contract: as many zeros as lead, but not the last digit.
+use Rattle.std.proofs.Common.{rules, tests, ◌∙◌, arith}
+use Rattle.std.proofs.lemmas.Iterator.{YieldsList-from_slice}
+use Rattle.std.proofs.lemmas.Iterator.Consumers.{count_from_yields_List}
+use Rattle.std.proofs.lemmas.Iterator.Search.{YieldsList-from_take_while}
+use Rattle.std.proofs.lemmas.List.Folds.{length-prefix_len}
+use Rattle.text.proofs.Chains.{lead_prefix}
+use Rattle.money.proofs.Plain.{zero_byte, zeros_lead}
 use Rattle.money.proofs.needless.Goals as goal
-
-pub loop-i-init : goal.loop-i-init
-loop-i-init c = (omega arith, refl)
-
-pub returns-then-s-i-ne48 : goal.returns-then-s-i-ne48
-returns-then-s-i-ne48 c =
-    let s = c.args.s.now in
-    let l = c.loop-i in
-    (l.invariant.1 ∙ zeros_stop s l.i c.loop-i-test.true c.if-s-i-ne48.true, l.invariant.0)
-
-pub loop-i-preserved : goal.loop-i-preserved
-loop-i-preserved c =
-    let s = c.args.s.now in
-    let l = c.loop-i in
-    (omega arith, l.invariant.1 ∙ zeros_turn s l.i c.loop-i-test.true c.if-s-i-ne48.false)
 
 pub returns : goal.returns
 returns c =
-    let l = c.loop-i in
-    (l.invariant.1 ∙ zeros_end c.args.s.now l.i c.loop-i-test.false, l.invariant.0)
+    let s = c.args.s.now in
+    let t = c.take_while in
+    let n = count_from_yields_List t.result _ c.count-zeros.ensures.ran
+    (YieldsList-from_take_while _ zero_byte (YieldsList-from_slice s cc) t.ensures.closure t.ensures.done (λ x b q k. search (rules, tests)))
+    ∙ length-prefix_len zero_byte s ∙ lead_prefix zero_byte s in
+    (rw (c.min.ensures, c.saturating_sub.ensures, n) (zeros_lead s), omega arith)

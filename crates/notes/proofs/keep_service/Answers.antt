@@ -1,18 +1,15 @@
 -- `notes::keep_service` meets its contract.
-use mathlib.Core.Path.{◌∙◌, ap}
+use mathlib.Core.Path.{◌∙◌, ap, sym}
 use Rattle.reading.specs.Noted.{on}
-use Rattle.notes.proofs.Notings.{first_service, same_service, other_service}
+use Rattle.notes.proofs.Notings.{same_service, other_service}
 use Rattle.notes.proofs.keep_service.Goals as goal
 
-pub returns-then-first-eq0 : goal.returns-then-first-eq0
-returns-then-first-eq0 c =
+pub returns-then-unwrap_or-i : goal.returns-then-unwrap_or-i
+returns-then-unwrap_or-i c =
     let a = c.args in
-    c.read_on.ensures ∙ ap on c.with_service.ensures ∙ first_service a.i a.st.at a.st.notes c.if-first-eq0.true
+    ap on c.with_service.ensures ∙ same_service a.i a.st.at a.st.notes (sym c.unwrap_or.ensures ∙ c.if-unwrap_or-i.true)
 
-pub returns-then-first-mine : goal.returns-then-first-mine
-returns-then-first-mine c =
+pub returns-else-unwrap_or-i : goal.returns-else-unwrap_or-i
+returns-else-unwrap_or-i c =
     let a = c.args in
-    c.read_on-then-first-mine.ensures ∙ ap on c.with_service-then-first-mine.ensures ∙ same_service a.i a.st.at a.st.notes c.if-first-mine.true
-
-pub returns : goal.returns
-returns c = c.refuse_here.ensures ∙ other_service c.args.i c.args.st.at c.args.st.notes c.if-first-eq0.false c.if-first-mine.false
+    rw c.at.ensures (other_service a.i a.st.at a.st.notes (λ e. c.if-unwrap_or-i.false (c.unwrap_or.ensures ∙ e)))

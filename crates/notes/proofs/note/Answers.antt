@@ -1,41 +1,36 @@
 -- `notes::note` meets its contract.
-use mathlib.Core.Path.{◌∙◌, ap, sym}
-use Rattle.answers.specs.Given.{value_of}
+use mathlib.Core.Path.{◌∙◌, ap}
+use Rattle.std.proofs.Common.{rules}
+use Rattle.std.proofs.lemmas.Result.{err_from_is_err_and, MatchResult-weaker}
 use Rattle.reading.specs.Noted.{on}
-use Rattle.notes.specs.Steps.{met_in}
-use Rattle.notes.proofs.Notings.{listed_worth, refused_kind, kept_on, kept_stop}
+use Rattle.notes.proofs.Notings.{refused_kind, kept_on, kept_stop}
 use Rattle.notes.proofs.note.Goals as goal
 
-pub returns-then-number-ne0 : goal.returns-then-number-ne0
-returns-then-number-ne0 c =
+pub returns-in_err-map_err : goal.returns-in_err-map_err
+returns-in_err-map_err c =
     let a = c.args in
-    let j = c.judge_value-a in
-    let i = c.number-number in
-    c.refuse_here.ensures ∙ refused_kind a.k a.f a.v.now a.st.at a.st.notes j.result j.ensures i.result i.ensures c.if-number-ne0.true
+    let j = c.judge_value in
+    let m = c.map_err in
+    let p = err_from_is_err_and c.from_residual.result c.from_residual.ensures.1 in
+    rw (p.1, p.2)
+    (refused_kind a.k a.f a.v.now a.st.at a.st.notes j.result j.ensures m.result (MatchResult-weaker j.result m.ensures.cases (λ x h. h) (λ w h. search rules))
+    _ c.in_err-map_err.was)
 
-pub keep-r-requires : goal.keep-r-requires
-keep-r-requires c =
+pub returns-in_err-kept : goal.returns-in_err-kept
+returns-in_err-kept c =
     let a = c.args in
-    listed_worth a.k a.v.now c.value.result (c.value.ensures ∙ ap value_of c.judge_value-a.ensures)
+    let j = c.judge_value in
+    let m = c.map_err in
+    let p = err_from_is_err_and c.from_residual-in_err-kept.result c.from_residual-in_err-kept.ensures.1 in
+    rw (p.1, p.2)
+    (kept_stop a.k a.f a.v.now a.st.at a.st.notes j.result j.ensures m.result (MatchResult-weaker j.result m.ensures.cases (λ x h. h) (λ w h. search rules))
+    _ c.in_ok-map_err.was _ c.unwrap_or-worth.ensures _ _ c.in_err-kept.ensures)
 
-pub returns-in-On : goal.returns-in-On
-returns-in-On c =
+pub returns : goal.returns
+returns c =
     let a = c.args in
-    let j = c.judge_value-a in
-    let i = c.number-number in
-    let w = c.value in
-    let k = c.keep-r in
-    c.read_on.ensures ∙ ap on c.with_start.ensures
-    ∙ kept_on a.k a.f a.v.now a.st.at a.st.notes j.result j.ensures i.result i.ensures c.if-number-ne0.false w.result w.ensures k.result.state
-    (ap (λ x. met_in x k.result.state) (sym c.in-On.is) ∙ k.ensures)
-
-pub returns-in-Stopped : goal.returns-in-Stopped
-returns-in-Stopped c =
-    let a = c.args in
-    let j = c.judge_value-a in
-    let i = c.number-number in
-    let w = c.value in
-    let k = c.keep-r in
-    c.refuse.ensures
-    ∙ kept_stop a.k a.f a.v.now a.st.at a.st.notes j.result j.ensures i.result i.ensures c.if-number-ne0.false w.result w.ensures _ _
-    (ap (λ x. met_in x k.result.state) (sym c.in-Stopped.is) ∙ k.ensures)
+    let j = c.judge_value in
+    let m = c.map_err in
+    ap on c.with_start.ensures
+    ∙ kept_on a.k a.f a.v.now a.st.at a.st.notes j.result j.ensures m.result (MatchResult-weaker j.result m.ensures.cases (λ x h. h) (λ w h. search rules))
+    _ c.in_ok-map_err.was _ c.unwrap_or-worth.ensures c.in_ok-kept.kept c.in_ok-kept.ensures

@@ -1,9 +1,14 @@
 -- `plain::is_quoted` meets its contract.
-use Rattle.plain.proofs.Scans.{no_quote, quote_is}
+use mathlib.Core.Path.{◌∙◌}
+use mathlib.Core.List.{[], ◌∷◌}
+use Prim.Native.Nat.{◌-◌}
+use lib.ListN.{length, drop}
+use Rattle.text.proofs.Chains.{alike_pointwise}
+use Rattle.plain.specs.Engine.{quoted}
 use Rattle.plain.proofs.is_quoted.Goals as goal
 
-pub returns-then-n-lt2 : goal.returns-then-n-lt2
-returns-then-n-lt2 c = no_quote c.args.tag.now c.if-n-lt2.true
-
 pub returns : goal.returns
-returns c = quote_is c.args.tag.now c.same.result c.same.ensures
+unfolding quoted
+returns c =
+    let t = c.args.tag.now in
+    c.ends_with.ensures.value ∙ alike_pointwise (34 ∷ 62 ∷ []) (drop (length t - 2) t)

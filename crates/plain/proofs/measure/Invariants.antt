@@ -1,11 +1,12 @@
--- `plain::measure` meets its contract. The loop's invariant: what is counted and what is left come to the whole. The measure is what is left of the text.
-use Prim.Native.Nat.{◌-◌}
+-- What is counted and what is left come to the whole.
+use mathlib.Core.Path.{◌≡◌}
+use Prim.Native.Nat.{◌+◌}
 use lib.ListN.{length}
-use Rattle.plain.proofs.Pieces.{Counted}
+use Rattle.plain.specs.Engine.{pieces}
 use Rattle.plain.proofs.measure.Given as goal
 
-abbrev pub invariant-loop-at : goal.invariant-loop-at
-invariant-loop-at l = Counted l.s l.at l.n
+abbrev pub invariant-loop-rest : goal.invariant-loop-rest
+invariant-loop-rest l = l.n + length (pieces l.rest) ≡ length (pieces l.s)
 
-abbrev pub decreases-loop-at : goal.decreases-loop-at
-decreases-loop-at l = length l.s - l.at
+abbrev pub decreases-loop-rest : goal.decreases-loop-rest
+decreases-loop-rest l = length l.rest

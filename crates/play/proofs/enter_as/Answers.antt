@@ -1,21 +1,18 @@
 -- `play::enter_as` meets its contract.
-use Rattle.text.proofs.Truths.{yes_of, no_of}
-use Rattle.play.proofs.Enters.{other_key, unfit_went, same_key}
+use Rattle.std.proofs.Common.{sym, ◌∙◌}
+use borrow.Author.Tests.{not-true, not-false}
+use Rattle.text.proofs.Chains.{alike_pointwise}
+use Rattle.play.proofs.Enters.{other_key, same_key}
 use Rattle.play.proofs.enter_as.Goals as goal
 
-pub returns-then-not-same : goal.returns-then-not-same
-returns-then-not-same c =
-    λ m e f. let a = c.args in other_key a.run c.refuse-then-not-same.result a.l
-    a.w.keyed m e _ _ c.in-Accepted.is (no_of c.same.ensures c.if-not-same.true)
-    c.refuse-then-not-same.ensures
+pub returns-then-ne-clause-step : goal.returns-then-ne-clause-step
+returns-then-ne-clause-step c =
+    let a = c.args in
+    λ m e f. rw c.at.ensures (other_key a.line a.run a.entries.now a.numbers.now m a.weighed.keyed e (sym (alike_pointwise a.weighed.keyed.key a.line.key) ∙ not-true _ (sym
+    c.ne.ensures ∙ c.if-ne.true)))
 
-pub returns-in-Refused : goal.returns-in-Refused
-returns-in-Refused c =
-    λ m e f. let a = c.args in unfit_went a.run c.refuse.result a.l a.w.keyed m e _ _
-    c.in-Refused.is c.refuse.ensures
-
-pub returns-else-not-same : goal.returns-else-not-same
-returns-else-not-same c =
-    λ m e f. let a = c.args in same_key a.run c.put_in.result a.l
-    a.w.keyed m e _ _ c.in-Accepted.is (yes_of c.same.ensures c.if-not-same.false)
-    a.w.lot f a.next c.requires.2 c.put_in.ensures
+pub returns-clause-step : goal.returns-clause-step
+returns-clause-step c =
+    let a = c.args in
+    λ m e f. same_key a.line a.run a.entries.now a.numbers.now m a.weighed.keyed e (sym (alike_pointwise a.weighed.keyed.key a.line.key) ∙ not-false _ (sym c.ne.ensures ∙
+    c.if-ne.false)) a.weighed.lot f _ c.put_in.ensures.step

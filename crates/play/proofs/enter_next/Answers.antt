@@ -1,59 +1,44 @@
 -- `play::enter_next` meets its contract.
-use mathlib.Core.Path.{refl, ◌∙◌}
-use native.Mathlib.Omega.{arith}
-use Rattle.text.proofs.Truths.{yes_not, no_not}
-use Rattle.play.proofs.Messages.{lies_in}
-use Rattle.play.proofs.Steps.{cleared_same, keyed_same, lot_same, lot_light, none_lies, next_lies}
+use Rattle.std.proofs.Common.{◌≡◌, rules, arith, ◌∙◌}
+use Rattle.answers.specs.Refusals.{refusal_number}
+use Rattle.recording.specs.Record.{line_as}
+use Rattle.std.proofs.Common.{Some}
+use Rattle.play.specs.Play.{refuses}
+use Rattle.play.specs.Code.{run_as, stepped}
+use Rattle.play.proofs.Messages.{in_ends}
+use Rattle.play.proofs.Enters.{unfit}
+use Rattle.play.proofs.Steps.{cleared_same, keyed_same, lot_same, lot_light, next_lies, taken_in}
 use Rattle.play.proofs.enter_next.Goals as goal
 
-pub returns-then-not-s : goal.returns-then-not-s
-returns-then-not-s c =
+pub returns-in_err-weighed-clause-step : goal.returns-in_err-weighed-clause-step
+returns-in_err-weighed-clause-step c =
     let a = c.args in
-    let s = c.find_message-s in
-    (none_lies a.buffer.now a.ends.now a.run c.refuse.result a.l (no_not s.ensures.0 c.if-not-s.true) c.refuse.ensures, refl)
+    let r = c.in_err-weighed.field-0.0 in
+    let m = c.in-Some.message.now in
+    let z : stepped a.entries.now a.numbers.now c.from_residual.result ≡ refuses (refusal_number r.why) = search rules in
+    let is = keyed_same a.index.now c.requires.fresh m _ c.in_err-weighed.ensures.0 in
+    z ∙ next_lies a.buffer.now a.ends.now (line_as (Some a.line)) (run_as a.entries.now a.numbers.now a.run) m c.in-Some.ensures _ (unfit a.line a.run a.entries.now a.numbers.now m r is)
 
-pub slice_bounds-weigh-count : goal.slice_bounds-weigh-count
-slice_bounds-weigh-count c =
-    let a = c.args in
-    let s = c.find_message-s in
-    let h = lies_in a.ends.now a.run.taken a.buffer.now (yes_not s.ensures.0 c.if-not-s.false) in
-    omega (arith, h.0, s.ensures.1, s.ensures.2)
+pub returns-in_err-weighed-clause-index : goal.returns-in_err-weighed-clause-index
+returns-in_err-weighed-clause-index c = c.weigh.ensures.2 ∙ cleared_same c.args.index.now c.requires.fresh
 
-pub slice_bounds-weigh-start : goal.slice_bounds-weigh-start
-slice_bounds-weigh-start c =
-    let a = c.args in
-    let s = c.find_message-s in
-    let h = lies_in a.ends.now a.run.taken a.buffer.now (yes_not s.ensures.0 c.if-not-s.false) in
-    omega (arith, h.0, s.ensures.1, s.ensures.2)
+pub enter_as-requires-clause-light : goal.enter_as-requires-clause-light
+enter_as-requires-clause-light c =
+    lot_light c.in-Some.message.now _ (lot_same c.args.index.now c.requires.fresh c.in-Some.message.now _ c.in_ok-weighed.ensures.1)
 
-pub slice_bounds-weigh-end : goal.slice_bounds-weigh-end
-slice_bounds-weigh-end c =
+pub enter_as-requires-clause-fits : goal.enter_as-requires-clause-fits
+enter_as-requires-clause-fits c =
     let a = c.args in
-    let s = c.find_message-s in
-    let h = lies_in a.ends.now a.run.taken a.buffer.now (yes_not s.ensures.0 c.if-not-s.false) in
-    omega (arith, h.1, s.ensures.2)
+    let h = in_ends a.ends.now a.run.taken a.buffer.now (taken_in a.buffer.now a.ends.now (line_as (Some a.line)) (run_as a.entries.now a.numbers.now a.run) c.in-Some.message.now c.in-Some.ensures) in
+    omega (arith, h)
 
-pub enter_as-requires : goal.enter_as-requires
-enter_as-requires c =
+pub returns-clause-step : goal.returns-clause-step
+returns-clause-step c =
     let a = c.args in
-    let s = c.find_message-s in
-    let h = lies_in a.ends.now a.run.taken a.buffer.now (yes_not s.ensures.0 c.if-not-s.false) in
-    let q = c.requires in
-    let w = c.weigh-w in (
-      q.0,
-      lot_light _ _ (lot_same a.index.now q.1 _ _ w.ensures.1),
-      s.ensures.3 (s.ensures.0 ∙ yes_not s.ensures.0
-          c.if-not-s.false),
-    )
+    let m = c.in-Some.message.now in
+    let e = keyed_same a.index.now c.requires.fresh m _ c.in_ok-weighed.ensures.0 in
+    let f = lot_same a.index.now c.requires.fresh m _ c.in_ok-weighed.ensures.1 in
+    next_lies a.buffer.now a.ends.now (line_as (Some a.line)) (run_as a.entries.now a.numbers.now a.run) m c.in-Some.ensures _ (c.enter_as.ensures.step m e f)
 
-pub returns : goal.returns
-returns c =
-    let a = c.args in
-    let q = c.requires in
-    let s = c.find_message-s in
-    let w = c.weigh-w in (
-      next_lies a.buffer.now a.ends.now a.run c.enter_as.result a.l (yes_not s.ensures.0 c.if-not-s.false)
-          s.result.from s.result.to s.ensures.1 s.ensures.2 (c.enter_as.ensures _ (keyed_same a.index.now q.1 _ _ w.ensures.0) (lot_same a.index.now q.1 _ _
-          w.ensures.1)),
-      w.ensures.2 ∙ cleared_same a.index.now q.1,
-    )
+pub returns-clause-index : goal.returns-clause-index
+returns-clause-index c = c.weigh.ensures.2 ∙ cleared_same c.args.index.now c.requires.fresh

@@ -1,14 +1,8 @@
 -- `play::line_at` meets its contract.
-use mathlib.Core.Path.{ap, ◌∙◌}
+use Rattle.std.proofs.Common.{ap, ◌∙◌}
 use Rattle.recording.specs.Record.{line_of}
-use Rattle.play.proofs.Records.{last_record, whole_record}
+use Rattle.play.proofs.Records.{record_is}
 use Rattle.play.proofs.line_at.Goals as goal
 
-pub returns-then-recording-from-lt-LENGTH : goal.returns-then-recording-from-lt-LENGTH
-returns-then-recording-from-lt-LENGTH c =
-    let a = c.args in
-    c.read_line.ensures ∙ ap line_of (last_record a.recording.now a.i c.if-recording-from-lt-LENGTH.true)
-
 pub returns : goal.returns
-returns c =
-    let a = c.args in c.read_line-2.ensures ∙ ap line_of (whole_record a.recording.now a.i)
+returns c = c.read_line.ensures ∙ ap line_of (record_is c.args.recording.now c.args.i c.min.result c.min.ensures)

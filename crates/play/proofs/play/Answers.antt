@@ -1,45 +1,46 @@
 -- `play::play` meets its contract.
-use mathlib.Core.Path.{◌∙◌}
-use Prim.Native.Nat.{◌<◌}
-use lib.ListN.{length}
+use Rattle.std.proofs.Common.{rules, ◌≡◌, length, replicate, ◌∙◌}
 use Rattle.twice.specs.Twice.{least_index}
-use Rattle.play.proofs.Loop.{too_short_lem, too_few, all_played, fresh, not_cleared}
+use Rattle.play.proofs.Loop.{too_short_lem, too_few, all_played, cleared_by, fresh, not_cleared}
 use Rattle.play.proofs.play.Goals as goal
 
-pub returns-then-index-lt-LEAST_INDEX : goal.returns-then-index-lt-LEAST_INDEX
+pub returns-then-index-lt-LEAST_INDEX-clause-played :
+    goal.returns-then-index-lt-LEAST_INDEX-clause-played
 unfolding least_index
-returns-then-index-lt-LEAST_INDEX c =
-    let a = c.args in
-    let h : length a.index.now < least_index = c.if-index-lt-LEAST_INDEX.true in (
-      too_short_lem a.places a.index.now a.recording.now a.buffer.now a.ends.now a.entries a.opened a.total h c.refuse_all.result
-          c.refuse_all.ensures,
-      not_cleared a.places a.index.now a.recording.now a.buffer.now a.ends.now a.entries a.opened a.total h,
-    )
+returns-then-index-lt-LEAST_INDEX-clause-played c =
+    let a = c.args in rw c.at.ensures (too_short_lem a.index.now a.recording.now a.buffer.now a.ends.now a.entries.now a.numbers.now c.if-index-lt-LEAST_INDEX.true)
 
-pub returns-then-places-lt-MOST : goal.returns-then-places-lt-MOST
+pub returns-then-index-lt-LEAST_INDEX-clause-index :
+    goal.returns-then-index-lt-LEAST_INDEX-clause-index
 unfolding least_index
-returns-then-places-lt-MOST c =
-    let a = c.args in (
-      too_few a.places a.index.now a.recording.now a.buffer.now a.ends.now a.entries a.opened a.total
-          c.if-index-lt-LEAST_INDEX.false c.if-places-lt-MOST.true c.refuse_all-then-places-lt-MOST.result
-          c.refuse_all-then-places-lt-MOST.ensures,
-      c.quickly-found.ensures.1,
-    )
+returns-then-index-lt-LEAST_INDEX-clause-index c =
+    let a = c.args in not_cleared a.index.now a.recording.now a.buffer.now a.ends.now a.entries.now a.numbers.now c.if-index-lt-LEAST_INDEX.true
 
-pub play_on-requires : goal.play_on-requires
+pub returns-then-entries-lt-MOST-clause-played :
+    goal.returns-then-entries-lt-MOST-clause-played
 unfolding least_index
-play_on-requires c =
-    let a = c.args in
-    fresh a.places a.index.now a.recording.now a.buffer.now a.ends.now a.entries a.opened a.total
-    c.if-index-lt-LEAST_INDEX.false _ c.quickly-found.ensures.1
+returns-then-entries-lt-MOST-clause-played c =
+    let a = c.args in rw c.at-then-entries-lt-MOST.ensures (too_few a.index.now a.recording.now a.buffer.now a.ends.now a.entries.now a.numbers.now c.if-index-lt-LEAST_INDEX.false
+    c.if-entries-lt-MOST.true)
 
-pub returns : goal.returns
+pub returns-then-entries-lt-MOST-clause-index :
+    goal.returns-then-entries-lt-MOST-clause-index
 unfolding least_index
-returns c =
-    let a = c.args in (
-      all_played a.places a.index.now a.recording.now a.buffer.now a.ends.now a.entries a.opened a.total
-          c.if-index-lt-LEAST_INDEX.false c.if-places-lt-MOST.false
-          c.play_on.result
-          c.play_on.ensures.0,
-      c.play_on.ensures.1 ∙ c.quickly-found.ensures.1,
-    )
+returns-then-entries-lt-MOST-clause-index c =
+    let a = c.args in cleared_by a.index.now a.recording.now a.buffer.now a.ends.now a.entries.now a.numbers.now c.if-index-lt-LEAST_INDEX.false _ (c.fill.ensures.after (λ y q. search rules))
+
+pub play_on-requires-clause-fresh : goal.play_on-requires-clause-fresh
+unfolding least_index
+play_on-requires-clause-fresh c =
+    let a = c.args in fresh a.index.now a.recording.now a.buffer.now a.ends.now a.entries.now a.numbers.now c.if-index-lt-LEAST_INDEX.false _ (c.fill.ensures.after (λ y q. search rules))
+
+pub returns-clause-played : goal.returns-clause-played
+unfolding least_index
+returns-clause-played c =
+    let a = c.args in c.play_on.ensures.played ∙ all_played a.index.now a.recording.now a.buffer.now a.ends.now a.entries.now a.numbers.now c.if-index-lt-LEAST_INDEX.false c.if-entries-lt-MOST.false
+
+pub returns-clause-index : goal.returns-clause-index
+unfolding least_index
+returns-clause-index c =
+    let a = c.args in c.play_on.ensures.index ∙ cleared_by a.index.now a.recording.now a.buffer.now a.ends.now a.entries.now a.numbers.now c.if-index-lt-LEAST_INDEX.false _
+    (c.fill.ensures.after (λ y q. search rules))

@@ -1,20 +1,22 @@
 -- `play::put_in` meets its contract.
-use Rattle.book.specs.Calls.{enter}
-use Rattle.book.specs.Code.{in_range}
-use Rattle.play.proofs.Runs.{refused_went, room_in, put_went}
+use Rattle.play.proofs.Runs.{on_err, out_kept, room_in, in_step, in_sound}
 use Rattle.play.proofs.put_in.Goals as goal
 
-pub returns-then-a-ne0 : goal.returns-then-a-ne0
-returns-then-a-ne0 c =
-    let a = c.act_on-o in
-    refused_went c.args.run c.requires.0 a.result (enter (in_range c.args.e)) a.ensures c.if-a-ne0.true c.refuse.result c.refuse.ensures _ _ _
+pub returns-in_err-act-clause-kept : goal.returns-in_err-act-clause-kept
+returns-in_err-act-clause-kept c =
+    on_err c.from_residual.result (out_kept c.args.entries.now c.args.numbers.now c.act.new.entries c.act.new.numbers c.act.result c.args.run c.requires.sound c.args.bulk c.act.ensures
+    c.in_err-act.field-0.0 c.in_err-act.was)
 
 pub bounds-lots-opened : goal.bounds-lots-opened
 bounds-lots-opened c =
-    let a = c.act_on-o in
-    room_in c.args.run c.requires.0 a.result c.args.e a.ensures c.if-a-ne0.false
+    room_in c.args.entries.now c.args.numbers.now c.act.new.entries c.act.new.numbers c.act.result c.args.run c.requires.sound c.args.bulk c.act.ensures c.in_ok-act.field-0 c.in_ok-act.was
 
-pub returns : goal.returns
-returns c =
-    let a = c.act_on-o in
-    put_went c.args.run c.requires.0 a.result c.args.e a.ensures c.if-a-ne0.false c.args.lot c.requires.1 _ _
+pub returns-clause-step : goal.returns-clause-step
+returns-clause-step c =
+    in_step c.args.entries.now c.args.numbers.now c.act.new.entries c.act.new.numbers c.act.result c.args.run c.requires.sound c.args.bulk c.act.ensures c.in_ok-act.field-0
+    c.in_ok-act.was c.args.lot _ _
+
+pub returns-clause-sound : goal.returns-clause-sound
+returns-clause-sound c =
+    in_sound c.args.entries.now c.args.numbers.now c.act.new.entries c.act.new.numbers c.act.result c.args.run c.requires.sound c.args.bulk c.act.ensures c.in_ok-act.field-0
+    c.in_ok-act.was c.args.lot _ _ c.requires.light

@@ -1,29 +1,39 @@
 -- `play::take_out` meets its contract.
-use mathlib.Core.Path.{ap, ◌∙◌}
-use native.Mathlib.Omega.{arith}
-use Rattle.book.specs.Calls.{withdraw}
-use Rattle.book.specs.Code.{outcome_of, called_on}
-use Rattle.play.specs.Code.{run_as}
-use Rattle.play.proofs.Runs.{refused_went, stands_in_lem, take_went}
+use Rattle.std.proofs.Common.{arith, sym, ◌∙◌}
+use Rattle.play.proofs.Runs.{on_err, stay_kept, no_none, below, off_step, off_sound}
 use Rattle.play.proofs.take_out.Goals as goal
 
-pub returns-then-a-ne0 : goal.returns-then-a-ne0
-returns-then-a-ne0 c =
-    let w = c.withdrawing in
-    let a = c.act_on-o in
-    refused_went c.args.run c.requires a.result (withdraw c.args.key) (a.ensures ∙ ap (λ x. outcome_of (called_on 64 x (run_as c.args.run).stored)) w.ensures) c.if-a-ne0.true
-    c.refuse.result c.refuse.ensures _ _ _
+pub returns-in_err-act-clause-kept : goal.returns-in_err-act-clause-kept
+returns-in_err-act-clause-kept c =
+    on_err c.from_residual.result (stay_kept c.args.entries.now c.args.numbers.now c.act.new.entries c.act.new.numbers c.act.result c.args.run c.requires.sound c.args.key c.act.ensures
+    c.in_err-act.field-0.0 c.in_err-act.was)
 
-pub shift_lots-lots-requires : goal.shift_lots-lots-requires
-shift_lots-lots-requires c =
-    let w = c.withdrawing in
-    let a = c.act_on-o in
-    let h = stands_in_lem c.args.run c.requires a.result c.args.key (a.ensures ∙ ap (λ x. outcome_of (called_on 64 x (run_as c.args.run).stored)) w.ensures) c.if-a-ne0.false in
-    (omega (arith, h.0, c.place_of-at.ensures), h.1)
+pub overflow_add-at : goal.overflow_add-at
+overflow_add-at c = let h = below c.args.entries.now c.args.numbers.now c.act.new.entries c.act.new.numbers c.act.result c.args.run c.requires.sound c.args.key c.act.ensures
+    c.in_ok-act.field-0 c.in_ok-act.was c.in-Some.at (sym c.place_of-place.ensures ∙ c.in-Some.is) in omega (arith, h, c.requires.sound.few)
 
-pub returns : goal.returns
-returns c =
-    let w = c.withdrawing in
-    let a = c.act_on-o in
-    take_went c.args.run c.requires a.result c.args.key (a.ensures ∙ ap (λ x. outcome_of (called_on 64 x (run_as c.args.run).stored)) w.ensures) c.if-a-ne0.false
-    c.place_of-at.result c.place_of-at.ensures c.shift_lots-lots.result c.shift_lots-lots.ensures _
+pub copy_within-requires-clause-start_le_end : goal.copy_within-requires-clause-start_le_end
+copy_within-requires-clause-start_le_end c = let h = below c.args.entries.now c.args.numbers.now c.act.new.entries c.act.new.numbers c.act.result c.args.run c.requires.sound c.args.key
+    c.act.ensures c.in_ok-act.field-0 c.in_ok-act.was c.in-Some.at (sym c.place_of-place.ensures ∙ c.in-Some.is) in omega (arith, h)
+
+pub copy_within-requires-clause-dest_in_bounds : goal.copy_within-requires-clause-dest_in_bounds
+copy_within-requires-clause-dest_in_bounds c = let h = below c.args.entries.now c.args.numbers.now c.act.new.entries c.act.new.numbers c.act.result c.args.run c.requires.sound
+    c.args.key c.act.ensures c.in_ok-act.field-0 c.in_ok-act.was c.in-Some.at (sym c.place_of-place.ensures ∙ c.in-Some.is) in omega (arith, h, c.requires.sound.few)
+
+pub returns-in-Some-clause-step : goal.returns-in-Some-clause-step
+returns-in-Some-clause-step c = off_step c.args.entries.now c.args.numbers.now c.act.new.entries c.act.new.numbers c.act.result c.args.run c.requires.sound c.args.key c.act.ensures
+    c.in_ok-act.field-0 c.in_ok-act.was c.in-Some.at (sym c.place_of-place.ensures ∙ c.in-Some.is) _ _ _ c.copy_within.ensures.after
+
+pub returns-in-Some-clause-sound : goal.returns-in-Some-clause-sound
+returns-in-Some-clause-sound c = off_sound c.args.entries.now c.args.numbers.now c.act.new.entries c.act.new.numbers c.act.result c.args.run c.requires.sound c.args.key c.act.ensures
+    c.in_ok-act.field-0 c.in_ok-act.was c.in-Some.at (sym c.place_of-place.ensures ∙ c.in-Some.is) _ _ _ c.copy_within.ensures.after c.copy_within.ensures.len
+
+pub returns-in_default-clause-step : goal.returns-in_default-clause-step
+returns-in_default-clause-step c =
+    absurd (no_none c.args.entries.now c.args.numbers.now c.act.new.entries c.act.new.numbers c.act.result c.args.run c.requires.sound c.args.key c.act.ensures c.in_ok-act.field-0
+    c.in_ok-act.was (sym c.place_of-place.ensures ∙ c.in_default.is))
+
+pub returns-in_default-clause-sound : goal.returns-in_default-clause-sound
+returns-in_default-clause-sound c =
+    absurd (no_none c.args.entries.now c.args.numbers.now c.act.new.entries c.act.new.numbers c.act.result c.args.run c.requires.sound c.args.key c.act.ensures c.in_ok-act.field-0
+    c.in_ok-act.was (sym c.place_of-place.ensures ∙ c.in_default.is))

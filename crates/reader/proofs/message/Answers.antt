@@ -4,18 +4,24 @@ use Rattle.notes.specs.Steps.{stated, stepped}
 use Rattle.engine.proofs.Whole.{message_long, message_far, begins, message_is, places_long, places_far, places_are}
 use Rattle.reader.proofs.Room.{profile_room}
 use Rattle.reader.proofs.Whole.{profile_read, profile_placed}
+use Rattle.reader.proofs.Steps.{refused_at}
+use Rattle.reader.proofs.message.Goals.{then-m-gt-MOST_BYTES-via-then-m-gt-MOST_BYTES, then-m-gt-MOST_BYTES-via-else-m-gt-MOST_BYTES+then-m-at}
 use Rattle.reader.proofs.message.Goals as goal
 
 pub returns-then-m-gt-MOST_BYTES : goal.returns-then-m-gt-MOST_BYTES
 returns-then-m-gt-MOST_BYTES c =
-    let y = message_long c.args.v c.args.m.now c.args.at c.if-m-gt-MOST_BYTES.true (stepped c.refuse.result) c.refuse.ensures in
-    (y.0, y.1, places_long c.args.v c.args.m.now c.args.at c.if-m-gt-MOST_BYTES.true c.args.places.now)
-
-pub returns-then-m-at : goal.returns-then-m-at
-returns-then-m-at c =
     let a = c.args in
-    let y = message_far a.v a.m.now a.at c.if-m-gt-MOST_BYTES.false c.if-m-at.true (stepped c.refuse-then-m-at.result) c.refuse-then-m-at.ensures in
-    (y.0, y.1, places_far a.v a.m.now a.at c.if-m-gt-MOST_BYTES.false c.if-m-at.true a.places.now)
+    let e = refused_at _ _ c.at.ensures in
+    elim c.then-m-gt-MOST_BYTES.branch [
+      | then-m-gt-MOST_BYTES-via-then-m-gt-MOST_BYTES w ↦
+          let h = w.if-m-gt-MOST_BYTES.true in
+          let y = message_long a.v a.m.now a.at h _ e in
+          (y.0, y.1, places_long a.v a.m.now a.at h a.places.now)
+      | then-m-gt-MOST_BYTES-via-else-m-gt-MOST_BYTES+then-m-at w ↦
+          let h = w.if-m-gt-MOST_BYTES.false in
+          let y = message_far a.v a.m.now a.at h w.if-m-at.true _ e in
+          (y.0, y.1, places_far a.v a.m.now a.at h w.if-m-at.true a.places.now)
+    ]
 
 pub group-requires : goal.group-requires
 group-requires c =

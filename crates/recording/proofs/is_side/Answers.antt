@@ -7,6 +7,6 @@ pub returns-then-c-eq69 : goal.returns-then-c-eq69
 unfolding among
 returns-then-c-eq69 c = search tests
 
-pub returns : goal.returns
+pub returns-else-c-eq69 : goal.returns-else-c-eq69
 unfolding among
-returns c = search tests
+returns-else-c-eq69 c = search tests

@@ -4,4 +4,4 @@ use Rattle.recording.proofs.key_in.Goals as goal
 
 pub returns : goal.returns
 returns c =
-    key_is c.args.r.now _ _ _ _ c.value-service.ensures c.value-id.ensures c.value-bic.ensures c.make_key.ensures
+    key_is c.args.r.now _ _ _ _ c.value-service.ensures c.value-id.ensures c.value-bic.ensures c.key_with.ensures

@@ -9,4 +9,4 @@ use Rattle.records.proofs.put.Goals as goal
 pub returns : goal.returns
 returns c =
     let a = c.args in
-    (c.put_at.ensures.0 ∙ ap (λ (p : ℕ). laid a.at (take a.width (held_at a.m.now p)) a.rec.now) c.row_start.ensures, c.put_at.ensures.1)
+    c.put_at.ensures ∙ ap (λ (p : ℕ). laid a.at (take a.width (held_at a.m.now p)) a.rec.now) c.row_start.ensures

@@ -11,7 +11,7 @@ pub returns-then-none_at : goal.returns-then-none_at
 returns-then-none_at c =
     let a = c.args in
     let none = c.none_at in
-    (c.lay.ensures.0 ∙ ap (λ (l : List ℕ). laid 35 l a.rec.now) (end_none a.m.now a.start none.result none.ensures c.if-none_at.true), c.lay.ensures.1)
+    c.lay.ensures ∙ ap (λ (l : List ℕ). laid 35 l a.rec.now) (end_none a.m.now a.start none.result none.ensures c.if-none_at.true)
 
 pub slice_bounds-s-count : goal.slice_bounds-s-count
 slice_bounds-s-count c =
@@ -36,8 +36,6 @@ returns c =
     let a = c.args in
     let none = c.none_at in
     let some = c.if-none_at in
-    let the-upto = c.upto-n in (
-      c.lay-2.ensures.0 ∙ ap (λ (l : List ℕ). laid 35 l a.rec.now)
-          (end_written a.m.now a.start none.result none.ensures some.false the-upto.result the-upto.ensures _ c.collapse.ensures),
-      c.lay-2.ensures.1,
-    )
+    let the-upto = c.upto-n in
+    c.lay-2.ensures ∙ ap (λ (l : List ℕ). laid 35 l a.rec.now)
+    (end_written a.m.now a.start none.result none.ensures some.false the-upto.result the-upto.ensures _ c.collapse.ensures)

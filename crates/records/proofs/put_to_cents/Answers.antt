@@ -4,8 +4,6 @@ use Rattle.records.proofs.put_to_cents.Goals as goal
 
 pub returns : goal.returns
 returns c =
-    let a = c.args in (
-      cents_laid a.m.now a.row.now a.rec.now c.row_start.ensures c.put.ensures.0 c.put_end_to_end.ensures.0 c.put-2.ensures.0
-          c.put-3.ensures.0 c.put-4.ensures.0 c.put-5.ensures.0 c.put_cents.ensures.0,
-      c.put_cents.ensures.1,
-    )
+    let a = c.args in
+    cents_laid a.m.now a.row.now a.rec.now c.row_start.ensures c.put.ensures c.put_end_to_end.ensures c.put-2.ensures c.put-3.ensures c.put-4.ensures
+    c.put-5.ensures c.put_cents.ensures

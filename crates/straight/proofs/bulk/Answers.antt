@@ -1,35 +1,23 @@
 -- `straight::bulk` meets its contract.
-use Rattle.tags.specs.Tags.{plain_tag, end_tag}
-use Rattle.profile.specs.Profile.{bulk_name, profile}
-use Rattle.reading.specs.Trace.{trace}
-use Rattle.notes.specs.Steps.{stepped}
-use Rattle.straight.specs.Exact.{open_of, in_bulk}
-use Rattle.straight.proofs.Groups.{chain_open, chain_on, chain_end}
-use Rattle.straight.proofs.Wholes.{keeps_behind, open_keeps, chain_is}
+use Rattle.straight.proofs.Groups.{opened, ended, next, refused, handed_on}
+use Rattle.tags.specs.Tags.{plain_tag}
+use Rattle.profile.specs.Profile.{bulk_name}
+use Rattle.straight.specs.Exact.{open_of}
+use Rattle.straight.proofs.Groups.{same_is}
+use Rattle.straight.proofs.Wholes.{keeps, open_keeps}
 use Rattle.straight.proofs.Frame.{profile_is}
 use Rattle.straight.proofs.bulk.Goals as goal
 
-pub in_bulk-b-requires : goal.in_bulk-b-requires
-in_bulk-b-requires c =
-    let the-args = c.args in
-    let the-then-open = c.then_open-a in
-    let the-pre = c.requires in
-    let m = the-args.m.now in (
-      the-then-open.ensures.1,
-      keeps_behind 0 (open_of (plain_tag bulk_name) m) (open_keeps m 0 (plain_tag bulk_name)) (stepped the-args.before) (stepped the-then-open.result)
-          the-then-open.ensures.0 the-pre.1,
-      the-pre.2,
-    )
+pub in_bulk-requires : goal.in_bulk-requires
+in_bulk-requires c =
+    let m = c.args.source.m.now in
+    (c.in_ok-st.ensures.1.0, keeps 0 (open_of (plain_tag bulk_name) m) (open_keeps m 0 (plain_tag bulk_name)) _ _ c.requires.1 c.in_ok-st.ensures.0, c.requires.2)
+
+pub returns-in_err-st : goal.returns-in_err-st
+returns-in_err-st c = handed_on _ _ c.from_residual.ensures.1 (same_is (profile_is _ _ _) (refused _ (refused _ (opened _ _ c.in_err-st.ensures))))
+
+pub returns-in_err-st-2 : goal.returns-in_err-st-2
+returns-in_err-st-2 c = handed_on _ _ c.from_residual-in_err-st-2.ensures.1 (same_is (profile_is _ _ _) (refused _ (next _ (opened _ _ c.in_ok-st.ensures) c.in_err-st-2.ensures)))
 
 pub returns : goal.returns
-returns c =
-    let the-args = c.args in
-    let the-then-open = c.then_open-a in
-    let the-in-bulk = c.in_bulk-b in
-    let m = the-args.m.now in
-    let v = the-args.v in
-    let r0 = stepped the-args.before in
-    let l0 = the-args.places.now in
-    let i1 = chain_open m (plain_tag bulk_name) r0 l0 the-then-open.ensures in
-    let i2 = chain_on i1 (trace (in_bulk v) m) the-in-bulk.ensures in
-    chain_is (chain_end i2 (end_tag "Document") c.then_close.ensures) (trace (profile v) m) (profile_is v m)
+returns c = same_is (profile_is _ _ _) ((next _ (next _ (opened _ _ c.in_ok-st.ensures) c.in_ok-st-2.ensures) (ended _ _ c.end_tag.ensures)))

@@ -1,60 +1,38 @@
 -- `straight::in_bulk` meets its contract.
-use Rattle.std.proofs.Common.{length, ◌∙◌}
+use Rattle.straight.proofs.Groups.{opened, next, refused, handed_on}
 use Rattle.tags.specs.Tags.{plain_tag}
 use Rattle.profile.specs.Profile.{header_name, in_header}
 use Rattle.reading.specs.Trace.{trace}
-use Rattle.notes.specs.Steps.{stepped}
-use Rattle.straight.specs.Exact.{open_of, due_item, more_of, in_bulk}
-use Rattle.straight.proofs.Groups.{chain_open, chain_on}
-use Rattle.straight.proofs.Wholes.{keeps_behind, open_keeps, chain_is}
+use Rattle.straight.specs.Exact.{open_of, due_item}
+use Rattle.straight.proofs.Groups.{same_is}
+use Rattle.straight.proofs.Wholes.{keeps, open_keeps}
 use Rattle.straight.proofs.Frame.{header_keeps, first_keeps, bulk_is}
 use Rattle.straight.proofs.in_bulk.Goals as goal
 
-pub then_first-c-requires : goal.then_first-c-requires
-then_first-c-requires c =
-    let the-args = c.args in
-    let the-then-open = c.then_open-a in
-    let the-header-exact = c.header_exact-b in
-    let the-pre = c.requires in
-    let m = the-args.m.now in
-    let o = stepped the-then-open.result in
-    let h = stepped the-header-exact.result in
-    let i1 = keeps_behind 0 (open_of (plain_tag header_name) m) (open_keeps m 0 (plain_tag header_name)) (stepped the-args.before) o the-then-open.ensures.0 the-pre.1 in
-    let i2 = keeps_behind 0 (trace (in_header the-args.v) m) (header_keeps the-args.v m) o h the-header-exact.ensures.0 i1 in
-    (the-header-exact.ensures.1, i2)
+pub first_item-requires : goal.first_item-requires
+first_item-requires c =
+    let m = c.args.source.m.now in
+    let i = keeps 0 (open_of (plain_tag header_name) m) (open_keeps m 0 (plain_tag header_name)) _ _ c.requires.1 c.in_ok-st.ensures.0 in
+    (c.in_ok-st-2.ensures.fine.0, keeps 0 (trace (in_header c.args.source.v) m) (header_keeps c.args.source.v m) _ _ i c.in_ok-st-2.ensures.is)
 
 pub more_items-requires : goal.more_items-requires
 more_items-requires c =
-    let the-args = c.args in
-    let the-then-open = c.then_open-a in
-    let the-header-exact = c.header_exact-b in
-    let the-pre = c.requires in
-    let the-then-first = c.then_first-c in
-    let m = the-args.m.now in
-    let o = stepped the-then-open.result in
-    let h = stepped the-header-exact.result in
-    let i1 = keeps_behind 0 (open_of (plain_tag header_name) m) (open_keeps m 0 (plain_tag header_name)) (stepped the-args.before) o the-then-open.ensures.0 the-pre.1 in
-    let i2 = keeps_behind 0 (trace (in_header the-args.v) m) (header_keeps the-args.v m) o h the-header-exact.ensures.0 i1 in
-    (the-then-first.ensures.1, keeps_behind 0 (due_item the-args.v m) (first_keeps the-args.v m) h (stepped the-then-first.result) the-then-first.ensures.0 i2, the-pre.2)
+    let m = c.args.source.m.now in
+    let v = c.args.source.v in
+    let i = keeps 0 (open_of (plain_tag header_name) m) (open_keeps m 0 (plain_tag header_name)) _ _ c.requires.1 c.in_ok-st.ensures.0 in
+    let j = keeps 0 (trace (in_header v) m) (header_keeps v m) _ _ i c.in_ok-st-2.ensures.is in
+    (c.in_ok-st-3.ensures.fine.0, keeps 0 (due_item v m) (first_keeps v m) _ _ j c.in_ok-st-3.ensures.is, c.requires.2)
 
-pub shape_of-places : goal.shape_of-places
-shape_of-places c =
-    let the-then-first = c.then_first-c in
-    let the-header-exact = c.header_exact-b in
-    c.more_items.auto.places ∙ (the-then-first.auto.places ∙ the-header-exact.auto.places)
+pub returns-in_err-st : goal.returns-in_err-st
+returns-in_err-st c = handed_on _ _ c.from_residual.ensures.1 (same_is (bulk_is _ _ _) (refused _ (refused _ (refused _ (opened _ _ c.in_err-st.ensures)))))
+
+pub returns-in_err-st-2 : goal.returns-in_err-st-2
+returns-in_err-st-2 c = handed_on _ _ c.from_residual-in_err-st-2.ensures.1 (same_is (bulk_is _ _ _) (refused _ (refused _ (next _ (opened _ _ c.in_ok-st.ensures) c.in_err-st-2.ensures))))
+
+pub returns-in_err-st-3 : goal.returns-in_err-st-3
+returns-in_err-st-3 c =
+    handed_on _ _ c.from_residual-in_err-st-3.ensures.1
+    (same_is (bulk_is _ _ _) (refused _ (next _ (next _ (opened _ _ c.in_ok-st.ensures) c.in_ok-st-2.ensures) c.in_err-st-3.ensures)))
 
 pub returns : goal.returns
-returns c =
-    let the-args = c.args in
-    let the-then-open = c.then_open-a in
-    let the-header-exact = c.header_exact-b in
-    let the-then-first = c.then_first-c in
-    let the-more-items = c.more_items in
-    let m = the-args.m.now in
-    let v = the-args.v in
-    let r0 = stepped the-args.before in
-    let l0 = the-args.places.now in
-    let i1 = chain_open m (plain_tag header_name) r0 l0 the-then-open.ensures in
-    let i2 = chain_on i1 (trace (in_header v) m) the-header-exact.ensures in
-    let i3 = chain_on i2 (due_item v m) the-then-first.ensures in
-    chain_is (chain_on i3 (more_of v m (length m)) the-more-items.ensures) (trace (in_bulk v) m) (bulk_is v m)
+returns c = same_is (bulk_is _ _ _) ((next _ (next _ (next _ (opened _ _ c.in_ok-st.ensures) c.in_ok-st-2.ensures) c.in_ok-st-3.ensures) c.more_items.ensures))

@@ -1,26 +1,23 @@
 -- `straight::items` meets its contract. The loop's invariant: the rows of the items that are read stand before what was lent;
 -- the next item is within the message; what is kept of those before is spelled in it.
-use Rattle.std.proofs.Common.{arith}
-use borrow.Author.Tests.{not-true, not-false}
+use Rattle.std.proofs.Common.{◌≡◌, ◌/◌, length, arith}
 use Rattle.engine.proofs.Rows.{reads_begin, reads_end, row_fits, reads_long, reads_far}
-use Rattle.straight.proofs.Kept.{kept_none}
 use Rattle.straight.proofs.Swift.{row_stops, row_goes}
 use Rattle.straight.proofs.items.Goals as goal
+use Rattle.straight.proofs.items.Goals.{then-m-gt-MOST_BYTES-via-then-m-gt-MOST_BYTES, then-m-gt-MOST_BYTES-via-else-m-gt-MOST_BYTES+then-m-at}
 
 pub returns-then-m-gt-MOST_BYTES : goal.returns-then-m-gt-MOST_BYTES
 returns-then-m-gt-MOST_BYTES c =
     let a = c.args in
-    reads_long a.v a.m.now a.at a.rows.now c.if-m-gt-MOST_BYTES.true
-
-pub returns-then-m-at : goal.returns-then-m-at
-returns-then-m-at c =
-    let a = c.args in
-    reads_far a.v a.m.now a.at a.rows.now c.if-m-gt-MOST_BYTES.false c.if-m-at.true
+    elim c.then-m-gt-MOST_BYTES.branch [
+      | then-m-gt-MOST_BYTES-via-then-m-gt-MOST_BYTES w ↦ reads_long a.v a.m.now a.at a.rows.now w.if-m-gt-MOST_BYTES.true
+      | then-m-gt-MOST_BYTES-via-else-m-gt-MOST_BYTES+then-m-at w ↦ reads_far a.v a.m.now a.at a.rows.now w.if-m-gt-MOST_BYTES.false w.if-m-at.true
+    ]
 
 pub loop-i-init : goal.loop-i-init
 loop-i-init c =
     let a = c.args in
-    (reads_begin a.v a.m.now a.at a.rows.now, c.if-m-at.false, kept_none a.m.now)
+    (reads_begin a.v a.m.now a.at a.rows.now, c.if-m-at.false, c.new-before.ensures a.m.now a.v)
 
 pub overflow_mul-from : goal.overflow_mul-from
 overflow_mul-from c = omega (arith, row_fits c.loop-i.invariant.0 c.loop-i-test.true, c.loop-i.invariant.0.long, c.well_formed.1.1.1.0.1)
@@ -43,25 +40,21 @@ slice_bounds-one_row-end c = omega (arith, row_fits c.loop-i.invariant.0 c.loop-
 pub one_row-r-requires : goal.one_row-r-requires
 one_row-r-requires c = (c.if-m-gt-MOST_BYTES.false, c.loop-i.invariant.1, c.texts-t.ensures, c.loop-i.invariant.2)
 
-pub returns-then-not-r : goal.returns-then-not-r
-returns-then-not-r c =
-    let l = c.loop-i in
+pub returns-in_default : goal.returns-in_default
+returns-in_default c =
     let o = c.one_row-r in
-    row_stops l.invariant.0 c.loop-i-test.true o.result.read (not-true _ c.if-not-r.true) _ _ o.ensures.0
-
-pub overflow_add-i : goal.overflow_add-i
-overflow_add-i c =
-    omega (arith, c.loop-i-test.true, c.well_formed.1.1.1.0.0)
+    row_stops c.loop-i.invariant.0 c.loop-i-test.true o.result c.in_default.is _ o.ensures.0
 
 pub loop-i-preserved : goal.loop-i-preserved
 loop-i-preserved c =
-    let l = c.loop-i in
     let o = c.one_row-r in
-    let n = row_goes l.invariant.0 c.loop-i-test.true o.result.read (not-false _ c.if-not-r.false) o.result.at _ o.ensures.0 o.auto.row in
+    let n = row_goes c.loop-i.invariant.0 c.loop-i-test.true o.result c.in-Some.next c.in-Some.is _ o.ensures.0 o.auto.row in
     (n.0, n.1, o.ensures.1)
 
 pub shape_of-rows : goal.shape_of-rows
 shape_of-rows c = c.loop-i.invariant.0.long
 
 pub returns : goal.returns
-returns c = reads_end c.loop-i.invariant.0 c.loop-i-test.false
+returns c =
+    let e : c.loop-i.i ≡ length c.args.rows.now / 28 = omega arith in
+    rw e at (reads_end c.loop-i.invariant.0 c.loop-i-test.false)

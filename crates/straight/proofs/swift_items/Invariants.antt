@@ -7,7 +7,7 @@ use Rattle.straight.specs.Kept.{Kept}
 use Rattle.straight.proofs.swift_items.Given as goal
 
 abbrev pub invariant-loop-left : goal.invariant-loop-left
-invariant-loop-left l = Onward l.v l.m l.most (on (stated l.initial.s)) l.initial.places l.left (on (stated l.s)) l.places × (0 < l.left) × (l.left ≤ l.most) × Kept l.m l.w
+invariant-loop-left l = Onward l.source.v l.source.m.now l.most (on (stated l.initial.s)) l.initial.places l.left (on (stated l.s)) l.places × (0 < l.left) × (l.left ≤ l.most) × Kept l.source.m.now l.source.v l.before
 
 abbrev pub decreases-loop-left : goal.decreases-loop-left
 decreases-loop-left l = l.left

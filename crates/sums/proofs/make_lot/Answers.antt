@@ -1,20 +1,15 @@
--- `sums::make_lot` meets its contract: refused, and accepted.
-use Rattle.sums.proofs.Lots.{no_lot_lem, lot_ready, the_lot}
+-- `sums::make_lot` meets its contract.
+use mathlib.Core.Path.{ap, sym}
+use native.Mathlib.Omega.{arith}
+use Rattle.judge.specs.Survey.{from_one}
+use Rattle.sums.proofs.Lots.{the_lot, service_few}
 use Rattle.sums.proofs.make_lot.Goals as goal
 
-pub sum_up-sums-requires : goal.sum_up-sums-requires
-sum_up-sums-requires c =
-    let a = c.args in
-    let the-pre = c.requires in
-    lot_ready a.m.now a.s the-pre _ _ c.in-Accepted.is
+pub overflow_add-service : goal.overflow_add-service
+overflow_add-service c = omega (arith, service_few c.args.m.now c.args.s.now c.requires, ap from_one c.in-Some.is)
 
-pub returns-in-Refused : goal.returns-in-Refused
-returns-in-Refused c =
-    let a = c.args in
-    no_lot_lem a.m.now a.s c.requires _ _ c.in-Refused.is
+pub returns-in-Some : goal.returns-in-Some
+returns-in-Some c = the_lot c.args.m.now c.args.s.now c.requires _ (omega (arith, ap from_one c.in-Some.is)) _ c.sum_up-sums.ensures
 
-pub returns-in-Accepted : goal.returns-in-Accepted
-returns-in-Accepted c =
-    let a = c.args in
-    let the-pre = c.requires in
-    the_lot a.m.now a.s the-pre _ _ c.in-Accepted.is c.sum_up-sums.result c.sum_up-sums.ensures
+pub returns-in-None : goal.returns-in-None
+returns-in-None c = the_lot c.args.m.now c.args.s.now c.requires _ (sym (ap from_one c.in-None.is)) _ c.sum_up-sums.ensures

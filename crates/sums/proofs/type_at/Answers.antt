@@ -1,9 +1,9 @@
 -- `sums::type_at` meets its contract: nothing there, a value that is no sequence type, and one that is.
 use mathlib.Core.Path.{sym}
 use lib.Seq.{length-take-le}
+use Rattle.std.specs.Prelude.{Ok, Err}
 use Rattle.records.proofs.Fields.{none_held, start_within, held, field_whole}
-use Rattle.answers.specs.Given.{given}
-use Rattle.sums.proofs.Lots.{no_type, unlisted, listed}
+use Rattle.sums.proofs.Lots.{no_type, type_given}
 use Rattle.sums.proofs.type_at.Goals as goal
 
 pub returns-then-none_at : goal.returns-then-none_at
@@ -31,24 +31,14 @@ slice_bounds-code-end c =
     let the-upto = c.upto-n in
     sym (length-take-le _ _ (held a.m.now a.start 0 none.result none.ensures c.if-none_at.false the-upto.result the-upto.ensures))
 
-pub returns-then-number-ne0 : goal.returns-then-number-ne0
-returns-then-number-ne0 c =
+pub returns-in-Err : goal.returns-in-Err
+returns-in-Err c =
     let a = c.args in
     let none = c.none_at in
-    let some = c.if-none_at in
-    let the-upto = c.upto-n in
-    let the_code = c.code-a in
-    let the_number = c.number in
-    unlisted a.m.now a.start _ (field_whole a.m.now a.start 0 none.result none.ensures some.false the-upto.result the-upto.ensures)
-    (given the_code.result) the_code.ensures the_number.result the_number.ensures c.if-number-ne0.true
+    type_given a.m.now a.start _ (field_whole a.m.now a.start 0 none.result none.ensures c.if-none_at.false c.upto-n.result c.upto-n.ensures) (Err _) c.in-Err.ensures
 
-pub returns : goal.returns
-returns c =
+pub returns-in-Ok : goal.returns-in-Ok
+returns-in-Ok c =
     let a = c.args in
     let none = c.none_at in
-    let some = c.if-none_at in
-    let the-upto = c.upto-n in
-    let the_code = c.code-a in
-    let the_number = c.number in
-    listed a.m.now a.start _ (field_whole a.m.now a.start 0 none.result none.ensures some.false the-upto.result the-upto.ensures)
-    (given the_code.result) the_code.ensures the_number.result the_number.ensures c.if-number-ne0.false c.value.result c.value.ensures
+    type_given a.m.now a.start _ (field_whole a.m.now a.start 0 none.result none.ensures c.if-none_at.false c.upto-n.result c.upto-n.ensures) (Ok _) c.in-Ok.ensures

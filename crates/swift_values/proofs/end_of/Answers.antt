@@ -6,9 +6,5 @@ use Rattle.swift_values.proofs.end_of.Goals as goal
 pub overflow_add-e : goal.overflow_add-e
 overflow_add-e c = omega (arith, upto_within c.args.m.now c.args.at c.upto.result (omega arith) c.upto.ensures)
 
-pub returns : goal.returns
-returns c =
-    let m = c.args.m.now in
-    let p = c.args.at in
-    let n = c.upto.result in
-    (omega (arith, upto_within m p n (omega arith) c.upto.ensures), ends_here m p n (omega arith) c.upto.ensures (omega arith) c.if-e-m.false)
+pub returns-else-e-m : goal.returns-else-e-m
+returns-else-e-m c = ends_here c.args.m.now c.args.at c.upto.result (omega arith) c.upto.ensures (omega arith) c.if-e-m.false

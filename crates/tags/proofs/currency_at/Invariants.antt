@@ -1,12 +1,9 @@
--- `profile::currency_at` meets its contract. The loop's invariant: how the tests from `i` on lie from `i` on is how all lie. The measure is what is left of the five.
+-- `tags::currency_at` meets its contract. The loop's invariant: how the tests from `i` on lie from `i` on is how all lie.
 use mathlib.Core.Path.{◌≡◌}
-use Prim.Native.Nat.{◌≤◌, ◌-◌}
+use Prim.Native.Nat.{◌≤◌}
 use lib.ListN.{drop}
 use Rattle.tags.specs.Tags.{look, currency}
 use Rattle.tags.proofs.currency_at.Given as goal
 
 abbrev pub invariant-loop-i : goal.invariant-loop-i
 invariant-loop-i l = (l.i ≤ 5) × (look (drop l.i currency) (drop l.i l.s) ≡ look currency l.s)
-
-abbrev pub decreases-loop-i : goal.decreases-loop-i
-decreases-loop-i l = 5 - l.i

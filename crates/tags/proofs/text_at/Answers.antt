@@ -1,37 +1,13 @@
--- `profile::text_at` meets its contract. The loop's invariant: how the tests from `i` on lie from `i` on is how all lie. The measure is what is left of the text.
-use mathlib.Core.Path.{◌∙◌, sym}
-use native.Mathlib.Omega.{arith}
-use Prim.Native.Nat.{◌-◌}
-use Rattle.text.specs.Quoted.{equal}
-use borrow.Author.Tests.{eq-eqb, ne_eqb}
-use Rattle.tags.specs.Tags.{exactly}
-use Rattle.tags.proofs.Looks.{exactly_length, exactly_at, look_cut, look_stop, look_go, look_end}
+-- `tags::text_at` meets its contract.
+use mathlib.Core.Path.{sym}
+use Rattle.tags.proofs.Looks.{look_asked}
 use Rattle.tags.proofs.text_at.Goals as goal
 
-pub returns-then-s-i : goal.returns-then-s-i
-returns-then-s-i c =
-    let l = c.loop-i in
-    let a = c.args in
-    let n = exactly_length a.text.now in
-    sym (look_cut (equal 0) (exactly a.text.now) a.s.now l.i (omega arith) (omega arith)) ∙ l.invariant.1
+pub returns-then-starts_with : goal.returns-then-starts_with
+returns-then-starts_with c = rw (sym (look_asked c.args.text.now c.args.s.now), sym c.starts_with.ensures.value, c.if-starts_with.true)
 
-pub returns-then-s-i-2 : goal.returns-then-s-i-2
-returns-then-s-i-2 c =
-    let l = c.loop-i in
-    let a = c.args in
-    let n = exactly_length a.text.now in
-    sym (look_stop (equal 0) (exactly a.text.now) a.s.now l.i (omega arith) (omega arith) (rw (exactly_at a.text.now l.i) (ne_eqb _ _ c.if-s-i-2.true))) ∙ l.invariant.1
+pub returns-then-starts_with-2 : goal.returns-then-starts_with-2
+returns-then-starts_with-2 c = rw (sym (look_asked c.args.text.now c.args.s.now), sym c.starts_with.ensures.value, c.if-starts_with.false, sym c.starts_with-else-starts_with.ensures.value, c.if-starts_with-2.true)
 
-pub loop-i-preserved : goal.loop-i-preserved
-loop-i-preserved c =
-    let l = c.loop-i in
-    let a = c.args in
-    let n = exactly_length a.text.now in
-    (omega arith, sym (look_go (equal 0) (exactly a.text.now) a.s.now l.i (omega arith) (omega arith) (rw (exactly_at a.text.now l.i) (eq-eqb _ _ c.if-s-i-2.false))) ∙ l.invariant.1)
-
-pub returns : goal.returns
-returns c =
-    let l = c.loop-i in
-    let a = c.args in
-    let n = exactly_length a.text.now in
-    sym (look_end (equal 0) (exactly a.text.now) a.s.now l.i (omega arith)) ∙ l.invariant.1
+pub returns-else-starts_with-2 : goal.returns-else-starts_with-2
+returns-else-starts_with-2 c = rw (sym (look_asked c.args.text.now c.args.s.now), sym c.starts_with.ensures.value, c.if-starts_with.false, sym c.starts_with-else-starts_with.ensures.value, c.if-starts_with-2.false)

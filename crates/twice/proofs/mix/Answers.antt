@@ -1,40 +1,25 @@
--- `twice::mix` meets its contract. The loop's invariant: the rest mixed into the sum is all mixed in. The measure is what is left of the value.
-use Rattle.std.proofs.Common.{refl, ap, ◌∙◌, arith}
-use Rattle.twice.specs.Engine.{strewn, mix}
-use Rattle.twice.proofs.Walks.{four_next, mix_end}
+-- `twice::mix` meets its contract. The loop's invariant: the rest mixed into the sum is all mixed in.
+use Rattle.std.proofs.Common.{ℕ, ◌≡◌, ◌*◌, ◌/◌, ◌<◌, List, [], length, get_or, ap, ◌∙◌, arith}
+use Rattle.twice.specs.Engine.{as_one, strewn, mix}
+use Rattle.twice.proofs.Walks.{chunk_at, four_next, mix_end}
 use Rattle.twice.proofs.mix.Goals as goal
 
-pub loop-i-init : goal.loop-i-init
-loop-i-init c = (omega arith, refl)
-
-pub overflow_sub-v : goal.overflow_sub-v
-overflow_sub-v c = omega arith
-
-pub four_at-requires : goal.four_at-requires
-four_at-requires c = omega arith
-
-pub overflow_add-i : goal.overflow_add-i
-overflow_add-i c = omega arith
-
-pub loop-i-smaller : goal.loop-i-smaller
-loop-i-smaller c = omega arith
-
-pub loop-i-preserved : goal.loop-i-preserved
-loop-i-preserved c =
-    let l = c.loop-i in
-    let a = c.args in
-    (omega arith, rw (c.mix_on-h.ensures, c.four_at.ensures) (four_next a.v.now l.h l.i (omega arith) ∙ l.invariant.1))
-
-pub slice_bounds-mix_bytes-count : goal.slice_bounds-mix_bytes-count
-slice_bounds-mix_bytes-count c = omega arith
-
-pub slice_bounds-mix_bytes-start : goal.slice_bounds-mix_bytes-start
-slice_bounds-mix_bytes-start c = omega arith
+pub loop-four-preserved : goal.loop-four-preserved
+unfolding as_one
+loop-four-preserved c =
+    let v = c.args.v.now in
+    let l = c.loop-four in
+    let f = c.as_chunks.ensures in
+    let w : l.four-index < length v / 4 = omega (arith, f.front_len) in
+    rw c.mix_on-h.ensures
+    (four_next v l.h (4 * l.four-index) (omega arith) _ (ap (λ (s : List (List ℕ)). get_or s l.four-index []) f.front ∙ chunk_at _ v l.four-index w) _ c.from_le_bytes.ensures _ (omega arith)
+    ∙ l.invariant)
 
 pub returns : goal.returns
 unfolding mix
 returns c =
-    let l = c.loop-i in
-    let a = c.args in
-    let b = c.mix_bytes in
-    c.strew.ensures ∙ ap strewn (mix_end a.v.now l.h l.i b.result (omega arith) (omega arith) b.ensures ∙ l.invariant.1)
+    let v = c.args.v.now in
+    let l = c.loop-four in
+    let f = c.as_chunks.ensures in
+    let k : l.four-index ≡ length v / 4 = omega (arith, f.front_len) in
+    c.strew.ensures ∙ ap strewn (mix_end v _ l.h l.four-index _ f.back k c.mix_bytes.ensures ∙ l.invariant)

@@ -1,43 +1,25 @@
 -- `twice::plainly` meets its contract. The outer loop's invariant: what the search gives from item i on is what it gives at all. The inner one's: whether the value
 -- stands among those from j on to i is whether it stands before item i. The measures are what is left of the lists.
-use Rattle.std.proofs.Common.{sym, refl, ◌∙◌, arith}
+use Rattle.std.proofs.Common.{ap, sym, refl, ◌∙◌, arith}
 use Rattle.text.specs.Truth.{at}
 use Rattle.text.proofs.Truths.{yes_of, no_of}
-use Rattle.twice.specs.Twice.{second}
+use Rattle.twice.specs.Twice.{second, if_any}
 use Rattle.twice.proofs.Values.{value_clean}
-use Rattle.twice.proofs.Pairs.{second_end, second_zero, among_later, pair_here, pair_none}
+use Rattle.twice.proofs.Pairs.{some_place, second_end, second_zero, among_later, pair_here, pair_none}
 use Rattle.twice.proofs.plainly.Goals as goal
 
 pub search-init : goal.search-init
 unfolding second
 search-init c = (omega arith, refl, refl)
 
-pub offset_bounds-places-i : goal.offset_bounds-places-i
-offset_bounds-places-i c = omega arith
-
-pub bounds-places-i : goal.bounds-places-i
-bounds-places-i c = omega arith
-
 pub loop-j-init : goal.loop-j-init
 loop-j-init c = (omega arith, c.search.invariant.1, refl)
-
-pub offset_bounds-places-j : goal.offset_bounds-places-j
-offset_bounds-places-j c = omega arith
-
-pub bounds-places-j : goal.bounds-places-j
-bounds-places-j c = omega arith
 
 pub holds-requires : goal.holds-requires
 holds-requires c =
     let a = c.args in
     let i = c.search.i in
     value_clean a.m.now _ (at a.places.now i) c.value_at-v.ensures
-
-pub overflow_add-j : goal.overflow_add-j
-overflow_add-j c = omega arith
-
-pub loop-j-smaller : goal.loop-j-smaller
-loop-j-smaller c = omega arith
 
 pub loop-j-preserved : goal.loop-j-preserved
 loop-j-preserved c =
@@ -47,12 +29,6 @@ loop-j-preserved c =
     let v = c.value_at-v in
     let x = no_of c.holds.ensures c.if-holds.false in
     (omega arith, l.invariant.1, sym (among_later a.m.now v.result.now a.places.now i l.j (omega arith) (omega arith) x) ∙ l.invariant.2)
-
-pub overflow_add-i : goal.overflow_add-i
-overflow_add-i c = omega arith
-
-pub search-smaller : goal.search-smaller
-search-smaller c = omega arith
 
 pub search-preserved : goal.search-preserved
 search-preserved c =
@@ -70,13 +46,13 @@ pub returns-after-search : goal.returns-after-search
 returns-after-search c =
     let a = c.args in
     let s = c.search in
-    s.invariant.1 ∙ sym (second_end a.m.now a.places.now s.i c.search-test.false) ∙ s.invariant.2
+    s.invariant.1 ∙ ap if_any (sym (second_end a.m.now a.places.now s.i c.search-test.false) ∙ s.invariant.2)
 
 pub returns-then-p-eq0 : goal.returns-then-p-eq0
 returns-then-p-eq0 c =
     let a = c.args in
     let s = c.search in
-    s.invariant.1 ∙ sym (second_zero a.m.now a.places.now s.i (omega arith) c.if-p-eq0.true) ∙ s.invariant.2
+    s.invariant.1 ∙ ap if_any (sym (second_zero a.m.now a.places.now s.i (omega arith) c.if-p-eq0.true) ∙ s.invariant.2)
 
 pub returns-then-holds : goal.returns-then-holds
 returns-then-holds c =
@@ -85,5 +61,5 @@ returns-then-holds c =
     let s = c.search in
     let v = c.value_at-v in
     let ne = c.if-p-eq0.false in
-    c.wide-found.ensures ∙ pair_here a.m.now a.places.now v.result.now s.i l.j (omega arith) ne v.ensures
-    s.invariant.2 l.invariant.2 c.loop-j-test.true (yes_of c.holds.ensures c.if-holds.true)
+    some_place _ ne ∙ ap if_any (pair_here a.m.now a.places.now v.result.now s.i l.j (omega arith) ne v.ensures
+    s.invariant.2 l.invariant.2 c.loop-j-test.true (yes_of c.holds.ensures c.if-holds.true))

@@ -16,6 +16,6 @@ returns c =
     let a = c.args in
     let v = c.value_at-v in
     let h = c.mix-h in
-    let x = probe_is a.m.now a.places.now (numbers_in a.index.now) v.result.now _ h.result c.wide.result c.steps.result v.ensures h.ensures
-    c.wide.ensures c.steps.ensures.0 in
+    let x = probe_is a.m.now a.places.now (numbers_in a.index.now) v.result.now _ h.result c.steps.result v.ensures h.ensures
+    c.steps.ensures.0 in
     (x.0, x.1, h.ensures ∙ ap mix v.ensures)

@@ -23,7 +23,7 @@ loop-count-preserved g c =
     let from = c.loop-count.count in
     let room = length c.loop-count.area - from in
     let within = c.loop-count.invariant.1 in
-    let part = slice_range-put_mid from room c.in-Ok.n c.loop-count.area c.read.new.buf within c.in-Ok.ensures.bound.0 in
-    let joined = take_split from (from + c.in-Ok.n) c.loop-count.area (put_mid from room c.loop-count.area c.read.new.buf) (omega arith) (take-put_mid_below _ _ _ _ _ (le_refl _) within) in
+    let part = slice_range-put_mid from room c.in_ok-n.n c.loop-count.area c.read.new.buf within c.in_ok-n.ensures.bound.0 in
+    let joined = take_split from (from + c.in_ok-n.n) c.loop-count.area (put_mid from room c.loop-count.area c.read.new.buf) (omega arith) (take-put_mid_below _ _ _ _ _ (le_refl _) within) in
     let taken = ap (λ l. take from c.loop-count.area ++ l) (sym part) ∙ joined in
-    (search rules, search rules, subst (Consumes _ _) taken (Consumes-trans _ _ _ _ _ c.loop-count.invariant.2 c.in-Ok.ensures.bytes.0))
+    (search rules, search rules, subst (Consumes _ _) taken (Consumes-trans _ _ _ _ _ c.loop-count.invariant.2 c.in_ok-n.ensures.bytes.0))

@@ -7,5 +7,5 @@ use Rattle.words.proofs.as_space.Goals as goal
 pub returns-then-is_blank : goal.returns-then-is_blank
 returns-then-is_blank c = sym (blank_space _ (yes_of c.is_blank.ensures c.if-is_blank.true))
 
-pub returns : goal.returns
-returns c = sym (solid_itself _ (no_of c.is_blank.ensures c.if-is_blank.false))
+pub returns-else-is_blank : goal.returns-else-is_blank
+returns-else-is_blank c = sym (solid_itself _ (no_of c.is_blank.ensures c.if-is_blank.false))

@@ -1,25 +1,17 @@
--- `words::blanks` meets its contract. The loop's invariant: `i`, and how many lead from `i` on, are how many lead. The measure is what is left of the length.
-use native.Mathlib.Omega.{arith}
-use Prim.Native.Nat.{◌-◌}
+-- `words::blanks` meets its contract.
+use Rattle.std.proofs.Common.{rules, tests, ◌∙◌}
+use Rattle.std.proofs.lemmas.Iterator.{YieldsList-from_slice}
+use Rattle.std.proofs.lemmas.Iterator.Consumers.{count_from_yields_List}
+use Rattle.std.proofs.lemmas.Iterator.Search.{YieldsList-from_take_while}
+use Rattle.std.proofs.lemmas.List.Folds.{length-prefix_len}
+use Rattle.text.proofs.Chains.{lead_prefix}
 use Rattle.words.specs.Walk.{blank}
-use Rattle.text.proofs.Truths.{yes_of, no_of}
-use Rattle.text.proofs.Scan.{lead_stop, lead_go, lead_end}
 use Rattle.words.proofs.blanks.Goals as goal
-
-pub loop-i-preserved : goal.loop-i-preserved
-loop-i-preserved c =
-    let l = c.loop-i in
-    let a = c.args in
-    (omega arith, omega (arith, l.invariant.1, lead_go blank a.s.now l.i (omega arith) (yes_of c.is_blank.ensures c.if-is_blank.true)))
-
-pub returns-else-is_blank : goal.returns-else-is_blank
-returns-else-is_blank c =
-    let l = c.loop-i in
-    let a = c.args in
-    omega (arith, l.invariant.1, lead_stop blank a.s.now l.i (omega arith) (no_of c.is_blank.ensures c.if-is_blank.false))
 
 pub returns : goal.returns
 returns c =
-    let l = c.loop-i in
-    let a = c.args in
-    omega (arith, l.invariant.1, lead_end blank a.s.now l.i (omega arith))
+    let s = c.args.s.now in
+    let t = c.take_while in
+    count_from_yields_List t.result _ c.count.ensures.ran
+    (YieldsList-from_take_while _ blank (YieldsList-from_slice s cc) t.ensures.closure t.ensures.done (λ x b q k. search (rules, tests)))
+    ∙ length-prefix_len blank s ∙ lead_prefix blank s

@@ -1,10 +1,7 @@
 -- `words::collapse` meets its contract. The loop's invariant: `n` bytes of the collapsed value are written, and what stands from `i` on becomes the others.
--- The measure is what is left of the area.
-use Prim.Native.Nat.{◌-◌}
 use native.Mathlib.Omega.{arith}
-use Rattle.words.specs.Collapsed.{as_space}
 use Rattle.words.proofs.Collapsed.{collapsed_part}
-use Rattle.words.proofs.Walk.{Turn, turn, laid_none, laid_length, laid_turn, laid_full, laid_end}
+use Rattle.words.proofs.Walk.{turn, laid_none, laid_length, laid_turn, laid_full, laid_end}
 use Rattle.words.proofs.collapse.Goals as goal
 
 pub loop-n-init : goal.loop-n-init
@@ -18,9 +15,6 @@ returns-then-p-i c = laid_end _ _ _ c.loop-n.i c.if-p-i.true c.loop-n.invariant.
 
 pub overflow_add-i : goal.overflow_add-i
 overflow_add-i c = omega (arith, turn c.strip-p.result.now c.loop-n.i c.run_of-i.result (omega arith) c.run_of-i.ensures)
-
-pub loop-n-smaller : goal.loop-n-smaller
-loop-n-smaller c = omega (arith, laid_length _ _ c.loop-n.invariant.1)
 
 pub loop-n-preserved : goal.loop-n-preserved
 loop-n-preserved c =

@@ -1,11 +1,10 @@
 -- `words::collapsed_length` meets its contract. The loop's invariant: `n`, and how many bytes what stands from `i` on becomes, are how many there are.
 -- The measure is what is left of the value.
-use Prim.Native.Nat.{◌-◌}
 use mathlib.Core.Path.{ap}
 use native.Mathlib.Omega.{arith}
 use lib.ListN.{length}
 use Rattle.words.proofs.Collapsed.{collapsed_le, collapsed_part}
-use Rattle.words.proofs.Walk.{Turn, turn, count_go, count_end}
+use Rattle.words.proofs.Walk.{turn, count_go, count_end}
 use Rattle.words.proofs.collapsed_length.Goals as goal
 
 pub loop-i-init : goal.loop-i-init

@@ -1,30 +1,32 @@
--- `words::end_to_end` meets its contract: each early return is a test of the form that fails, and the last return has passed them all.
-use mathlib.Core.Path.{refl, ◌∙◌}
-use Rattle.text.proofs.Truths.{yes_of, no_of, pass, done}
+-- `words::end_to_end` meets its contract.
+use Rattle.std.proofs.Common.{◌≡◌, refl, [], ◌∷◌, length, ◌∙◌}
+use Rattle.text.specs.Truth.{all_of, between, every}
+use Rattle.text.specs.Classes.{text_set}
+use Rattle.text.proofs.Truths.{first_test, and_then, and_else}
+use Rattle.answers.proofs.Rules.{last_rule}
+use Rattle.words.specs.Collapsed.{collapsed}
 use Rattle.words.specs.EndToEnd.{end_to_end_form, end_to_end_given}
-use Rattle.words.proofs.Forms.{refuses, accepts, part_solid, part_fits, part_text, part_slashes}
+use Rattle.words.proofs.Forms.{part_solid, part_fits, part_text, part_slashes}
 use Rattle.words.proofs.end_to_end.Goals as goal
-
-pub returns-then-not-is_text : goal.returns-then-not-is_text
-unfolding end_to_end_given end_to_end_form
-returns-then-not-is_text c = refuses _ 0 (no_of (c.is_text.ensures ∙ part_text _ _ c.strip-p.ensures) c.if-not-is_text.true)
+use Rattle.words.proofs.end_to_end.Goals.{then-is_text, else-is_text, then-fits, else-fits}
 
 pub fits-requires : goal.fits-requires
 fits-requires c = part_solid c.args.s.now _ c.strip-p.ensures
 
-pub returns-then-not-fits : goal.returns-then-not-fits
-unfolding end_to_end_given end_to_end_form
-returns-then-not-fits c = refuses _ 1 (no_of (c.fits.ensures ∙ part_fits _ _ c.strip-p.ensures refl) c.if-not-fits.true)
-
-pub returns-then-not-slash_rule : goal.returns-then-not-slash_rule
-unfolding end_to_end_given end_to_end_form
-returns-then-not-slash_rule c = refuses _ 2 (no_of (c.slash_rule.ensures ∙ part_slashes _ _ c.strip-p.ensures) c.if-not-slash_rule.true)
-
 pub returns : goal.returns
 unfolding end_to_end_given end_to_end_form
 returns c =
+    let t = collapsed c.args.s.now in
     let part = c.strip-p.ensures in
-    accepts _
-    (pass _ _ _ (yes_of (c.is_text.ensures ∙ part_text _ _ part) c.if-not-is_text.false)
-    (pass _ _ _ (yes_of (c.fits.ensures ∙ part_fits _ _ part refl) c.if-not-fits.false)
-    (pass _ _ _ (yes_of (c.slash_rule.ensures ∙ part_slashes _ _ part) c.if-not-slash_rule.false) done)))
+    let f = first_test (c.is_text.ensures ∙ part_text _ _ part) in
+    let two : c.if-is_text.value ≡ all_of (every text_set t ∷ between 1 35 (length t) ∷ []) =
+    elim c.if-is_text.branch [
+      | then-is_text w ↦ and_then _ f w.if-is_text.true (w.value-is ∙ w.fits.ensures ∙ part_fits _ _ part refl)
+      | else-is_text w ↦ and_else _ f _ w.if-is_text.false w.value-is
+    ] in
+    let three : c.if-fits.require ≡ end_to_end_form t =
+    elim c.if-fits.branch [
+      | then-fits w ↦ and_then _ two w.if-fits.true (w.require-is ∙ w.slash_rule.ensures ∙ part_slashes _ _ part)
+      | else-fits w ↦ and_else _ two _ w.if-fits.false w.require-is
+    ] in
+    last_rule _ _ c.require.ensures three

@@ -1,36 +1,30 @@
--- `words::is_text` meets its contract. The loop's invariant: what stands from `i` on passes exactly where the whole does. The measure is what is left of the length.
-use Prim.Native.Nat.{◌-◌}
-use mathlib.Core.Path.{sym, ◌∙◌}
-use native.Mathlib.Omega.{arith}
+-- `words::is_text` meets its contract: the bytes of the class pass, and each of the others is asked.
+use Rattle.std.proofs.Common.{rules, tests, ap, ◌∙◌, ◌≤◌, ◌-◌, length, take, drop, arith}
+use Rattle.std.specs.List.{list_all}
+use Rattle.std.proofs.lemmas.Iterator.{YieldsList-from_slice}
+use Rattle.std.proofs.lemmas.Iterator.Search.{all_from_yields_List}
 use Rattle.text.specs.Classes.{text_set, in_class}
-use Rattle.text.proofs.Truths.{yes_of, no_of}
-use Rattle.text.proofs.Scan.{lead_le}
+use Rattle.text.proofs.Scan.{lead_le, rest_of}
 use Rattle.words.specs.Collapsed.{as_space}
 use Rattle.words.proofs.Forms.{space_text}
-use Rattle.words.proofs.Walk.{text_lead, text_go, text_stop, text_end}
+use Rattle.words.proofs.Walk.{counted_every, text_lead}
 use Rattle.words.proofs.is_text.Goals as goal
 
-pub loop-i-init : goal.loop-i-init
+pub slice_bounds-rest-count : goal.slice_bounds-rest-count
 unfolding in_class
-loop-i-init c =
-    let s = c.args.s.now in
-    (omega (arith, lead_le text_set s), text_lead text_set space_text s c.run_in-i.result c.run_in-i.ensures)
+slice_bounds-rest-count c = omega (arith, lead_le text_set c.args.s.now)
 
-pub loop-i-preserved : goal.loop-i-preserved
+pub slice_bounds-rest-start : goal.slice_bounds-rest-start
 unfolding in_class
-loop-i-preserved c =
-    let l = c.loop-i in
+slice_bounds-rest-start c =
     let s = c.args.s.now in
-    (omega arith, text_go text_set s l.i _ (omega arith) c.as_space.ensures (yes_of c.is_in.ensures c.if-is_in.true) ∙ l.invariant.1)
-
-pub returns-else-is_in : goal.returns-else-is_in
-unfolding in_class
-returns-else-is_in c =
-    let l = c.loop-i in
-    let s = c.args.s.now in
-    sym (text_stop text_set s l.i _ (omega arith) c.as_space.ensures (no_of c.is_in.ensures c.if-is_in.false)) ∙ l.invariant.1
+    let h : c.run_in.result ≤ length s = omega (arith, lead_le text_set s) in
+    search rules
 
 pub returns : goal.returns
+unfolding in_class
 returns c =
-    let l = c.loop-i in
-    sym (text_end text_set c.args.s.now l.i (omega arith)) ∙ l.invariant.1
+    let s = c.args.s.now in
+    let n = c.run_in.result in
+    all_from_yields_List (λ x. text_set (as_space x)) _ _ c.all.result c.all.ensures.ran (YieldsList-from_slice (take (length s - n) (drop n s)) cc) (λ x b q k. search (rules, tests))
+    ∙ ap (list_all (λ x. text_set (as_space x))) (rest_of n s) ∙ counted_every text_set (drop n s) ∙ text_lead text_set space_text s n c.run_in.ensures

@@ -1,30 +1,28 @@
--- `words::reference` meets its contract: each early return is a test of the form that fails, and the last return has passed them all.
-use Rattle.text.specs.Classes.{in_class}
-use Rattle.text.proofs.Truths.{between_of, yes_of, no_of, pass, done, between_under, between_over}
+-- `words::reference` meets its contract.
+use Rattle.std.proofs.Common.{◌≡◌, [], ◌∷◌, length, ◌∙◌}
+use Rattle.text.specs.Truth.{all_of, between, every}
+use Rattle.text.specs.Classes.{in_class, reference_set}
+use Rattle.text.proofs.Truths.{first_test, and_then, and_else}
+use Rattle.text.proofs.Chains.{range_between}
+use Rattle.answers.proofs.Rules.{last_rule}
 use Rattle.words.specs.Reference.{reference_form, reference_given}
-use Rattle.words.proofs.Forms.{refuses, accepts}
 use Rattle.words.proofs.reference.Goals as goal
-
-pub returns-then-s-lt1 : goal.returns-then-s-lt1
-unfolding reference_given reference_form
-returns-then-s-lt1 c = refuses _ 0 (between_under _ _ _ c.if-s-lt1.true)
-
-pub returns-then-s-gt35 : goal.returns-then-s-gt35
-unfolding reference_given reference_form
-returns-then-s-gt35 c = refuses _ 0 (between_over _ _ _ c.if-s-gt35.true)
-
-pub returns-then-not-all_in : goal.returns-then-not-all_in
-unfolding reference_given reference_form in_class
-returns-then-not-all_in c = refuses _ 1 (no_of c.all_in.ensures c.if-not-all_in.true)
-
-pub returns-then-not-slash_rule : goal.returns-then-not-slash_rule
-unfolding reference_given reference_form
-returns-then-not-slash_rule c = refuses _ 2 (no_of c.slash_rule.ensures c.if-not-slash_rule.true)
+use Rattle.words.proofs.reference.Goals.{then-contains, else-contains, then-all_in, else-all_in}
 
 pub returns : goal.returns
 unfolding reference_given reference_form in_class
 returns c =
-    accepts _
-    (pass _ _ _ (between_of _ _ _ c.if-s-lt1.false c.if-s-gt35.false)
-    (pass _ _ _ (yes_of c.all_in.ensures c.if-not-all_in.false)
-    (pass _ _ _ (yes_of c.slash_rule.ensures c.if-not-slash_rule.false) done)))
+    let s = c.args.s.now in
+    let r = c.new.ensures in
+    let f = first_test (c.contains.ensures.value ∙ range_between _ _ _ (length s) r.start r.end r.exhausted) in
+    let two : c.if-contains.value ≡ all_of (between 1 35 (length s) ∷ every reference_set s ∷ []) =
+    elim c.if-contains.branch [
+      | then-contains w ↦ and_then _ f w.if-contains.true (w.value-is ∙ w.all_in.ensures)
+      | else-contains w ↦ and_else _ f _ w.if-contains.false w.value-is
+    ] in
+    let three : c.if-all_in.require ≡ reference_form s =
+    elim c.if-all_in.branch [
+      | then-all_in w ↦ and_then _ two w.if-all_in.true (w.require-is ∙ w.slash_rule.ensures)
+      | else-all_in w ↦ and_else _ two _ w.if-all_in.false w.require-is
+    ] in
+    last_rule _ _ c.require.ensures three

@@ -1,30 +1,32 @@
--- `words::slash_rule` meets its contract: each early return is a test of the rule that fails, and the last return has passed them all.
-use mathlib.Core.Path.{ap, sym}
-use mathlib.Core.Bool.{not}
-use Rattle.text.proofs.Truths.{yes_of, no_of, fails, pass, done}
-use Rattle.words.specs.Reference.{slash_rule}
-use Rattle.words.proofs.Slashes.{no_slashes}
+-- `words::slash_rule` meets its contract: no slash first, none last, no two.
+use Rattle.std.proofs.Common.{◌≡◌, refl, ap, not, [], ◌∷◌, ◌∙◌}
+use Rattle.text.specs.Truth.{all_of, first, last}
+use Rattle.text.proofs.Truths.{first_test, and_then, and_else}
+use Rattle.words.specs.Reference.{slash, slash_rule}
+use Rattle.words.proofs.Slashes.{starts_slash, ends_slash}
 use Rattle.words.proofs.slash_rule.Goals as goal
+use Rattle.words.proofs.slash_rule.Goals.{then-not-starts_with, else-not-starts_with}
 
-pub returns-then-s-lt1 : goal.returns-then-s-lt1
-returns-then-s-lt1 c = sym (no_slashes _ c.if-s-lt1.true)
-
-pub returns-then-slash_at : goal.returns-then-slash_at
+pub returns-then-not-ends_with : goal.returns-then-not-ends_with
 unfolding slash_rule
-returns-then-slash_at c = sym (fails _ 0 (ap not (yes_of c.slash_at.ensures c.if-slash_at.true)))
+returns-then-not-ends_with c =
+    let s = c.args.s.now in
+    let f = first_test (ap not (c.starts_with.ensures.value ∙ starts_slash s)) in
+    let ends : c.if-not-starts_with.value ≡ all_of (not (slash (first s)) ∷ not (slash (last s)) ∷ []) =
+    elim c.if-not-starts_with.branch [
+      | then-not-starts_with w ↦ and_then _ f (ap not w.if-not-starts_with.true) (w.value-is ∙ ap not (w.ends_with.ensures.value ∙ ends_slash s))
+      | else-not-starts_with w ↦ and_else _ f _ (ap not w.if-not-starts_with.false) w.value-is
+    ] in
+    and_then _ ends c.if-not-ends_with.true (ap not c.two_slashes.ensures)
 
-pub returns-then-slash_at-2 : goal.returns-then-slash_at-2
+pub returns-else-not-ends_with : goal.returns-else-not-ends_with
 unfolding slash_rule
-returns-then-slash_at-2 c = sym (fails _ 1 (ap not (yes_of c.slash_at-2.ensures c.if-slash_at-2.true)))
-
-pub returns-then-two_slashes : goal.returns-then-two_slashes
-unfolding slash_rule
-returns-then-two_slashes c = sym (fails _ 2 (ap not (yes_of c.two_slashes.ensures c.if-two_slashes.true)))
-
-pub returns : goal.returns
-unfolding slash_rule
-returns c =
-    sym
-    (pass _ _ _ (ap not (no_of c.slash_at.ensures c.if-slash_at.false))
-    (pass _ _ _ (ap not (no_of c.slash_at-2.ensures c.if-slash_at-2.false))
-    (pass _ _ _ (ap not (no_of c.two_slashes.ensures c.if-two_slashes.false)) done)))
+returns-else-not-ends_with c =
+    let s = c.args.s.now in
+    let f = first_test (ap not (c.starts_with.ensures.value ∙ starts_slash s)) in
+    let ends : c.if-not-starts_with.value ≡ all_of (not (slash (first s)) ∷ not (slash (last s)) ∷ []) =
+    elim c.if-not-starts_with.branch [
+      | then-not-starts_with w ↦ and_then _ f (ap not w.if-not-starts_with.true) (w.value-is ∙ ap not (w.ends_with.ensures.value ∙ ends_slash s))
+      | else-not-starts_with w ↦ and_else _ f _ (ap not w.if-not-starts_with.false) w.value-is
+    ] in
+    and_else _ ends _ c.if-not-ends_with.false refl

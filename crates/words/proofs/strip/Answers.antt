@@ -14,17 +14,17 @@ slice_bounds-t-count c = omega (arith, lead_le blank c.args.s.now)
 pub slice_bounds-t-start : goal.slice_bounds-t-start
 slice_bounds-t-start c =
     let s = c.args.s.now in
-    let h : c.blanks-from.result ≤ length s = omega (arith, lead_le blank s) in
+    let h : c.blanks.result ≤ length s = omega (arith, lead_le blank s) in
     search rules
 
 pub slice_bounds-result-end : goal.slice_bounds-result-end
 slice_bounds-result-end c =
     let s = c.args.s.now in
-    let a = c.blanks-from in
-    part_long blank (take (length s - a.result) (drop a.result s)) c.reach-to.result c.reach-to.ensures
+    let a = c.blanks in
+    part_long blank (take (length s - a.result) (drop a.result s)) c.reach.result c.reach.ensures
 
 pub returns : goal.returns
 returns c =
     let s = c.args.s.now in
-    let a = c.blanks-from in
-    part_stripped blank s a.result c.reach-to.result a.ensures c.reach-to.ensures
+    let a = c.blanks in
+    part_stripped blank s a.result c.reach.result a.ensures c.reach.ensures

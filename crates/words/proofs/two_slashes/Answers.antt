@@ -1,25 +1,15 @@
--- `words::two_slashes` meets its contract. The loop's invariant: what stands from `i` on has two slashes exactly where the whole has.
-use Prim.Native.Nat.{◌-◌}
-use mathlib.Core.Path.{◌∙◌, sym}
-use mathlib.Core.Bool.{true, false}
-use native.Mathlib.Omega.{arith}
-use Rattle.text.proofs.Truths.{yes_of, no_of}
-use Rattle.words.proofs.Slashes.{two_next, two_end}
+-- `words::two_slashes` meets its contract: each byte is told beside the one behind it.
+use Rattle.std.proofs.Common.{rules, tests, ap, length, take, drop, ◌-◌, ◌∙◌}
+use Rattle.std.specs.List.{list_any, zip}
+use Rattle.text.proofs.Scan.{rest_of}
+use Rattle.std.proofs.lemmas.Iterator.{YieldsList-from_slice, YieldsList-from_zip}
+use Rattle.std.proofs.lemmas.Iterator.Search.{any_from_yields_List}
+use Rattle.words.proofs.Slashes.{side_by_side, two_pairs}
 use Rattle.words.proofs.two_slashes.Goals as goal
 
-pub returns-then-slashes_at : goal.returns-then-slashes_at
-returns-then-slashes_at c =
-    let l = c.loop-i in
+pub returns-then-not-is_empty : goal.returns-then-not-is_empty
+returns-then-not-is_empty c =
     let s = c.args.s.now in
-    sym (two_next s l.i true (omega arith) (yes_of c.slashes_at.ensures c.if-slashes_at.true)) ∙ l.invariant.1
-
-pub loop-i-preserved : goal.loop-i-preserved
-loop-i-preserved c =
-    let l = c.loop-i in
-    let s = c.args.s.now in
-    (omega arith, sym (two_next s l.i false (omega arith) (no_of c.slashes_at.ensures c.if-slashes_at.false)) ∙ l.invariant.1)
-
-pub returns : goal.returns
-returns c =
-    let l = c.loop-i in
-    sym (two_end c.args.s.now l.i (omega arith)) ∙ l.invariant.1
+    let t = take (length s - 1) (drop 1 s) in
+    any_from_yields_List side_by_side c.any.new.self _ c.any.result c.any.ensures.ran (YieldsList-from_zip (YieldsList-from_slice s cc) (YieldsList-from_slice t cc)) (λ x b q k. search (rules, tests))
+    ∙ ap (λ l. list_any side_by_side (zip s l)) (rest_of 1 s) ∙ two_pairs s

@@ -4,22 +4,17 @@ use Rattle.reading.specs.Noted.{on}
 use Rattle.notes.proofs.Notings.{first_type, same_type, other_type}
 use Rattle.notes.proofs.State.say_type.Goals as goal
 
-pub returns-then-first-eq0 : goal.returns-then-first-eq0
-returns-then-first-eq0 c =
+pub returns-in-None : goal.returns-in-None
+returns-in-None c =
     let a = c.args in
-    let t = c.type_number-said in
-    c.read_on.ensures ∙ ap on c.with_type.ensures ∙ first_type a.there t.result a.self.at a.self.notes t.ensures c.if-first-eq0.true
+    ap on c.with_type.ensures ∙ first_type a.there a.self.at a.self.notes c.in-None.is
 
-pub returns-then-first-said : goal.returns-then-first-said
-returns-then-first-said c =
+pub returns-then-first-there : goal.returns-then-first-there
+returns-then-first-there c =
     let a = c.args in
-    let t = c.type_number-said in
-    let i = c.type_refusal in
-    c.refuse_here.ensures
-    ∙ same_type a.there t.result a.self.at a.self.notes t.ensures c.if-first-eq0.false c.if-first-said.true i.result i.ensures
+    rw c.at.ensures (same_type a.there a.self.at a.self.notes c.in-Some.first c.in-Some.is c.if-first-there.true _ c.type_refusal.ensures)
 
-pub returns : goal.returns
-returns c =
+pub returns-else-first-there : goal.returns-else-first-there
+returns-else-first-there c =
     let a = c.args in
-    let t = c.type_number-said in
-    c.read_on-2.ensures ∙ other_type a.there t.result a.self.at a.self.notes t.ensures c.if-first-eq0.false c.if-first-said.false
+    other_type a.there a.self.at a.self.notes c.in-Some.first c.in-Some.is c.if-first-there.false

@@ -1,9 +1,11 @@
 -- `notes::State::with_item` meets its contract.
 use borrow.Author.Tests.{eq-eqb, ne_eqb}
 use Rattle.notes.proofs.State.with_item.Goals as goal
-
-pub returns-then-before-eq0 : goal.returns-then-before-eq0
-returns-then-before-eq0 c = rw (eq-eqb _ 0 c.if-before-eq0.true)
+use Rattle.notes.proofs.State.with_item.Goals.{then-self-eq0, else-self-eq0}
 
 pub returns : goal.returns
-returns c = rw (ne_eqb _ 0 c.if-before-eq0.false)
+returns c =
+    elim c.if-self-eq0.branch [
+      | then-self-eq0 w ↦ rw (w.self-is, eq-eqb c.args.self.notes.count 0 w.if-self-eq0.true)
+      | else-self-eq0 w ↦ rw (w.self-is, ne_eqb c.args.self.notes.count 0 w.if-self-eq0.false)
+    ]

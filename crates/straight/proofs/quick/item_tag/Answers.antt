@@ -1,5 +1,6 @@
 -- `straight::quick::item_tag` meets its contract.
 use Rattle.std.proofs.Common.{◌+◌, [], arith}
+use Rattle.std.proofs.lemmas.Option.{IfSome_then}
 use Rattle.straight.proofs.Groups.{sought_at, sought_within}
 use Rattle.straight.proofs.Begins.{item_begins_lem}
 use Rattle.straight.proofs.quick.item_tag.Goals as goal
@@ -21,4 +22,4 @@ returns c =
     let a = c.args in
     let s = c.spaces in
     let m = a.m.now in
-    (c.here.ensures.0, item_begins_lem m a.at (a.at + s.result) c.here.result (sought_at m [] a.at s.result c.requires s.ensures) c.here.ensures.1)
+    IfSome_then c.here.result c.here.ensures (λ r e. (e.within, item_begins_lem m a.at (a.at + s.result) r (sought_at m [] a.at s.result c.requires s.ensures) e))

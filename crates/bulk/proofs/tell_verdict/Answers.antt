@@ -1,8 +1,0 @@
--- `bulk::tell_verdict` meets its contract.
-use Rattle.bulk.proofs.tell_verdict.Goals as goal
-
-pub returns-in-Accepted : goal.returns-in-Accepted
-returns-in-Accepted c = rw c.in-Accepted.is
-
-pub returns-in-Refused : goal.returns-in-Refused
-returns-in-Refused c = rw c.in-Refused.is

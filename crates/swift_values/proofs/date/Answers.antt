@@ -1,8 +1,0 @@
--- `swift_values::date` meets its contract.
-use Rattle.swift_values.proofs.date.Goals as goal
-
-pub returns-then-r-eq0 : goal.returns-then-r-eq0
-returns-then-r-eq0 c = (c.plain.ensures.0, c.plain.ensures.1)
-
-pub returns : goal.returns
-returns c = (c.quick_date-r.ensures.0, c.quick_date-r.ensures.1)

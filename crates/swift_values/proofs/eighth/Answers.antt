@@ -1,6 +1,0 @@
--- `swift_values::eighth` meets its contract.
-use Rattle.swift_values.proofs.Bics.{eighth_no}
-use Rattle.swift_values.proofs.eighth.Goals as goal
-
-pub returns : goal.returns
-returns c = eighth_no c.args.wider c.args.c

@@ -1,6 +1,0 @@
--- `swift_values::in_bic` meets its contract.
-use mathlib.Core.Path.{refl}
-use Rattle.swift_values.proofs.in_bic.Goals as goal
-
-pub returns : goal.returns
-returns c = rw (c.in_cap.ensures, c.lowest.ensures) refl

@@ -1,6 +1,0 @@
--- `swift_values::ranged` meets its contract.
-use Rattle.swift_values.proofs.Ibans.{ranges}
-use Rattle.swift_values.proofs.ranged.Goals as goal
-
-pub returns : goal.returns
-returns c = ranges c.pair-n.result _ c.pair-n.ensures
