@@ -141,7 +141,7 @@ fn length_of(a: u8, b: u8) -> u8
     requires { (65 ≤ a) × (a ≤ 90) × (65 ≤ b) × (b ≤ 90) }
     ensures { result ≡ length_of (a ∷ b ∷ []) }
 {
-    entry(26 * (a - b'A') as usize + (b - b'A') as usize)
+    entry(26 * usize::from(a - b'A') + usize::from(b - b'A'))
 }
 
 // Whether an IBAN is as long as its country's are.
@@ -149,7 +149,7 @@ fn is_long(s: &[u8]) -> bool
     requires { iban_form s.now ≡ true }
     ensures { result ≡ iban_length s.now }
 {
-    s.len() == length_of(s[0], s[1]) as usize
+    s.len() == usize::from(length_of(s[0], s[1]))
 }
 
 // An IBAN: yes, or 7, or 19, or 8.

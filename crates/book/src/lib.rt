@@ -24,6 +24,7 @@ pub struct Entry {
 
 // The number open and the open total, which are stored beside the list.
 // (C lends the whole list, and its places past the open ones keep what they held: so the number stands beside it, and no shorter slice.)
+// (And C lends the two apart, so functions take both: a struct of two loans would have to say in each contract that it holds the same ones still.)
 #[derive(Clone, Copy)]
 pub struct Numbers {
     pub opened: usize,

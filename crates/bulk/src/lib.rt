@@ -40,7 +40,7 @@ use words::Field;
 fn tell_refused(r: Refused, answer: &mut [u64; 3])
     ensures { answer.new ≡ refusal_number r.why ∷ r.at ∷ 0 ∷ [] }
 {
-    *answer = [r.why.number() as u64, r.at as u64, 0];
+    *answer = [u64::from(r.why.number()), r.at as u64, 0];
 }
 
 // Writes the three words of a checker that says yes.
@@ -268,7 +268,7 @@ fn tell_is(sum: Result<u64, Refused>, total: u64, answer: &mut [u64; 3])
 {
     match sum {
         Ok(cents) if total == cents => *answer = [0, 0, 0],
-        _ => *answer = [Refusal::NoBook.number() as u64, 0, 0],
+        _ => *answer = [u64::from(Refusal::NoBook.number()), 0, 0],
     }
 }
 
@@ -370,7 +370,18 @@ fn tell_played(p: Result<Played, Refused>, answer: &mut [u64; 10])
             let [a, b, c, d, e, f, g, h] = p.table;
             *answer = [0, p.records as u64, a, b, c, d, e, f, g, h];
         }
-        Err(r) => *answer = [r.why.number() as u64, r.at as u64, 0, 0, 0, 0, 0, 0, 0, 0],
+        Err(r) => *answer = [
+            u64::from(r.why.number()),
+            r.at as u64,
+            0,
+            0,
+            0,
+            0,
+            0,
+            0,
+            0,
+            0,
+        ],
     }
 }
 

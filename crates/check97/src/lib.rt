@@ -73,9 +73,9 @@ impl Group {
         ensures { result % 97 ≡ followed_by self (spell c) % 97 }
     {
         match c {
-            b'0'..=b'9' => self.joined(10, (c - b'0') as u32),
-            b'A'..=b'Z' => self.joined(100, (c - b'A') as u32 + 10),
-            b'a'..=b'z' => self.joined(100, (c - b'a') as u32 + 10),
+            b'0'..=b'9' => self.joined(10, u32::from(c - b'0')),
+            b'A'..=b'Z' => self.joined(100, u32::from(c - b'A') + 10),
+            b'a'..=b'z' => self.joined(100, u32::from(c - b'a') + 10),
             _ => self,
         }
     }

@@ -8,11 +8,14 @@ use native.Mathlib.Numerals.{add-one}
 use lib.Dec.{eqb}
 use lib.Pointwise.{pointwise}
 use denote.Ref.{Bor}
-use Rattle.std.specs.Prelude.{Option, Some, None}
+use Rattle.std.specs.Prelude.{Option, Some, None, Result}
+use Rattle.std.specs.Option.{ok_or}
 use Rattle.std.specs.List.{position_from}
 use Rattle.text.specs.Quoted.{bytes, alike, is}
 use Rattle.text.proofs.Chains.{alike_pointwise}
-use Rattle.answers.specs.Given.{Given, worth, refused}
+use Rattle.answers.specs.declared.Refusal.{Refusal}
+use Rattle.answers.specs.declared.Refusal.TheVariants.{Unlisted}
+use Rattle.answers.specs.Given.{Given, worth, refused, given_worth}
 use Rattle.codes.specs.Listed.{or_else, place}
 
 -- a code of the slice is the value
@@ -22,6 +25,11 @@ meets s t = pointwise eqb t.now s
 abbrev pub told : Option ℕ → Given
 told (Some n) = worth n
 told None = refused 10
+
+-- the place, or why it is refused, tells the same
+pub told_as : (o : Option ℕ) (g : Result ℕ Refusal) → ok_or o Unlisted ≡ g → told o ≡ given_worth g
+told_as None g e = ap given_worth e
+told_as (Some n) g e = ap given_worth e
 
 one : (b : Bool) (i : ℕ) (o : Option ℕ) (g : Given) → told o ≡ g → told (cond b (Some i) o) ≡ or_else b i g
 one true i o g e = refl

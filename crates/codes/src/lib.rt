@@ -35,8 +35,9 @@ fn codes_of(e: Element) -> &'static [&'static [u8]]
 pub fn code(e: Element, s: &[u8]) -> Result<u64, Refusal>
     ensures { given_worth result ≡ code_given e s.now }
 {
-    match codes_of(e).iter().position(|t| *t == s) {
-        Some(i) => Ok(i as u64),
-        None => Err(Refusal::Unlisted),
-    }
+    let i = codes_of(e)
+        .iter()
+        .position(|t| *t == s)
+        .ok_or(Refusal::Unlisted)?;
+    Ok(i as u64)
 }

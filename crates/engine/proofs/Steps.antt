@@ -11,7 +11,7 @@ use Rattle.text.specs.Truth.{lead}
 use Rattle.text.proofs.Scan.{rest_of, lead_le}
 use Rattle.tags.specs.declared.Look.{Look}
 use Rattle.tags.specs.declared.Look.TheVariants.{Whole, Cut, Other}
-use Rattle.tags.specs.Tags.{white, skipped, look, exactly, end_tag}
+use Rattle.tags.specs.Tags.{white, skipped, look, on_look, exactly, end_tag}
 use Rattle.tags.specs.Values.{in_value, value_at}
 use Rattle.tags.proofs.Looks.{look_fits, exactly_length}
 use Rattle.profile.specs.declared.Kind.{Kind}
@@ -171,3 +171,19 @@ module _ (m : List ℕ) (p : ℕ) (ns : Notes) (g : Good m (here p ns)) (t : Lis
       pub value_closes : (a : Ended Notes) → a ≡ here s.at (added_up k s.notes) → (u : Ended Notes) → u ≡ here (p + n) a.notes
           → (x : Found) → x ≡ reads (closed_by t m u.at) u.notes → Fine m u.at x → Values x
       value_closes a q u b x z y = (z ∙ (rw (b, q) (goes_on (on s) w)), later m p (p + n) (omega arith) x (rw b at y))
+
+-- ---- what the code asks of how a tag lies: it goes on where that lies whole
+module _ (n p : ℕ) (s : Ended Notes) where
+  abbrev Asked : Look → Found
+  Asked l = on_look l (on s) (stop 3 n) (stop 4 p)
+
+  pub lies_whole : (l : Look) → on s ≡ Asked l → l ≡ Whole
+  lies_whole Whole e = refl
+  lies_whole Cut e = never (cc)
+  lies_whole Other e = never (cc)
+
+  -- what is refused: to show P of it, it is shown of either
+  pub lies_not : (P : Found → Type 0) (l : Look) (i q : ℕ) → stop i q ≡ Asked l → (l ≡ Cut → P (stop 3 n)) → (l ≡ Other → P (stop 4 p)) → P (stop i q)
+  lies_not P Whole i q e f g = never (cc)
+  lies_not P Cut i q e f g = rw e (f refl)
+  lies_not P Other i q e f g = rw e (g refl)

@@ -1,5 +1,7 @@
 -- What an engine reads, and what it answers, whatever leads it.
-use Rattle.std.specs.Prelude.{ℕ, suc, ◌+◌, Bool, List, length, drop, get_or, set, leb, ltb}
+use Rattle.std.specs.Prelude.{ℕ, suc, ◌+◌, Bool, List, length, drop, get_or, set, leb, ltb, Result, Ok, Err}
+use Rattle.answers.specs.declared.Refused.{Refused}
+use Rattle.answers.specs.Refusals.{refusal_number}
 use Rattle.text.specs.Truth.{both, pick}
 use Rattle.tags.specs.Tags.{look, on_look}
 use Rattle.tags.specs.Values.{value_at, behind_value}
@@ -16,6 +18,11 @@ use Rattle.items.specs.Alone.{alone}
 use Rattle.notes.specs.declared.Notes.{Notes}
 use Rattle.notes.specs.Notes.{fresh, in_notes}
 use Rattle.notes.specs.Steps.{reads}
+
+-- on from s, where nothing is refused
+abbrev pub going_on : Ended Notes → Result (Unit {0}) Refused → Reading (Ended Notes)
+going_on s (Ok u) = on s
+going_on s (Err r) = stop (refusal_number r.why) r.at
 
 -- an end tag that is due at a place
 unfoldable pub closed_by : List (ℕ → Bool) → List ℕ → ℕ → Trace

@@ -63,7 +63,8 @@ pub struct Survey {
 }
 
 impl Survey {
-    // Where the last value of a field begins, 0 where there is none. (No Option: keys' `key_from` and records' `own_or` go on by the number, 0 too.)
+    // Where the last value of a field begins, 0 where there is none.
+    // (No Option: this public promise may not change, nor the meaning of `field_at`, in specs/ of keys, which goes on by the number, 0 too.)
     pub fn start_of(&self, f: Field) -> usize
         ensures { result ≡ get_or self.now.starts (field_number f) 0 }
     {

@@ -31,7 +31,7 @@ fn number(s: &[u8]) -> u64
 {
     let mut n = 0;
     for c in s {
-        n = n * 10 + (*c - b'0') as u64;
+        n = n * 10 + u64::from(*c - b'0');
     }
     n
 }

@@ -3,7 +3,7 @@ use mathlib.Core.Path.{◌≡◌, refl, ap}
 use mathlib.Core.Bool.{Bool, true, false, beq}
 use mathlib.Core.List.{List}
 use Prim.Native.Nat.{ℕ, ◌<◌, ◌≤◌}
-use borrow.Author.Tests.{eq-eqb, ne_eqb, lt-ltb, le-ltb}
+use borrow.Author.Tests.{lt-ltb, le-ltb}
 use Rattle.std.specs.Prelude.{Result, Ok, Err, Option, None, Some}
 use Rattle.std.specs.Result.{MatchResult, IsErrAnd}
 use Rattle.std.specs.Option.{unwrap_or}
@@ -20,7 +20,7 @@ use Rattle.reading.specs.Noted.{Reading, on, stop, onward, Ended}
 use Rattle.reading.proofs.Flat.{never}
 use Rattle.notes.specs.declared.Notes.{Notes}
 use Rattle.notes.specs.declared.State.{State}
-use Rattle.notes.specs.Notes.{on_given, with_item, with_type, with_service, with_start, may_follow, service_kept, kept, value_noted, item_noted, type_refusal, unsaid, said_by, type_noted}
+use Rattle.notes.specs.Notes.{on_given, with_item, with_type, with_start, kept, value_noted, item_noted, type_refusal, unsaid, said_by, type_noted}
 use Rattle.notes.specs.Steps.{staying}
 
 abbrev pub here : ℕ → Notes → Ended Notes
@@ -62,24 +62,6 @@ module _ (b : Bool) (p : ℕ) (n : Notes) where
         go true false g h = rw h
         go false true g h = rw h
         go false false g h = never (cc)
-
--- ---- the service
-module _ (i p : ℕ) (n : Notes) where
-  pub same_service : unwrap_or n.service i ≡ i → on (here p (with_service i n)) ≡ staying p (service_kept i p n)
-  unfolding service_kept
-  same_service h = go n.service h
-    where
-      go : (o : Option ℕ) → unwrap_or o i ≡ i → on (here p (with_service i n)) ≡ staying p (pick (may_follow o i) (on (with_service i n)) (stop 11 p))
-      go None h = refl
-      go (Some j) h = rw (eq-eqb j i h)
-
-  pub other_service : (unwrap_or n.service i ≡ i → ⊥) → stop 11 p ≡ staying p (service_kept i p n)
-  unfolding service_kept
-  other_service h = go n.service h
-    where
-      go : (o : Option ℕ) → (unwrap_or o i ≡ i → ⊥) → stop 11 p ≡ staying p (pick (may_follow o i) (on (with_service i n)) (stop 11 p))
-      go None h = absurd (h refl)
-      go (Some j) h = rw (ne_eqb j i h)
 
 -- ---- a value judged, and then noted: j is what its checker says, and m the same with the place
 module _ (k : Kind) (f : Field) (v : List ℕ) (p : ℕ) (n : Notes) (j : Result (Option ℕ) Refusal) (e : given_any j ≡ kind_given k v)

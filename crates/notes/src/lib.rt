@@ -5,7 +5,7 @@ ghost use Rattle.std.specs.Prelude.{◌≡◌, ◌<◌, Some};
 ghost use Rattle.profile.specs.Limits.{most_items};
 ghost use Rattle.answers.specs.Refusals.{refusal_number};
 ghost use Rattle.notes.specs.Notes.{fresh, with_item, with_number, with_total, with_type, with_cents, with_sum, with_service, with_start};
-ghost use Rattle.notes.specs.Notes.{service_kept, coded, kept, value_noted, item_noted, type_refusal, type_noted};
+ghost use Rattle.notes.specs.Notes.{may_follow, service_kept, coded, kept, value_noted, item_noted, type_refusal, type_noted};
 ghost use Rattle.notes.specs.Steps.{stated, stepped, staying};
 
 use answers::{Refusal, Refused};
@@ -21,6 +21,7 @@ pub struct Notes {
     // The cents of the last item.
     pub cents: u64,
     // What the header says: NbOfTxs and where its value begins, the total and where its value begins.
+    // (No struct of a number and its place: the definitions `with_number` and `with_total` name these four.)
     pub number: u64,
     pub numberat: u32,
     pub total: u64,
@@ -29,8 +30,8 @@ pub struct Notes {
     pub typed: Option<bool>,
     // The items' LclInstrm: its place in its list.
     pub service: Option<u64>,
-    // Where the last value of each field begins; 0 for none, since they are told as a row of plain numbers (fixed memory).
-    // An array and no struct of its own: the definitions of specs/ name the list `starts`.
+    // Where the last value of each field begins, 0 where there is none.
+    // (Numbers and no Options: the definition `own_or` goes on by 0. An array and no struct: the definitions name the list `starts`.)
     pub starts: [u32; profile::FIELDS],
 }
 
@@ -94,7 +95,7 @@ impl State {
         self
     }
 
-    // What the header says of the count, at the state's place. (Not one function with `with_total`: each writes two fields of its own.)
+    // What the header says of the count, at the state's place. (One function with `with_total` would have to be told which two fields it writes, and be longer than both.)
     fn with_number(mut self, n: u64) -> State
         ensures { stated result ≡ record { at = self.at; notes = with_number n self.at self.notes } }
     {
@@ -180,11 +181,18 @@ fn type_refusal(there: bool) -> Refusal
     }
 }
 
+// Whether an item's LclInstrm may stand where another stood first, or none.
+pub fn may_follow(first: Option<u64>, listed: u64) -> bool
+    ensures { result ≡ may_follow first listed }
+{
+    first.unwrap_or(listed) == listed
+}
+
 // The first item's LclInstrm, or the same again; else 11.
 fn keep_service(i: u64, st: State) -> Result<State, Refused>
     ensures { stepped result ≡ staying st.at (service_kept i st.at st.notes) }
 {
-    if st.notes.service.unwrap_or(i) == i {
+    if may_follow(st.notes.service, i) {
         Ok(st.with_service(i))
     } else {
         Err(Refusal::OtherInstrument.at(st.at as usize))

@@ -35,7 +35,7 @@ pub struct Piece<'a> {
     pub next: &'a [u8],
 }
 
-// How many bytes the tag at the beginning of s has: up to its `>`.
+// How many bytes the tag at the beginning of s has: up to its `>`. (A `map_or` would be no plainer: its closure needs a `requires` for the sum.)
 fn tag_length(s: &[u8]) -> usize
     ensures { result ≡ length (tag_of s.now) }
 {
@@ -174,7 +174,8 @@ fn lay(p: Piece, part: &mut [u8])
     spell(p.spelling, p.value, behind);
 }
 
-// How many bytes all pieces of s have in the plain form: each begins where the one before it ends, at no fixed step.
+// How many bytes all pieces of s have in the plain form.
+// (By what is left of s: for a `for`, an iterator of pieces would be a type with contracts of its own, and longer than both loops.)
 fn measure(s: &[u8]) -> usize
     requires { length (pieces s.now) ≤ most_bytes }
     ensures { result ≡ length (pieces s.now) }
@@ -189,7 +190,8 @@ fn measure(s: &[u8]) -> usize
     n
 }
 
-// All pieces of s, each written into its part of the area, behind the one before it: likewise at no fixed step.
+// All pieces of s, each written into its part of the area, behind the one before it.
+// (Likewise; n is no number of turns, but where a piece's part begins, which depends on the length of each piece before.)
 fn fill(s: &[u8], area: &mut [u8])
     requires { length (pieces s.now) ≤ length area.old }
     ensures { area.new ≡ pieces s.now ++ drop (length (pieces s.now)) area.old }

@@ -24,7 +24,6 @@ use Rattle.recording.specs.Record.{line_as}
 use Rattle.sums.specs.declared.Lot.{Lot}
 use Rattle.sums.specs.Sums.{lot_of}
 use Rattle.book.specs.declared.Entry.{Entry}
-use Rattle.book.specs.declared.Numbers.{Numbers}
 use Rattle.book.specs.Calls.{bulk_of, enter}
 use Rattle.book.specs.Stored.{kept}
 use Rattle.book.specs.Code.{in_range, lent}
@@ -32,10 +31,10 @@ use Rattle.play.specs.declared.Run.{Run}
 use Rattle.play.specs.Play.{Step, refuses, carried_on, enters_if, enters}
 use Rattle.play.specs.Code.{run_as}
 
--- a record's line, a run, and the book beside it
-module _ (line : Line) (run : Run) (l : List Entry) (n : Numbers) (m : List ℕ) where
+-- a record's line, a run, and the entries beside it
+module _ (line : Line) (run : Run) (l : List Entry) (m : List ℕ) where
   abbrev pub EntersIt : Step → Type 0
-  EntersIt s = s ≡ enters m (line_as (Some line)) (run_as l n run)
+  EntersIt s = s ≡ enters m (line_as (Some line)) (run_as l run)
 
   pub unfit : (r : Refused) → keyed_as (Err r) ≡ keyed m → EntersIt (refuses (refusal_number r.why))
   unfolding enters
@@ -60,7 +59,7 @@ module _ (line : Line) (run : Run) (l : List Entry) (n : Numbers) (m : List ℕ)
     bulk_is = rw (le-leb k.accepted.cents (most Total) (omega (arith, bulk_most m k.accepted.count k.accepted.cents judged-is)), ← is)
 
     pub same_key : alike k.key line.key ≡ true → (lot : Lot) → lot ≡ lot_of m → (s : Step)
-        → s ≡ carried_on (kept (enter (in_range (record { key = k.key; cents = k.accepted.cents }))) (lent l n)) (take n.opened run.lots ++ (lot ∷ [])) (run.taken + 1) line.instant
+        → s ≡ carried_on (kept (enter (in_range (record { key = k.key; cents = k.accepted.cents }))) (lent l run.numbers)) (take run.numbers.opened run.lots ++ (lot ∷ [])) (run.taken + 1) line.instant
         → EntersIt s
     unfolding enters
     same_key f lot g s w = go (keyed m).verdict (sym verdict_is)
@@ -68,8 +67,8 @@ module _ (line : Line) (run : Run) (l : List Entry) (n : Numbers) (m : List ℕ)
         same : alike (keyed m).key line.key ≡ true
         same = ap (λ (x : List ℕ). alike x line.key) (sym key_is) ∙ f
 
-        it : s ≡ carried_on (kept (enter (bulk_of (keyed m))) (lent l n)) (take n.opened run.lots ++ (lot_of m ∷ [])) (suc run.taken) line.instant
+        it : s ≡ carried_on (kept (enter (bulk_of (keyed m))) (lent l run.numbers)) (take run.numbers.opened run.lots ++ (lot_of m ∷ [])) (suc run.taken) line.instant
         it = rw (← bulk_is, ← g, ← add-one run.taken) w
 
-        go : (v : Judged) → v ≡ accepted k.accepted.count k.accepted.cents → s ≡ enters_if v m (line_as (Some line)) (run_as l n run)
+        go : (v : Judged) → v ≡ accepted k.accepted.count k.accepted.cents → s ≡ enters_if v m (line_as (Some line)) (run_as l run)
         go v y = rw (y, same) it

@@ -1,11 +1,11 @@
 -- The loop over the records, and the whole run.
 use mathlib.Core.Path.{◌≡◌, refl, sym, ap, ◌∙◌}
-use mathlib.Core.List.{List, [], ◌∷◌, ◌++◌}
+use mathlib.Core.List.{List}
 use Prim.Native.Nat.{ℕ, suc, ◌+◌, ◌-◌, ◌≤◌, ◌<◌}
 use native.Mathlib.Numerals.{add-one}
 use native.Mathlib.Omega.{arith}
 use borrow.Author.Tests.{le-ltb, lt-ltb, le-leb, lt-leb}
-use lib.ListN.{length, take, drop, replicate, length-replicate}
+use lib.ListN.{length, take, replicate, length-replicate}
 use Rattle.std.proofs.Common.{Option, Ok, Err}
 use Rattle.answers.specs.declared.Refused.{Refused}
 use Rattle.answers.specs.declared.Refusal.TheVariants.{OtherMessage, ShortIndex, NoBook}
@@ -18,7 +18,6 @@ use Rattle.accounts.specs.Lengths.{in_one}
 use Rattle.book.specs.declared.Entry.{Entry}
 use Rattle.book.specs.declared.Numbers.{Numbers}
 use Rattle.book.specs.Book.{most_open}
-use Rattle.book.specs.Stored.{Stored}
 use Rattle.book.specs.Code.{lent}
 use Rattle.sums.specs.declared.Lot.{Lot}
 use Rattle.play.specs.declared.Run.{Run}
@@ -29,68 +28,68 @@ use Rattle.play.specs.Play as paper
 use Rattle.play.specs.Code.{run_as, stepped, Sound, in_rows, played_as, FreshIndex}
 
 -- ---- after the last record
-module _ (run : Run) (l : List Entry) (n : Numbers) (ends : List ℕ) (i : ℕ) where
-  pub left_over : run.taken < length ends → played_as l n (Err (record { why = OtherMessage; at = i })) ≡ ended ends i (run_as l n run)
+module _ (run : Run) (l : List Entry) (ends : List ℕ) (i : ℕ) where
+  pub left_over : run.taken < length ends → played_as l run.numbers (Err (record { why = OtherMessage; at = i })) ≡ ended ends i (run_as l run)
   left_over h = rw (lt-ltb run.taken (length ends) h)
 
   flat_rows : (a : List Lot) → in_rows (in_one (table_of a)) ≡ table_of a
   unfolding table_of
   flat_rows a = refl
 
-  pub all_taken : length ends ≤ run.taken → (t : List ℕ) → t ≡ in_one (table_of (take n.opened run.lots))
-      → played_as l n (Ok (record { records = i; table = t })) ≡ ended ends i (run_as l n run)
-  all_taken h t e = rw (e, le-ltb run.taken (length ends) h, flat_rows (take n.opened run.lots)) refl
+  pub all_taken : length ends ≤ run.taken → (t : List ℕ) → t ≡ in_one (table_of (take run.numbers.opened run.lots))
+      → played_as l run.numbers (Ok (record { records = i; table = t })) ≡ ended ends i (run_as l run)
+  all_taken h t e = rw (e, le-ltb run.taken (length ends) h, flat_rows (take run.numbers.opened run.lots)) refl
 
 -- ---- so many records are carried out, and playing on from here is playing from the start
 module _ (recording buffer ends : List ℕ) (start : List Entry) where
   abbrev from : ℕ → ℕ → paper.Run → paper.Played
   from = play_from recording buffer ends
 
-  pub record Playing (n : ℕ) (index₀ index : List ℕ) (l : List Entry) (s : Numbers) (run : Run) (i : ℕ) : Type 0 where
-    pub sound : Sound s run
+  pub record Playing (n : ℕ) (index₀ index : List ℕ) (l : List Entry) (run : Run) (i : ℕ) : Type 0 where
+    pub sound : Sound run
     pub same : index ≡ index₀
-    pub is : from (n - i) i (run_as l s run) ≡ played recording buffer ends start
+    pub is : from (n - i) i (run_as l run) ≡ played recording buffer ends start
 
-  pub playing_begins : (n : ℕ) → n ≡ records recording → (index : List ℕ) (s : Numbers) (run : Run) → run_as start s run ≡ emptied start → Sound s run → Playing n index index start s run 0
+  pub playing_begins : (n : ℕ) → n ≡ records recording → (index : List ℕ) (run : Run) → run_as start run ≡ emptied start → Sound run → Playing n index index start run 0
   unfolding played
-  playing_begins n e index s run f h =
+  playing_begins n e index run f h =
       let z : n - 0 ≡ records recording = omega (arith, e) in
       record { sound = h; same = refl; is = rw (z, f) }
 
-  module _ (n : ℕ) (index₀ index : List ℕ) (l : List Entry) (s : Numbers) (run : Run) (i : ℕ) (p : Playing n index₀ index l s run i) where
-    pub playing_ends : i ≡ n → ended ends n (run_as l s run) ≡ played recording buffer ends start
+  module _ (n : ℕ) (index₀ index : List ℕ) (l : List Entry) (run : Run) (i : ℕ) (p : Playing n index₀ index l run i) where
+    pub playing_ends : i ≡ n → ended ends n (run_as l run) ≡ played recording buffer ends start
     unfolding play_from
     playing_ends h =
         let z : n - i ≡ 0 = omega arith in
         rw (← h) (rw z at p.is)
 
-    module _ (h : i < n) (said : Option Line) (e : line_as said ≡ line_of (record_at recording i)) (l' : List Entry) (s' : Numbers) where
+    module _ (h : i < n) (said : Option Line) (e : line_as said ≡ line_of (record_at recording i)) (l' : List Entry) where
       left : n - i ≡ suc (n - (i + 1))
       left = omega arith
 
-      here : go_on (step buffer ends (record_at recording i) (run_as l s run)) i (run_as l s run) (from (n - (i + 1)) (suc i)) ≡ played recording buffer ends start
+      here : go_on (step buffer ends (record_at recording i) (run_as l run)) i (run_as l run) (from (n - (i + 1)) (suc i)) ≡ played recording buffer ends start
       unfolding play_from
       here = rw left at p.is
 
-      steps : (x : Step) → x ≡ step_of buffer ends (line_as said) (run_as l s run) → x ≡ step buffer ends (record_at recording i) (run_as l s run)
+      steps : (x : Step) → x ≡ step_of buffer ends (line_as said) (run_as l run) → x ≡ step buffer ends (record_at recording i) (run_as l run)
       unfolding step
       steps x w = rw (← e) w
 
-      pub playing_on : (next : Run) → stepped l' s' (Ok next) ≡ step_of buffer ends (line_as said) (run_as l s run) → Sound s' next → (index' : List ℕ) → index' ≡ index → Playing n
-          index₀ index' l' s' next (i + 1)
+      pub playing_on : (next : Run) → stepped l' (Ok next) ≡ step_of buffer ends (line_as said) (run_as l run) → Sound next → (index' : List ℕ) → index' ≡ index → Playing n
+          index₀ index' l' next (i + 1)
       playing_on next w g index' f =
           record {
             sound = g;
             same = f ∙ p.same;
-            is = ap (λ (x : ℕ). from (n - (i + 1)) x (run_as l' s' next)) (add-one i)
-                ∙ (ap (λ (x : Step). go_on x i (run_as l s run) (from (n - (i + 1)) (suc i))) (steps (stepped l' s' (Ok next)) w) ∙ here);
+            is = ap (λ (x : ℕ). from (n - (i + 1)) x (run_as l' next)) (add-one i)
+                ∙ (ap (λ (x : Step). go_on x i (run_as l run) (from (n - (i + 1)) (suc i))) (steps (stepped l' (Ok next)) w) ∙ here);
           }
 
-      pub playing_stops : (q : Refused) → stepped l' s' (Err q) ≡ step_of buffer ends (line_as said) (run_as l s run) → lent l' s' ≡ lent l s
-          → played_as l' s' (Err (record { why = q.why; at = i })) ≡ played recording buffer ends start
+      pub playing_stops : (q : Refused) → stepped l' (Err q) ≡ step_of buffer ends (line_as said) (run_as l run) → l' ≡ l
+          → played_as l' run.numbers (Err (record { why = q.why; at = i })) ≡ played recording buffer ends start
       playing_stops q w g =
-          ap (λ (x : Stored). as_lent (refusal_number q.why) i x) g
-          ∙ (ap (λ (x : Step). go_on x i (run_as l s run) (from (n - (i + 1)) (suc i))) (steps (stepped l' s' (Err q)) w) ∙ here)
+          ap (λ (x : List Entry). as_lent (refusal_number q.why) i (lent x run.numbers)) g
+          ∙ (ap (λ (x : Step). go_on x i (run_as l run) (from (n - (i + 1)) (suc i))) (steps (stepped l' (Err q)) w) ∙ here)
 
 -- ---- with an index, on a book of so many places
 module _ (index recording buffer ends : List ℕ) (l : List Entry) (s : Numbers) where

@@ -5,26 +5,24 @@ use mathlib.Core.List.{List, [], ◌∷◌, ◌++◌}
 use Prim.Native.Nat.{ℕ, zero, suc, ◌+◌, ◌-◌, ◌≤◌, ◌<◌}
 use native.Mathlib.Numerals.{add-one}
 use native.Mathlib.Omega.{arith}
-use borrow.Author.Tests.{ltb-true}
 use lib.ListN.{length, take, drop, set, length-take, length-set}
 use lib.Seq.{take_at, length-take-le}
 use Rattle.std.proofs.Common.{Some, None, Result, Ok, Err, OnErr}
 use Rattle.std.specs.List.{copy_within}
-use Rattle.text.specs.Truth.{pick}
 use Rattle.text.proofs.Truths.{never}
 use Rattle.answers.specs.declared.Refused.{Refused}
 use Rattle.answers.specs.Refusals.{refusal_number}
 use Rattle.sums.specs.declared.Lot.{Lot}
 use Rattle.book.specs.declared.Entry.{Entry}
 use Rattle.book.specs.declared.Numbers.{Numbers}
-use Rattle.book.specs.Book.{Key, most_open, is_open, first_at, cents_of}
-use Rattle.book.specs.Calls.{Told, done, refusal, Call, enter, withdraw}
+use Rattle.book.specs.Book.{Key, most_open, is_open, first_at}
+use Rattle.book.specs.Calls.{done, refusal, enter, withdraw}
 use Rattle.book.specs.Stored.{Stored, Carried, kept}
 use Rattle.book.specs.Code.{in_range, lent, leaves, place_in, left_out}
-use Rattle.book.proofs.Lists.{open_first, found, closed_up}
+use Rattle.book.proofs.Lists.{found, closed_up}
 use Rattle.play.specs.declared.Run.{Run}
 use Rattle.play.specs.Play.{on, refuses, carried_on}
-use Rattle.play.specs.Code.{run_as, stepped, Light, AllLight, Sound}
+use Rattle.play.specs.Code.{run_as, Light, AllLight, Sound}
 use Rattle.play.proofs.Calls.{Entering, goes_in, stays_out, entering_is, Leaving, goes_out, stays_in, leaving_is}
 
 -- what lies past the end of a list of lots
@@ -67,8 +65,8 @@ pub on_err : {T E P : Type 0} (r : Result T E) → P → OnErr r P
 on_err (Ok x) p = tt
 on_err (Err x) p = p
 
--- ---- a book n of the entries l, and what a call tells and leaves of it
-module _ (l : List Entry) (n : Numbers) (l' : List Entry) (n' : Numbers) (r : Result ℕ Refused) where
+-- ---- a run's book of the entries l, and what a call tells and leaves of it
+module _ (l : List Entry) (run : Run) (l' : List Entry) (n' : Numbers) (r : Result ℕ Refused) where
   same_told : (q : Refused) (x : Carried) → r ≡ Err q → leaves r l' n' ≡ x → x.told ≡ refusal (refusal_number q.why) q.at
   same_told q x e is = sym (ap (λ (c : Carried). c.told) is) ∙ rw e refl
 
@@ -81,16 +79,16 @@ module _ (l : List Entry) (n : Numbers) (l' : List Entry) (n' : Numbers) (r : Re
   stored_is : (x : Carried) → leaves r l' n' ≡ x → lent l' n' ≡ x.stored
   stored_is x is = ap (λ (c : Carried). c.stored) is
 
-  module _ (run : Run) (sound : Sound n run) where
+  module _ (sound : Sound run) where
     -- ---- an entry
-    module _ (e : Entry) (is : leaves r l' n' ≡ kept (enter (in_range e)) (lent l n)) where
+    module _ (e : Entry) (is : leaves r l' n' ≡ kept (enter (in_range e)) (lent l run.numbers)) where
       abbrev entering : Carried
-      entering = kept (enter (in_range e)) (lent l n)
+      entering = kept (enter (in_range e)) (lent l run.numbers)
 
-      pub out_kept : (q : Refused) → r ≡ Err q → lent l' n' ≡ lent l n
-      out_kept q f = go entering (entering_is e (lent l n)) is
+      pub out_kept : (q : Refused) → r ≡ Err q → l' ≡ l
+      out_kept q f = ap (λ (s : Stored). s.book.entries) (go entering (entering_is e (lent l run.numbers)) is)
         where
-          go : (x : Carried) → Entering e (lent l n) x → leaves r l' n' ≡ x → lent l' n' ≡ lent l n
+          go : (x : Carried) → Entering e (lent l run.numbers) x → leaves r l' n' ≡ x → lent l' n' ≡ lent l run.numbers
           go x (goes_in h) w = never (cc (same_told q x f w))
           go x (stays_out m p) w = stored_is x w
 
@@ -98,47 +96,47 @@ module _ (l : List Entry) (n : Numbers) (l' : List Entry) (n' : Numbers) (r : Re
       out_step q f lots t i = rw (same_told q entering f is)
 
       module _ (c : ℕ) (f : r ≡ Ok c) where
-        pub room_in : n.opened < most_open
-        room_in = go entering (entering_is e (lent l n)) is
+        pub room_in : run.numbers.opened < most_open
+        room_in = go entering (entering_is e (lent l run.numbers)) is
           where
-            go : (x : Carried) → Entering e (lent l n) x → leaves r l' n' ≡ x → n.opened < most_open
+            go : (x : Carried) → Entering e (lent l run.numbers) x → leaves r l' n' ≡ x → run.numbers.opened < most_open
             go x (goes_in h) w = h
             go x (stays_out m p) w = never (cc (held c x f w))
 
-        one_more : n'.opened ≡ n.opened + 1
-        one_more = go entering (entering_is e (lent l n)) is
+        one_more : n'.opened ≡ run.numbers.opened + 1
+        one_more = go entering (entering_is e (lent l run.numbers)) is
           where
-            go : (x : Carried) → Entering e (lent l n) x → leaves r l' n' ≡ x → n'.opened ≡ n.opened + 1
+            go : (x : Carried) → Entering e (lent l run.numbers) x → leaves r l' n' ≡ x → n'.opened ≡ run.numbers.opened + 1
             go x (goes_in h) w = opened_is x w
             go x (stays_out m p) w = never (cc (held c x f w))
 
         module _ (lot : Lot) (t i : ℕ) where
           abbrev next : Run
-          next = record { lots = set run.lots n.opened lot; taken = t; last = i }
+          next = record { numbers = n'; lots = set run.lots run.numbers.opened lot; taken = t; last = i }
 
-          lots-are : take n'.opened (set run.lots n.opened lot) ≡ take n.opened run.lots ++ (lot ∷ [])
-          lots-are = rw one_more (take_put run.lots n.opened lot (omega (arith, room_in, sound.long)))
+          lots-are : take n'.opened (set run.lots run.numbers.opened lot) ≡ take run.numbers.opened run.lots ++ (lot ∷ [])
+          lots-are = rw one_more (take_put run.lots run.numbers.opened lot (omega (arith, room_in, sound.long)))
 
-          pub in_step : on (run_as l' n' next) ≡ carried_on entering (take n.opened run.lots ++ (lot ∷ [])) t i
+          pub in_step : on (run_as l' next) ≡ carried_on entering (take run.numbers.opened run.lots ++ (lot ∷ [])) t i
           in_step = rw (held c entering f is, ← stored_is entering is, lots-are) refl
 
-          pub in_sound : Light lot → Sound n' next
+          pub in_sound : Light lot → Sound next
           in_sound light =
               record {
-                few = omega (arith, one_more, room_in);
+                few = (let h : n'.opened ≤ most_open = omega (arith, one_more, room_in) in h);
                 long = simp length-set sound.long;
-                light = rw lots-are (light_more (take n.opened run.lots) lot sound.light light);
+                light = rw lots-are (light_more (take run.numbers.opened run.lots) lot sound.light light);
               }
 
     -- ---- a withdrawal
-    module _ (k : Key) (is : leaves r l' n' ≡ kept (withdraw k) (lent l n)) where
+    module _ (k : Key) (is : leaves r l' n' ≡ kept (withdraw k) (lent l run.numbers)) where
       abbrev leaving : Carried
-      leaving = kept (withdraw k) (lent l n)
+      leaving = kept (withdraw k) (lent l run.numbers)
 
-      pub stay_kept : (q : Refused) → r ≡ Err q → lent l' n' ≡ lent l n
-      stay_kept q f = go leaving (leaving_is k (lent l n)) is
+      pub stay_kept : (q : Refused) → r ≡ Err q → l' ≡ l
+      stay_kept q f = ap (λ (s : Stored). s.book.entries) (go leaving (leaving_is k (lent l run.numbers)) is)
         where
-          go : (x : Carried) → Leaving k (lent l n) x → leaves r l' n' ≡ x → lent l' n' ≡ lent l n
+          go : (x : Carried) → Leaving k (lent l run.numbers) x → leaves r l' n' ≡ x → lent l' n' ≡ lent l run.numbers
           go x (goes_out h g) w = never (cc (same_told q x f w))
           go x (stays_in m p) w = stored_is x w
 
@@ -146,47 +144,47 @@ module _ (l : List Entry) (n : Numbers) (l' : List Entry) (n' : Numbers) (r : Re
       stay_step q f lots t i = rw (same_told q leaving f is)
 
       module _ (c : ℕ) (f : r ≡ Ok c) where
-        was_open : is_open k (take n.opened l) ≡ true
-        was_open = go leaving (leaving_is k (lent l n)) is
+        was_open : is_open k (take run.numbers.opened l) ≡ true
+        was_open = go leaving (leaving_is k (lent l run.numbers)) is
           where
-            go : (x : Carried) → Leaving k (lent l n) x → leaves r l' n' ≡ x → is_open k (take n.opened l) ≡ true
+            go : (x : Carried) → Leaving k (lent l run.numbers) x → leaves r l' n' ≡ x → is_open k (take run.numbers.opened l) ≡ true
             go x (goes_out h g) w = g
             go x (stays_in m p) w = never (cc (held c x f w))
 
-        one_less : n'.opened ≡ n.opened - 1
-        one_less = go leaving (leaving_is k (lent l n)) is
+        one_less : n'.opened ≡ run.numbers.opened - 1
+        one_less = go leaving (leaving_is k (lent l run.numbers)) is
           where
-            go : (x : Carried) → Leaving k (lent l n) x → leaves r l' n' ≡ x → n'.opened ≡ n.opened - 1
+            go : (x : Carried) → Leaving k (lent l run.numbers) x → leaves r l' n' ≡ x → n'.opened ≡ run.numbers.opened - 1
             go x (goes_out h g) w = opened_is x w
             go x (stays_in m p) w = never (cc (held c x f w))
 
         -- the search that found nothing
-        pub no_none : place_in k (take n.opened l) ≡ None → ⊥
+        pub no_none : place_in k (take run.numbers.opened l) ≡ None → ⊥
         no_none e = never (cc (rw was_open at e))
 
-        module _ (i : ℕ) (e : place_in k (take n.opened l) ≡ Some i) where
-          at_first : (i ≡ first_at k (take n.opened l)) × (i < n.opened)
+        module _ (i : ℕ) (e : place_in k (take run.numbers.opened l) ≡ Some i) where
+          at_first : (i ≡ first_at k (take run.numbers.opened l)) × (i < run.numbers.opened)
           at_first =
-              let g = found k (take n.opened l) i e in
-              (g.1, omega (arith, g.2, length-take n.opened l))
+              let g = found k (take run.numbers.opened l) i e in
+              (g.1, omega (arith, g.2, length-take run.numbers.opened l))
 
-          pub below : i < n.opened
+          pub below : i < run.numbers.opened
           below = at_first.1
 
-          module _ (t w : ℕ) (lots : List Lot) (are : lots ≡ copy_within run.lots (i + 1) n.opened i) where
+          module _ (t w : ℕ) (lots : List Lot) (are : lots ≡ copy_within run.lots (i + 1) run.numbers.opened i) where
             abbrev later : Run
-            later = record { lots = lots; taken = t; last = w }
+            later = record { numbers = n'; lots = lots; taken = t; last = w }
 
-            left : take n'.opened lots ≡ left_out (first_at k (take n.opened l)) (take n.opened run.lots)
-            left = rw (one_less, are, ← at_first.0) (take_out i n.opened run.lots below (omega (arith, sound.few, sound.long)))
+            left : take n'.opened lots ≡ left_out (first_at k (take run.numbers.opened l)) (take run.numbers.opened run.lots)
+            left = rw (one_less, are, ← at_first.0) (take_out i run.numbers.opened run.lots below (omega (arith, sound.few, sound.long)))
 
-            pub off_step : on (run_as l' n' later) ≡ carried_on leaving (left_out (first_at k (take n.opened l)) (take n.opened run.lots)) t w
+            pub off_step : on (run_as l' later) ≡ carried_on leaving (left_out (first_at k (take run.numbers.opened l)) (take run.numbers.opened run.lots)) t w
             off_step = rw (held c leaving f is, ← stored_is leaving is, left) refl
 
-            pub off_sound : length lots ≡ length run.lots → Sound n' later
+            pub off_sound : length lots ≡ length run.lots → Sound later
             off_sound h =
                 record {
-                  few = omega (arith, one_less, sound.few);
+                  few = (let h : n'.opened ≤ most_open = omega (arith, one_less, sound.few) in h);
                   long = h ∙ sound.long;
-                  light = rw left (light_less (first_at k (take n.opened l)) (take n.opened run.lots) sound.light);
+                  light = rw left (light_less (first_at k (take run.numbers.opened l)) (take run.numbers.opened run.lots) sound.light);
                 }

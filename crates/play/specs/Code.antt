@@ -18,14 +18,14 @@ use Rattle.play.specs.declared.Played as answer
 use Rattle.play.specs.Table.{zeros}
 use Rattle.play.specs.Play.{Run, Step, on, refuses, lies, message_at, Played, as_lent, played}
 
--- the paper's run of the code's, with the lent book: its lots are those of the open ones
-abbrev pub run_as : List Entry → Numbers → code.Run → Run
-run_as l n r = record { stored = lent l n; lots = take n.opened r.lots; taken = r.taken; last = r.last }
+-- the paper's run of the code's, with the lent list: its lots are those of the open ones
+abbrev pub run_as : List Entry → code.Run → Run
+run_as l r = record { stored = lent l r.numbers; lots = take r.numbers.opened r.lots; taken = r.taken; last = r.last }
 
--- what a record comes to, and what it leaves of the list and the numbers
-abbrev pub stepped : List Entry → Numbers → Result code.Run Refused → Step
-stepped l n (Ok r) = on (run_as l n r)
-stepped l n (Err r) = refuses (refusal_number r.why)
+-- what a record comes to, and what it leaves of the list
+abbrev pub stepped : List Entry → Result code.Run Refused → Step
+stepped l (Ok r) = on (run_as l r)
+stepped l (Err r) = refuses (refusal_number r.why)
 
 -- message j, where it lies in the buffer
 abbrev pub message_in : List ℕ → List ℕ → ℕ → Option (List ℕ)
@@ -49,10 +49,10 @@ abbrev pub AllLight : List Lot → Type 0
 AllLight [] = Unit {0}
 AllLight (x ∷ l) = Light x × AllLight l
 
-pub record Sound (n : Numbers) (r : code.Run) : Type 0 where
-  pub few : n.opened ≤ most_open
+pub record Sound (r : code.Run) : Type 0 where
+  pub few : r.numbers.opened ≤ most_open
   pub long : length r.lots ≡ most_open
-  pub light : AllLight (take n.opened r.lots)
+  pub light : AllLight (take r.numbers.opened r.lots)
 
 -- two rows added, column by column
 abbrev pub added_row : List ℕ → List ℕ → List ℕ

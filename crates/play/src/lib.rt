@@ -23,9 +23,10 @@ use book::{Call, Entry, Numbers};
 use recording::{Line, Side};
 use sums::{Lot, Weighed};
 
-// What a run keeps beside the book: what each open bulk adds to the table, in the order of the open ones; how many messages are taken; the last instant.
+// What a run keeps beside the lent entries: the book's numbers; what each open bulk adds to the table, in the order of the open ones; how many messages are taken; the last instant.
 #[derive(Clone, Copy)]
 pub struct Run {
+    pub numbers: Numbers,
     pub lots: [Lot; book::MOST],
     pub taken: usize,
     pub last: u64,
@@ -41,25 +42,26 @@ pub struct Played {
 // A bulk is entered, and what it adds to the table stands behind that of the others.
 fn put_in(
     entries: &mut [Entry],
-    numbers: &mut Numbers,
     run: Run,
     bulk: Entry,
     lot: Lot,
     instant: u64,
 ) -> Result<Run, Refused>
-    requires sound { Sound numbers.old run }
+    requires sound { Sound run }
     requires light { Light lot }
     requires fits { run.taken + 1 < 18446744073709551616 }
-    ensures step { stepped entries.new numbers.new result ≡ carried_on (kept (enter (in_range bulk)) (lent entries.old numbers.old))
-        (take numbers.old.opened run.lots ++ (lot ∷ [])) (run.taken + 1) instant }
-    ensures sound { IfOk result (Sound numbers.new) }
-    ensures kept { OnErr result (lent entries.new numbers.new ≡ lent entries.old numbers.old) }
+    ensures step { stepped entries.new result ≡ carried_on (kept (enter (in_range bulk)) (lent entries.old run.numbers))
+        (take run.numbers.opened run.lots ++ (lot ∷ [])) (run.taken + 1) instant }
+    ensures sound { IfOk result Sound }
+    ensures kept { OnErr result (entries.new ≡ entries.old) }
 {
+    let mut numbers = run.numbers;
     let opened = numbers.opened;
-    book::act(entries, numbers, Call::Enter(bulk))?;
+    book::act(entries, &mut numbers, Call::Enter(bulk))?;
     let mut lots = run.lots;
     lots[opened] = lot;
     Ok(Run {
+        numbers,
         lots,
         taken: run.taken + 1,
         last: instant,
@@ -69,26 +71,27 @@ fn put_in(
 // A key is withdrawn, and what its bulk adds to the table goes.
 fn take_out(
     entries: &mut [Entry],
-    numbers: &mut Numbers,
     run: Run,
     key: [u8; naming::LENGTH],
     instant: u64,
 ) -> Result<Run, Refused>
     requires room { most_open ≤ length entries.old }
-    requires sound { Sound numbers.old run }
-    ensures step { stepped entries.new numbers.new result ≡ carried_on (kept (withdraw key) (lent entries.old numbers.old))
-        (left_out (first_at key (take numbers.old.opened entries.old)) (take numbers.old.opened run.lots)) run.taken instant }
-    ensures sound { IfOk result (Sound numbers.new) }
-    ensures kept { OnErr result (lent entries.new numbers.new ≡ lent entries.old numbers.old) }
+    requires sound { Sound run }
+    ensures step { stepped entries.new result ≡ carried_on (kept (withdraw key) (lent entries.old run.numbers))
+        (left_out (first_at key (take run.numbers.opened entries.old)) (take run.numbers.opened run.lots)) run.taken instant }
+    ensures sound { IfOk result Sound }
+    ensures kept { OnErr result (entries.new ≡ entries.old) }
 {
+    let mut numbers = run.numbers;
     let opened = numbers.opened;
     let place = book::place_of(&entries[..opened], &key);
-    book::act(entries, numbers, Call::Withdraw(key))?;
+    book::act(entries, &mut numbers, Call::Withdraw(key))?;
     let mut lots = run.lots;
     if let Some(at) = place {
         lots.copy_within(at + 1..opened, at);
     }
     Ok(Run {
+        numbers,
         lots,
         taken: run.taken,
         last: instant,
@@ -150,20 +153,14 @@ fn message<'a>(buffer: &'a [u8], ends: &'a [u64], j: usize) -> Option<&'a [u8]>
 }
 
 // A message that was weighed is entered under the record's key: the judge's own refusal; 28 where the keys differ; the book's own.
-fn enter_as(
-    entries: &mut [Entry],
-    numbers: &mut Numbers,
-    run: Run,
-    line: Line,
-    weighed: Weighed,
-) -> Result<Run, Refused>
-    requires sound { Sound numbers.old run }
+fn enter_as(entries: &mut [Entry], run: Run, line: Line, weighed: Weighed) -> Result<Run, Refused>
+    requires sound { Sound run }
     requires light { Light weighed.lot }
     requires fits { run.taken + 1 < 18446744073709551616 }
     ensures step { (m : List ℕ) → keyed_as (Ok weighed.keyed) ≡ keyed m → weighed.lot ≡ lot_of m
-        → stepped entries.new numbers.new result ≡ enters m (line_as (Some line)) (run_as entries.old numbers.old run) }
-    ensures sound { IfOk result (Sound numbers.new) }
-    ensures kept { OnErr result (lent entries.new numbers.new ≡ lent entries.old numbers.old) }
+        → stepped entries.new result ≡ enters m (line_as (Some line)) (run_as entries.old run) }
+    ensures sound { IfOk result Sound }
+    ensures kept { OnErr result (entries.new ≡ entries.old) }
 {
     let Weighed { keyed, lot } = weighed;
     if keyed.key != line.key {
@@ -173,7 +170,7 @@ fn enter_as(
         key: keyed.key,
         cents: keyed.accepted.cents,
     };
-    put_in(entries, numbers, run, bulk, lot, line.instant)
+    put_in(entries, run, bulk, lot, line.instant)
 }
 
 // The next message is entered: 28 where there is none that lies in the buffer.
@@ -182,22 +179,21 @@ fn enter_next(
     ends: &[u64],
     index: &mut [u32],
     entries: &mut [Entry],
-    numbers: &mut Numbers,
     run: Run,
     line: Line,
 ) -> Result<Run, Refused>
-    requires sound { Sound numbers.old run }
+    requires sound { Sound run }
     requires fresh { FreshIndex index.old }
-    ensures step { stepped entries.new numbers.new result ≡ enters_next buffer.now ends.now (line_as (Some line)) (run_as entries.old numbers.old run) }
-    ensures sound { IfOk result (Sound numbers.new) }
-    ensures kept { OnErr result (lent entries.new numbers.new ≡ lent entries.old numbers.old) }
+    ensures step { stepped entries.new result ≡ enters_next buffer.now ends.now (line_as (Some line)) (run_as entries.old run) }
+    ensures sound { IfOk result Sound }
+    ensures kept { OnErr result (entries.new ≡ entries.old) }
     ensures index { index.new ≡ index.old }
 {
     let Some(message) = message(buffer, ends, run.taken) else {
         return Err(Refusal::OtherMessage.at(0));
     };
     let weighed = sums::weigh(message, index)?;
-    enter_as(entries, numbers, run, line, weighed)
+    enter_as(entries, run, line, weighed)
 }
 
 // One record: 26, 27, and then an entry or a withdrawal. Where it is refused, the book is as before. The place that the judge or the book tells gives way to the record's number.
@@ -206,16 +202,15 @@ fn step_on(
     ends: &[u64],
     index: &mut [u32],
     entries: &mut [Entry],
-    numbers: &mut Numbers,
     run: Run,
     said: Option<Line>,
 ) -> Result<Run, Refused>
     requires room { most_open ≤ length entries.old }
-    requires sound { Sound numbers.old run }
+    requires sound { Sound run }
     requires fresh { FreshIndex index.old }
-    ensures step { stepped entries.new numbers.new result ≡ step_of buffer.now ends.now (line_as said) (run_as entries.old numbers.old run) }
-    ensures sound { IfOk result (Sound numbers.new) }
-    ensures kept { OnErr result (lent entries.new numbers.new ≡ lent entries.old numbers.old) }
+    ensures step { stepped entries.new result ≡ step_of buffer.now ends.now (line_as said) (run_as entries.old run) }
+    ensures sound { IfOk result Sound }
+    ensures kept { OnErr result (entries.new ≡ entries.old) }
     ensures index { index.new ≡ index.old }
 {
     let Some(line) = said else {
@@ -225,8 +220,8 @@ fn step_on(
         return Err(Refusal::TimeFalls.at(0));
     }
     match line.side {
-        Side::Entry => enter_next(buffer, ends, index, entries, numbers, run, line),
-        Side::Withdrawal => take_out(entries, numbers, run, line.key, line.instant),
+        Side::Entry => enter_next(buffer, ends, index, entries, run, line),
+        Side::Withdrawal => take_out(entries, run, line.key, line.instant),
     }
 }
 
@@ -248,14 +243,18 @@ fn line_at(recording: &[u8], i: usize) -> Option<Line>
 
 // The run before the first record: no bulk is open.
 fn begin() -> Run
-    ensures emptied { (l : List Entry) → run_as l (record { opened = 0; total = 0 }) result ≡ emptied l }
-    ensures sound { Sound (record { opened = 0; total = 0 }) result }
+    ensures emptied { (l : List Entry) → run_as l result ≡ emptied l }
+    ensures sound { Sound result }
 {
     let none = Lot {
         service: 0,
         sums: [0; 4],
     };
     Run {
+        numbers: Numbers {
+            opened: 0,
+            total: 0,
+        },
         lots: [none; book::MOST],
         taken: 0,
         last: 0,
@@ -263,16 +262,16 @@ fn begin() -> Run
 }
 
 // After the last record: 28 where messages are left over, else the table.
-fn finish(ends: &[u64], numbers: Numbers, run: Run, records: usize) -> Result<Played, Refused>
-    requires { Sound numbers run }
-    ensures { (l : List Entry) → played_as l numbers result ≡ ended ends.now records (run_as l numbers run) }
+fn finish(ends: &[u64], run: Run, records: usize) -> Result<Played, Refused>
+    requires { Sound run }
+    ensures { (l : List Entry) → played_as l run.numbers result ≡ ended ends.now records (run_as l run) }
 {
     if run.taken < ends.len() {
         return Err(Refusal::OtherMessage.at(records));
     }
     Ok(Played {
         records,
-        table: lay_flat(table_of(&run.lots[..numbers.opened])),
+        table: lay_flat(table_of(&run.lots[..run.numbers.opened])),
     })
 }
 
@@ -282,31 +281,29 @@ fn play_on(
     buffer: &[u8],
     ends: &[u64],
     entries: &mut [Entry],
-    numbers: &mut Numbers,
+    run: &mut Run,
     index: &mut [u32],
 ) -> Result<Played, Refused>
     requires room { most_open ≤ length entries.old }
+    requires begun { (l : List Entry) → run_as l run.old ≡ emptied l }
+    requires sound { Sound run.old }
     requires fresh { FreshIndex index.old }
-    ensures played { played_as entries.new numbers.new result ≡ played recording.now buffer.now ends.now entries.old }
+    ensures played { played_as entries.new run.new.numbers result ≡ played recording.now buffer.now ends.now entries.old }
     ensures index { index.new ≡ index.old }
 {
-    *numbers = Numbers {
-        opened: 0,
-        total: 0,
-    };
-    let mut run = begin();
     let n = count_records(recording);
     for i in 0..n {
         let said = line_at(recording, i);
-        match step_on(buffer, ends, index, entries, numbers, run, said) {
-            Ok(next) => run = next,
+        match step_on(buffer, ends, index, entries, *run, said) {
+            Ok(next) => *run = next,
             Err(refused) => return Err(refused.why.at(i)),
         }
     }
-    finish(ends, *numbers, run, n)
+    finish(ends, *run, n)
 }
 
 // A day played back on a lent book: 25, 29, and then the run from the emptied book. The index is cleared.
+// (Entries and numbers are two, as the C face lends them.)
 pub fn play(
     recording: &[u8],
     buffer: &[u8],
@@ -325,5 +322,8 @@ pub fn play(
     if entries.len() < book::MOST {
         return Err(Refusal::NoBook.at(0));
     }
-    play_on(recording, buffer, ends, entries, numbers, index)
+    let mut run = begin();
+    let told = play_on(recording, buffer, ends, entries, &mut run, index);
+    *numbers = run.numbers;
+    told
 }

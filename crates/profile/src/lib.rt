@@ -80,8 +80,8 @@ pub enum Field {
     Ustrd,
 }
 
-// How many fields there are.
-pub const FIELDS: usize = 27;
+// How many fields there are: the last one's number, and one.
+pub const FIELDS: usize = Field::Ustrd as usize + 1;
 
 // A field's number.
 pub fn number_of(f: Field) -> usize

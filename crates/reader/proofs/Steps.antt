@@ -41,22 +41,6 @@ refused_at r s e = rw e refl
 pub fine_same : (m : List ℕ) (p : ℕ) (x r : Found) → x ≡ r → Fine m p r → Fine m p x
 fine_same m p x r e f = rw e f
 
--- ---- what the code asks of how a tag lies: it goes on where that lies whole
-module _ (n p : ℕ) (s : Ended Notes) where
-  abbrev Asked : Look → Found
-  Asked l = on_look l (on s) (stop 3 n) (stop 4 p)
-
-  pub lies_whole : (l : Look) → on s ≡ Asked l → l ≡ Whole
-  lies_whole Whole e = refl
-  lies_whole Cut e = never (cc)
-  lies_whole Other e = never (cc)
-
-  -- what is refused: to show P of it, it is shown of either
-  pub lies_not : (P : Found → Type 0) (l : Look) (i q : ℕ) → stop i q ≡ Asked l → (l ≡ Cut → P (stop 3 n)) → (l ≡ Other → P (stop 4 p)) → P (stop i q)
-  lies_not P Whole i q e f g = never (cc)
-  lies_not P Cut i q e f g = rw e (f refl)
-  lies_not P Other i q e f g = rw e (g refl)
-
 -- what is noted of a name that is not the payment type's, and of the payment type's
 module _ (b : Bool) (p : ℕ) (n : Notes) where
   untyped : on (here p n) ≡ staying p (typed (is_type (mark_name false)) b p n)

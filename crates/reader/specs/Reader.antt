@@ -1,20 +1,11 @@
 -- What each function of the table-led engine reads: parts of the trace, by the tests of a row's tags.
-use Rattle.std.specs.Prelude.{ℕ, ◌+◌, Bool, List, Result, Ok, Err}
+use Rattle.std.specs.Prelude.{ℕ, ◌+◌, Bool, List}
 use Prim.Native.String.{String}
 use Rattle.tags.specs.Tags.{exactly, plain_tag, start_tag}
 use Rattle.profile.specs.Kinds.{is_amount}
 use Rattle.profile.specs.Tree.{Occ, once, Shape, end, leaf, group}
 use Rattle.reading.specs.Trace.{Trace, up_to, begins, priced, leaf_body, group_body, trace}
-use Rattle.reading.specs.Noted.{Reading, on, stop, Ended}
-use Rattle.answers.specs.declared.Refused.{Refused}
-use Rattle.answers.specs.Refusals.{refusal_number}
-use Rattle.notes.specs.declared.Notes.{Notes}
 use Rattle.items.specs.Sums.{of_amount, of_others, amounts_in}
-
--- on from s, where nothing is refused
-abbrev pub going_on : Ended Notes → Result (Unit {0}) Refused → Reading (Ended Notes)
-going_on s (Ok u) = on s
-going_on s (Err r) = stop (refusal_number r.why) r.at
 
 -- past a start tag of w bytes
 abbrev pub entered : Occ → String → Bool → ℕ → List ℕ → ℕ → Trace

@@ -3,7 +3,7 @@
 
 ghost use Rattle.std.specs.Prelude.{◌≡◌, true, ◌+◌, ◌≤◌, ◌<◌, length, drop};
 ghost use Rattle.text.specs.Truth.{pick};
-ghost use Rattle.tags.specs.Tags.{skipped, look, on_look};
+ghost use Rattle.tags.specs.Tags.{skipped, look};
 ghost use Rattle.profile.specs.Tree.{more};
 ghost use Rattle.reading.specs.Trace.{up_to, begins, missing, priced, trace};
 ghost use Rattle.reading.specs.Noted.{on, stop, Ended};
@@ -13,7 +13,7 @@ ghost use Rattle.notes.specs.declared.Notes.{Notes};
 ghost use Rattle.notes.specs.Notes.{added_up};
 ghost use Rattle.notes.specs.Steps.{stated, stepped, reads, Good, Room, Fine};
 ghost use Rattle.engine.specs.Engine.{closed_by, valued_by, placed, message_at, places_at, item_at};
-ghost use Rattle.reader.specs.Reader.{going_on, entered, element_in, amounts_of};
+ghost use Rattle.reader.specs.Reader.{entered, element_in, amounts_of};
 
 use answers::{Refusal, Refused};
 use notes::State;
@@ -29,17 +29,6 @@ fn skip(m: &[u8], st: State) -> State
     let at = st.at as usize;
     let n = tags::spaces(&m[at..]);
     st.at_place((at + n) as u32)
-}
-
-// What is due at a place lies there whole; else 3 where the message ends within it, 4 where something else stands.
-fn expect_whole(look: Look, m: &[u8], at: usize) -> Result<(), Refused>
-    ensures { (s : Ended Notes) → going_on s result ≡ on_look look (on s) (stop 3 (length m.now)) (stop 4 at) }
-{
-    match look {
-        Look::Whole => Ok(()),
-        Look::Cut => Err(Refusal::Cut.at(m.len())),
-        Look::Other => Err(Refusal::OtherTag.at(at)),
-    }
 }
 
 // Where an element that may come `occ` is not there: 4 where it is due; of the payment type it is noted.
@@ -109,8 +98,8 @@ impl Led<'_> {
         ensures { (stepped result ≡ reads (closed_by (closes_by self.entry.names.now r) self.entry.m.now st.at) st.notes) × Fine self.entry.m.now st.at (stepped result) }
     {
         let at = st.at as usize;
-        expect_whole(table::closing(self.names, r, &self.m[at..]), self.m, at)?;
-        Ok(st.at_place((at + r.finish as usize) as u32))
+        engine::expect_whole(table::closing(self.names, r, &self.m[at..]), self.m, at)?;
+        Ok(st.at_place((at + usize::from(r.finish)) as u32))
     }
 
     // How a row's start tag lies at a place.
@@ -179,14 +168,14 @@ impl Led<'_> {
                 Look::Cut => return Err(Refusal::Cut.at(self.m.len())),
                 Look::Other => {
                     st = pass(occ, r.typed, st)?;
-                    k = r.next as usize;
+                    k = usize::from(r.next);
                 }
                 Look::Whole => {
                     st = self.element(k, st, places)?;
                     if occ.repeats() {
                         seen = true;
                     } else {
-                        k = r.next as usize;
+                        k = usize::from(r.next);
                     }
                 }
             }
@@ -247,6 +236,6 @@ pub fn item(m: &[u8], at: usize, v: Version) -> Result<State, Refused>
     let q = skip(m, st);
     let k = table::item_row();
     let at = q.at as usize;
-    expect_whole(led.start_at(table::row_at(&rows, k), at), m, at)?;
+    engine::expect_whole(led.start_at(table::row_at(&rows, k), at), m, at)?;
     led.element(k, q, &mut none)
 }

@@ -10,6 +10,7 @@ use lib.ListN.{length}
 use lib.Seq.{length-take-le}
 use Rattle.text.specs.Truth.{at}
 use Rattle.text.proofs.Truths.{passes}
+use Rattle.text.specs.Quoted.{among}
 use Rattle.naming.specs.Key.{key_with}
 use Rattle.recording.specs.Instant.{instant}
 use Rattle.std.proofs.Common.{Some}
@@ -31,6 +32,10 @@ module _ (r : List ℕ) (e : record_form r ≡ true) where
   pub stamped : stamp_form (time_in r) ≡ true
   unfolding record_form
   stamped = passes _ e 1
+
+  pub sided : among "E W" (at r 25) ≡ true
+  unfolding record_form
+  sided = passes _ e 2
 
   pub line_is : (s : Side) → enters s ≡ eqb (at r 25) 69 → (k : List ℕ) (t : ℕ) → k ≡ key_in r → t ≡ instant (time_in r) → line_as (Some (record { side = s; key = k; instant = t })) ≡ line_of r
   unfolding line_of

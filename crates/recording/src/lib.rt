@@ -1,13 +1,14 @@
 // One record of a recording: 64 bytes, field by field; its key, and its instant.
 #![tactic(auto)]
 
-ghost use Rattle.std.specs.Prelude.{◌≡◌, true, ◌+◌, ◌-◌, ◌≤◌, ◌<◌, length};
+ghost use Rattle.std.specs.Prelude.{◌≡◌, true, ◌+◌, ◌-◌, ◌≤◌, ◌<◌, length, eqb, IfSome};
+ghost use Rattle.std.specs.Option.{is_some};
 ghost use Rattle.text.specs.Truth.{part};
-ghost use Rattle.text.specs.Quoted.{among, decimal};
+ghost use Rattle.text.specs.Quoted.{byte, among, decimal};
 ghost use Rattle.calendar.specs.Date.{date_form};
 ghost use Rattle.calendar.specs.Time.{offset_form};
 ghost use Rattle.recording.specs.Instant.{years_days, months_days, days_before, seconds_before, offset_seconds, as_written, instant};
-ghost use Rattle.recording.specs.Record.{unpadded, stamp_form, names_form, record_form, key_in, line_of, line_as};
+ghost use Rattle.recording.specs.Record.{unpadded, stamp_form, names_form, record_form, key_in, enters, line_of, line_as};
 
 use codes::Element;
 
@@ -30,6 +31,7 @@ pub struct Line {
 }
 
 // How many bytes of a field stand before the spaces behind its value.
+// (Its like in `words` asks another test: one function over both would take a closure and the law of what it tells, for this one line.)
 fn reach(f: &[u8]) -> usize
     ensures { result ≡ length (unpadded f.now) }
 {
@@ -44,13 +46,13 @@ fn value(f: &[u8]) -> &[u8]
     &f[..e]
 }
 
-// The number of the two characters at i. (Not calendar's: both must stand there, and a function that another crate calls requires nothing.)
+// The number of the two characters at i. (Not calendar's: both must stand there, and by a rule of the project no public function has a `requires`.)
 fn two_at(s: &[u8], i: usize) -> u64
     requires { i + 2 ≤ length s.now }
     ensures value { result ≡ decimal (part i 2 s.now) }
     ensures upper_bound { result < 2560 }
 {
-    text::pair(s[i], s[i + 1]) as u64
+    u64::from(text::pair(s[i], s[i + 1]))
 }
 
 // How many days the first n years have.
@@ -146,18 +148,27 @@ fn has_names(r: &[u8]) -> bool
         && words::reference(value(&r[51..63])).is_ok()
 }
 
-// Whether c is one of `E W`.
-fn is_side(c: u8) -> bool
-    ensures { result ≡ among "E W" c }
+// Which side c names, if it is one of `E W`.
+fn side_of(c: u8) -> Option<Side>
+    ensures named { is_some result ≡ among "E W" c }
+    ensures side { IfSome result (λ s. enters s ≡ eqb c (byte "E")) }
 {
-    c == b'E' || c == b'W'
+    match c {
+        b'E' => Some(Side::Entry),
+        b'W' => Some(Side::Withdrawal),
+        _ => None,
+    }
 }
 
 // Whether these bytes are a record.
 fn is_record(r: &[u8]) -> bool
     ensures { result ≡ record_form r.now }
 {
-    r.len() == LENGTH && is_stamp(&r[..25]) && is_side(r[25]) && has_names(r) && r[63] == b'\n'
+    r.len() == LENGTH
+        && is_stamp(&r[..25])
+        && side_of(r[25]).is_some()
+        && has_names(r)
+        && r[63] == b'\n'
 }
 
 // The key that a record names.
@@ -178,13 +189,8 @@ pub fn read_line(r: &[u8]) -> Option<Line>
     if !is_record(r) {
         return None;
     }
-    let side = if r[25] == b'E' {
-        Side::Entry
-    } else {
-        Side::Withdrawal
-    };
     Some(Line {
-        side,
+        side: side_of(r[25])?,
         key: key_in(r),
         instant: instant_of(&r[..25]),
     })

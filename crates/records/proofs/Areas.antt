@@ -6,8 +6,10 @@ use native.Mathlib.Numerals.{add-one}
 use native.Mathlib.Omega.{arith}
 use borrow.Author.Tests.{lt-ltb, le-ltb}
 use borrow.Rule.Slice.PartMut.{put_mid, mid_len, same_len_mid}
-use lib.ListN.{length, take, drop, drop_of_length-le}
+use lib.ListN.{length, take, drop, get_or, drop_of_length-le}
 use lib.Seq.{drop-drop}
+use Rattle.std.specs.Simd.{first_chunks}
+use Rattle.text.proofs.Truths.{never}
 use Rattle.reading.specs.Trace.{What}
 use Rattle.reading.specs.Verdict.{Judged, accepted, refused}
 use Rattle.reading.specs.Judged.{judged}
@@ -45,6 +47,15 @@ module _ (m above : List ℕ) where
       ap (λ (l : List ℕ). x ++ l) (records-next i (drop row_length rows))
       ∙ (ap (λ (l : List ℕ). x ++ (y ++ record_of m (take row_length l) above)) e ∙ sym (append_assoc x y (record_of m (take row_length (drop (row_length * suc i) rows)) above)))
 
+-- row i of those that lie flat
+pub row_at : (k i : ℕ) (l : List ℕ) → i < k → get_or (first_chunks row_length k l) i [] ≡ take row_length (drop (row_length * i) l)
+row_at zero i l h = never (omega arith)
+row_at (suc k) zero l h = refl
+row_at (suc k) (suc i) l h =
+    let z : row_length + row_length * i ≡ row_length * suc i = omega arith in
+    let e : drop (row_length * i) (drop row_length l) ≡ drop (row_length * suc i) l = drop-drop (row_length * i) row_length l ∙ ap (λ (j : ℕ). drop j l) z in
+    row_at k i (drop row_length l) (omega arith) ∙ ap (λ (y : List ℕ). take row_length y) e
+
 pub record Laying (m above rows : List ℕ) (n : ℕ) (area₀ : List ℕ) (i : ℕ) (area : List ℕ) : Type 0 where
   pub some : i ≤ n
   pub long : length area ≡ length area₀
@@ -61,39 +72,28 @@ module _ {m above rows : List ℕ} {n : ℕ} {area₀ : List ℕ} (e : (row_leng
         let g : length area₀ ≤ record_length * n = omega (arith, e.1) in
         y.is ∙ rw (z, drop_of_length-le area₀ g) (append-nil (records_of m above n rows))
 
-    -- where the next row stands, and where its record goes
-    module _ (h : i < n) where
-      pub row_fits : row_length * i + row_length ≤ length rows
-      row_fits = omega (arith, e.0)
-
-      pub row_long : length (take (row_length * i + row_length - row_length * i) (drop (row_length * i) rows)) ≡ row_length
-      row_long = mid_len (row_length * i) (row_length * i + row_length) rows row_fits ∙ omega arith
-
-      pub record_fits : record_length * i + record_length ≤ length area
-      record_fits = omega (arith, y.long, e.1)
-
-      pub record_long : length (take (record_length * i + record_length - record_length * i) (drop (record_length * i) area)) ≡ record_length
-      record_long = mid_len (record_length * i) (record_length * i + record_length) area record_fits ∙ omega arith
-
-      pub lay_on : (x : List ℕ) → x ≡ record_of m (take (row_length * i + row_length - row_length * i) (drop (row_length * i) rows)) above
-          → length x ≡ length (take (record_length * i + record_length - record_length * i) (drop (record_length * i) area))
-          → Laying m above rows n area₀ (i + 1) (put_mid (record_length * i) (record_length * i + record_length - record_length * i) area x)
-      lay_on x o l =
-          let w = records_of m above i rows in
-          let a = record_length * i in
-          let z : a + record_length ≡ record_length * (i + 1) = omega arith in
-          let q : row_length * i + row_length - row_length * i ≡ row_length = omega arith in
-          let f = front_long w area₀ area a y.is y.long (omega (arith, e.1)) in
-          let j : x ≡ record_of m (take row_length (drop (row_length * i) rows)) above = o ∙ ap (λ (k : ℕ). record_of m (take k (drop (row_length * i) rows)) above) q in
-          let t = drop (record_length * (i + 1)) area₀ in
-          let k : w ++ x ≡ records_of m above (i + 1) rows =
-          ap (λ (z : List ℕ). w ++ z) j ∙ (sym (records-next m above i rows) ∙ ap (λ (z : ℕ). records_of m above z rows) (sym (add-one i))) in
-          let b : w ++ (x ++ t) ≡ records_of m above (i + 1) rows ++ t = sym (append_assoc w x t) ∙ ap (λ (z : List ℕ). z ++ t) k in
-          record {
-            some = omega arith;
-            long = same_len_mid a (a + record_length - a) area x l ∙ y.long;
-            is = put_next w area₀ area a y.is f record_length x ∙ (ap (λ (k : ℕ). w ++ (x ++ drop k area₀)) z ∙ b);
-          }
+    -- the next row's record
+    pub lay_on : i < n → (t : List (List ℕ)) → t ≡ first_chunks row_length (length rows / row_length) rows → (x r : List ℕ) → x ≡ r → r ≡ record_of m (get_or t i []) above
+        → length x ≡ length (take (record_length * i + record_length - record_length * i) (drop (record_length * i) area))
+        → Laying m above rows n area₀ (i + 1) (put_mid (record_length * i) (record_length * i + record_length - record_length * i) area x)
+    lay_on h t d x r o p l =
+        let w = records_of m above i rows in
+        let a = record_length * i in
+        let z : a + record_length ≡ record_length * (i + 1) = omega arith in
+        let f = front_long w area₀ area a y.is y.long (omega (arith, e.1)) in
+        let g : i < length rows / row_length = omega (arith, e.0) in
+        let u : get_or t i [] ≡ take row_length (drop (row_length * i) rows) =
+        ap (λ (v : List (List ℕ)). get_or v i []) d ∙ row_at (length rows / row_length) i rows g in
+        let j : x ≡ record_of m (take row_length (drop (row_length * i) rows)) above = o ∙ p ∙ ap (λ (v : List ℕ). record_of m v above) u in
+        let t' = drop (record_length * (i + 1)) area₀ in
+        let k : w ++ x ≡ records_of m above (i + 1) rows =
+        ap (λ (v : List ℕ). w ++ v) j ∙ (sym (records-next m above i rows) ∙ ap (λ (v : ℕ). records_of m above v rows) (sym (add-one i))) in
+        let b : w ++ (x ++ t') ≡ records_of m above (i + 1) rows ++ t' = sym (append_assoc w x t') ∙ ap (λ (v : List ℕ). v ++ t') k in
+        record {
+          some = omega arith;
+          long = same_len_mid a (a + record_length - a) area x l ∙ y.long;
+          is = put_next w area₀ area a y.is f record_length x ∙ (ap (λ (v : ℕ). w ++ (x ++ drop v area₀)) z ∙ b);
+        }
 
 -- ---- the second walk: the records of the items that are done stand in the area
 records_append : (h : List What) (a b : List Item) → records_for h (a ++ b) ≡ records_for h a ++ records_for h b

@@ -2,7 +2,7 @@
 use mathlib.Core.Path.{◌≡◌, refl, ap, sym, ◌∙◌}
 use mathlib.Core.Bool.{Bool, true, false}
 use mathlib.Core.List.{List, [], ◌∷◌, ◌++◌, append_assoc}
-use Prim.Native.Nat.{ℕ, zero, suc, ◌+◌, ◌-◌, ◌≤◌, ◌<◌, min}
+use Prim.Native.Nat.{ℕ, zero, suc, ◌+◌, ◌-◌, ◌≤◌, min}
 use native.Mathlib.Nat.{add-zero}
 use native.Mathlib.Omega.{arith}
 use borrow.Rule.Slice.PartMut.{put_mid}
@@ -10,11 +10,10 @@ use borrow.Author.Tests.{ne_eqb, ltb-true, ltb-false}
 use lib.Dec.{eqb, ltb}
 use lib.ListN.{length, take, drop, set, replicate, length-append, length-take, length-drop, length-replicate, take-append-drop, drop_of_length-le, replicate-append-replicate}
 use lib.Seq.{set_at, set_split, drop-drop, length-take-le}
-use lib.Seq.{take_all, take-length, take-nil, take-take, take-add, take_at, drop_at, take-append-le, take-append-add, drop-append-add}
-use Rattle.text.specs.Truth.{either, pick, lead, part}
-use Rattle.text.proofs.Scan.{rest_of, lead_le}
+use lib.Seq.{take_all, take-length, take-take, take-add, take_at, drop_at, take-append-le, take-append-add, drop-append-add}
+use Rattle.text.specs.Truth.{either, pick, part}
+use Rattle.tags.specs.Values.{value_at}
 use Rattle.text.proofs.Truths.{never}
-use Rattle.tags.specs.Values.{in_value, value_at}
 use Rattle.profile.specs.declared.Field.{Field}
 use Rattle.profile.specs.declared.Field.TheVariants.{TxId, EndToEndId, MndtId, DbtrIban, CdtrIban, DbtrBic, ReqdColltnDt, SeqTp, CdtrId, CdtrBic, InstrId, LclInstrm, DtOfSgntr}
 use Rattle.answers.specs.Given.{yes}
@@ -36,6 +35,24 @@ unfolding laid
 mid_laid at v rec =
     let z : at + length v - at ≡ length v = omega arith in
     rw z (ap (λ (l : List ℕ). take at rec ++ (v ++ l)) (drop-drop (length v) at rec))
+
+-- ---- the value at a place; b is whether there is none, as the code tests it
+module _ (m : List ℕ) (start : ℕ) (b : Bool) (t : b ≡ either (eqb start 0) (ltb (length m) start)) where
+  pub none_held : b ≡ true → [] ≡ held_at m start
+  none_held h = sym (go (eqb start 0) (sym t ∙ h))
+    where
+      go : (z : Bool) → either z (ltb (length m) start) ≡ true → pick z [] (value_at m start) ≡ []
+      go true e = refl
+      go false e =
+          let g : length m ≤ start = omega (arith, ltb-true (length m) start e) in
+          rw (drop_of_length-le m g)
+
+  pub value_held : b ≡ false → value_at m start ≡ held_at m start
+  value_held h = go (eqb start 0) (sym t ∙ h)
+    where
+      go : (z : Bool) → either z (ltb (length m) start) ≡ false → value_at m start ≡ pick z [] (value_at m start)
+      go true e = never (cc)
+      go false e = refl
 
 -- ---- a value laid as its first w bytes and its last w
 pub laid_twice : (at w : ℕ) (v r r1 r2 : List ℕ) → at + length v ≤ length r → w ≤ length v → length v ≤ w + w
@@ -77,63 +94,18 @@ pub laid_none : (at : ℕ) (rec : List ℕ) → rec ≡ laid at [] rec
 unfolding laid
 laid_none at rec = rw (add-zero at) (sym (take-append-drop at rec))
 
--- ---- the value at a place of the message, as much of it as a field holds; b is whether there is none, as the code tests it
-module _ (m : List ℕ) (start width : ℕ) (b : Bool) (t : b ≡ either (eqb start 0) (ltb (length m) start)) where
-  pub none_held : b ≡ true → held_at m start ≡ []
-  none_held h = go (eqb start 0) (sym t ∙ h)
-    where
-      go : (z : Bool) → either z (ltb (length m) start) ≡ true → pick z [] (value_at m start) ≡ []
-      go true e = refl
-      go false e =
-          let g : length m ≤ start = omega (arith, ltb-true (length m) start e) in
-          rw (drop_of_length-le m g)
-
-  pub field_none : b ≡ true → take width (held_at m start) ≡ []
-  field_none h = rw (none_held h) (take-nil width)
-
-  module _ (h : b ≡ false) where
-    pub start_within : start ≤ length m
-    start_within = go (eqb start 0) (sym t ∙ h)
-      where
-        go : (z : Bool) → either z (ltb (length m) start) ≡ false → start ≤ length m
-        go true e = never (cc)
-        go false e = ltb-false (length m) start e
-
-    held-is : held_at m start ≡ value_at m start
-    held-is = go (eqb start 0) (sym t ∙ h)
-      where
-        go : (z : Bool) → either z (ltb (length m) start) ≡ false → pick z [] (value_at m start) ≡ value_at m start
-        go true e = never (cc)
-        go false e = refl
-
-    module _ (n : ℕ) (e : n ≡ lead in_value (take (length m - start) (drop start m))) where
-      n-is : n ≡ lead in_value (drop start m)
-      n-is = e ∙ ap (lead in_value) (rest_of start m)
-
-      pub held : n ≤ length (take (length m - start) (drop start m))
-      held = rw (rest_of start m) (rw n-is (lead_le in_value (drop start m)))
-
-      pub field_whole : take n (take (length m - start) (drop start m)) ≡ held_at m start
-      field_whole = rw (rest_of start m, held-is) (rw n-is)
-
-      field_short : n < width → take n (take (length m - start) (drop start m)) ≡ take width (held_at m start)
-      field_short g =
-          rw (rest_of start m, held-is)
-          (rw (← n-is) (sym (take_all width (take n (drop start m)) (simp length-take (omega arith)))))
-
-      field_long : width ≤ n → take width (take (length m - start) (drop start m)) ≡ take width (held_at m start)
-      field_long g = rw (rest_of start m, held-is) (rw (← n-is) (sym (take-take width n (drop start m) g)))
-
-      pub field_cut : (w : ℕ) → w ≡ min n width → take w (take (length m - start) (drop start m)) ≡ take width (held_at m start)
-      field_cut w f = go (ltb n width) refl
-        where
-          go : (z : Bool) → z ≡ ltb n width → take w (take (length m - start) (drop start m)) ≡ take width (held_at m start)
-          go true g =
-              let z : w ≡ n = omega (arith, ltb-true n width (sym g)) in
-              rw z (field_short (ltb-true n width (sym g)))
-          go false g =
-              let z : w ≡ width = omega (arith, ltb-false n width (sym g)) in
-              rw z (field_long (ltb-false n width (sym g)))
+-- ---- as much of a value as a field holds
+pub field_cut : (v : List ℕ) (width w : ℕ) → w ≡ min (length v) width → take w v ≡ take width v
+field_cut v width w f = go (ltb (length v) width) refl
+  where
+    go : (z : Bool) → z ≡ ltb (length v) width → take w v ≡ take width v
+    go true g =
+        let h : length v ≤ width = omega (arith, ltb-true (length v) width (sym g)) in
+        let k : length v ≤ w = omega (arith, f, h) in
+        take_all w v k ∙ sym (take_all width v h)
+    go false g =
+        let z : w ≡ width = omega (arith, f, ltb-false (length v) width (sym g)) in
+        rw z
 
 -- ---- the record as far as it is written: its fields, and spaces behind them
 pub record So (at : ℕ) (d r : List ℕ) : Type 0 where
@@ -175,24 +147,6 @@ unfolding overwritten
 field_written w v =
     let z : w - length v ≡ w - length (take w v) = omega (arith, length-take w v) in
     rw (length-replicate {A = ℕ} w 32, drop_replicate (length v) w 32, z) (sym (padded_is w v))
-
-pub none_written : (w : ℕ) (v : List ℕ) → v ≡ [] → replicate w 32 ≡ padded w v
-unfolding padded
-none_written w v e = rw e (sym (take_all w (replicate w 32) (omega (arith, length-replicate {A = ℕ} w 32))))
-
--- EndToEndId, where nothing stands at its place, and where something does
-module _ (m : List ℕ) (start : ℕ) (b : Bool) (t : b ≡ either (eqb start 0) (ltb (length m) start)) where
-  abbrev collapsed_at : List ℕ
-  collapsed_at = collapsed (held_at m start)
-
-  pub end_none : b ≡ true → replicate 35 32 ≡ padded 35 collapsed_at
-  unfolding collapsed
-  end_none h = none_written 35 collapsed_at (rw (none_held m start 35 b t h))
-
-  pub end_written : b ≡ false → (n : ℕ) → n ≡ lead in_value (take (length m - start) (drop start m))
-      → (x : List ℕ) → x ≡ overwritten (collapsed (take n (take (length m - start) (drop start m)))) (replicate 35 32) → x ≡ padded 35 collapsed_at
-  end_written h n e x g =
-      g ∙ ap (λ (v : List ℕ). overwritten (collapsed v) (replicate 35 32)) (field_whole m start 35 b t h n e) ∙ field_written 35 collapsed_at
 
 -- ---- a reference laid over spaces is EndToEndId collapsed: it has no white space
 drop_spaces : (n w : ℕ) (t : List ℕ) → n ≤ w → drop n (replicate w 32 ++ t) ≡ replicate (w - n) 32 ++ t

@@ -65,8 +65,7 @@ fn start_of(starts: [u32; profile::FIELDS], f: Field) -> usize
 }
 
 // The same of an item's row.
-fn row_start(row: &[u64], f: Field) -> usize
-    requires { length row.now ≡ row_length }
+fn row_start(row: &[u64; engine::ROW], f: Field) -> usize
     ensures { result ≡ start_of row.now f }
 {
     row[profile::number_of(f)] as usize
@@ -93,38 +92,46 @@ pub fn none_at(m: &[u8], start: usize) -> bool
     start == 0 || m.len() < start
 }
 
-// The value at a place, up to the next `<`: at most so many bytes of it, laid at an offset; nothing at place 0.
+// The value at a place, up to the next `<`: an empty one where none is to be had.
+pub fn held(m: &[u8], start: usize) -> &[u8]
+    ensures { result.now ≡ held_at m.now start }
+{
+    if none_at(m, start) {
+        return &[];
+    }
+    twice::value_at(m, start)
+}
+
+// The value at a place: at most so many bytes of it, laid at an offset.
 fn put_at(rec: &mut [u8; LENGTH], at: usize, width: usize, m: &[u8], start: usize)
     requires { at + width ≤ record_length }
     ensures { rec.new ≡ laid at (take width (held_at m.now start)) rec.old }
 {
-    if none_at(m, start) {
-        return;
-    }
-    let s = &m[start..];
-    lay(rec, at, &s[..tags::upto(s).min(width)])
+    let v = held(m, start);
+    lay(rec, at, &v[..v.len().min(width)])
 }
 
 // The value of a field, where its start was noted, laid at an offset.
-fn put(rec: &mut [u8; LENGTH], at: usize, width: usize, m: &[u8], row: &[u64], f: Field)
-    requires { (at + width ≤ record_length) × (length row.now ≡ row_length) }
+fn put(
+    rec: &mut [u8; LENGTH],
+    at: usize,
+    width: usize,
+    m: &[u8],
+    row: &[u64; engine::ROW],
+    f: Field,
+)
+    requires { at + width ≤ record_length }
     ensures { rec.new ≡ laid at (take width (held_at m.now (start_of row.now f))) rec.old }
 {
     put_at(rec, at, width, m, row_start(row, f))
 }
 
-// EndToEndId, from where its start was noted up to the next `<`, collapsed, laid at its offset.
+// EndToEndId, from where its start was noted, collapsed, laid at its offset.
 fn put_collapsed(rec: &mut [u8; LENGTH], m: &[u8], start: usize)
     ensures { rec.new ≡ laid 35 (padded 35 (collapsed (held_at m.now start))) rec.old }
 {
     let mut field = [32; 35];
-    if none_at(m, start) {
-        lay(rec, 35, &field);
-        return;
-    }
-    let s = &m[start..];
-    let n = tags::upto(s);
-    words::collapse(&s[..n], &mut field);
+    words::collapse(held(m, start), &mut field);
     lay(rec, 35, &field)
 }
 
@@ -154,8 +161,7 @@ fn put_cents(rec: &mut [u8; LENGTH], cents: u64)
 }
 
 // The fields up to the cents, each laid at its offset.
-fn put_to_cents(rec: &mut [u8; LENGTH], m: &[u8], row: &[u64])
-    requires { length row.now ≡ row_length }
+fn put_to_cents(rec: &mut [u8; LENGTH], m: &[u8], row: &[u64; engine::ROW])
     ensures { rec.new ≡ all_laid (to_cents m.now row.now) rec.old }
 {
     put(rec, 0, 35, m, row, Field::TxId);
@@ -168,8 +174,7 @@ fn put_to_cents(rec: &mut [u8; LENGTH], m: &[u8], row: &[u64])
 }
 
 // Those behind the cents up to InstrId, likewise; SeqTp from its place.
-fn put_to_instr_id(rec: &mut [u8; LENGTH], m: &[u8], row: &[u64], sequence: usize)
-    requires { length row.now ≡ row_length }
+fn put_to_instr_id(rec: &mut [u8; LENGTH], m: &[u8], row: &[u64; engine::ROW], sequence: usize)
     ensures { rec.new ≡ all_laid (to_instr_id m.now row.now sequence) rec.old }
 {
     put(rec, 195, 10, m, row, Field::ReqdColltnDt);
@@ -180,8 +185,7 @@ fn put_to_instr_id(rec: &mut [u8; LENGTH], m: &[u8], row: &[u64], sequence: usiz
 }
 
 // The last ones, likewise, and the byte that ends the record; LclInstrm from its place.
-fn put_to_end(rec: &mut [u8; LENGTH], m: &[u8], row: &[u64], instrument: usize)
-    requires { length row.now ≡ row_length }
+fn put_to_end(rec: &mut [u8; LENGTH], m: &[u8], row: &[u64; engine::ROW], instrument: usize)
     ensures { rec.new ≡ all_laid (to_end m.now row.now instrument) rec.old }
 {
     put_at(rec, 290, 4, m, instrument);
@@ -189,10 +193,9 @@ fn put_to_end(rec: &mut [u8; LENGTH], m: &[u8], row: &[u64], instrument: usize)
     rec[319] = b'\n';
 }
 
-// The record of an item, from its row and what was noted above it: all spaces, then each field at its offset; and written into its part of the area.
-fn make_record(part: &mut [u8], m: &[u8], row: &[u64], above: [u32; profile::FIELDS])
-    requires { (length row.now ≡ row_length) × (length part.old ≡ record_length) }
-    ensures { part.new ≡ record_of m.now row.now above }
+// The record of an item, from its row and what was noted above it: all spaces, then each field at its offset.
+fn make_record(m: &[u8], row: &[u64; engine::ROW], above: [u32; profile::FIELDS]) -> [u8; LENGTH]
+    ensures { result ≡ record_of m.now row.now above }
 {
     let sequence = or_above(row_start(row, Field::SeqTp), above, Field::SeqTp);
     let instrument = or_above(row_start(row, Field::LclInstrm), above, Field::LclInstrm);
@@ -200,19 +203,21 @@ fn make_record(part: &mut [u8], m: &[u8], row: &[u64], above: [u32; profile::FIE
     put_to_cents(&mut rec, m, row);
     put_to_instr_id(&mut rec, m, row, sequence);
     put_to_end(&mut rec, m, row, instrument);
-    part.copy_from_slice(&rec)
+    rec
 }
 
 // The records of so many rows, one behind the other.
-fn lay_rows(m: &[u8], rows: &[u64], n: usize, above: [u32; profile::FIELDS], area: &mut [u8])
-    requires { (row_length * n ≤ length rows.now) × (length area.old ≡ record_length * n) }
-    ensures { area.new ≡ records_of m.now above n rows.now }
+fn lay_rows(m: &[u8], flat: &[u64], n: usize, above: [u32; profile::FIELDS], area: &mut [u8])
+    requires { (row_length * n ≤ length flat.now) × (length area.old ≡ record_length * n) }
+    ensures { area.new ≡ records_of m.now above n flat.now }
 {
+    let (rows, _) = flat.as_chunks::<{ engine::ROW }>();
+
+    // The area by places: `as_chunks_mut` says nothing of what the slice ends as.
     for i in 0..n {
         let from = LENGTH * i;
-        let first = engine::ROW * i;
-        let row = &rows[first..first + engine::ROW];
-        make_record(&mut area[from..from + LENGTH], m, row, above);
+        let rec = make_record(m, &rows[i], above);
+        area[from..from + LENGTH].copy_from_slice(&rec);
     }
 }
 

@@ -7,6 +7,7 @@ use Rattle.std.proofs.lemmas.Result.{err_from_is_err_and}
 use Rattle.answers.specs.declared.Refused.{Refused}
 use Rattle.notes.specs.declared.State.{State}
 use Rattle.text.specs.Truth.{lead, pick}
+use Rattle.text.proofs.Truths.{never}
 use Rattle.text.proofs.Scan.{rest_of}
 use Rattle.tags.specs.declared.Look.{Look}
 use Rattle.tags.specs.declared.Look.TheVariants.{Whole, Cut, Other}
@@ -144,6 +145,9 @@ pub same_is : {m : List ℕ} {t u : Trace} {x : Notes} {l : List ℕ} {r : Going
 same_is e i = rw e at i
 
 -- the error that `?` hands on is the one that came
+pub handed : (P : Going → Type 0) (r : Refused) (z : Result State Refused) → IsErrAnd z (λ e. e ≡ r) → P (stepped (Err r)) → P (stepped z)
+handed P r z h i = let w = err_from_is_err_and z h in rw (w.1, w.2) i
+
 pub handed_on : {m : List ℕ} {t : Trace} {x : Notes} {l y : List ℕ} (r : Refused) (z : Result State Refused) → IsErrAnd z (λ e. e ≡ r) → Makes m t x l (stepped (Err r)) y
     → Makes m t x l (stepped z) y
 handed_on r z h i = let w = err_from_is_err_and z h in rw (w.1, w.2) i

@@ -1,23 +1,18 @@
--- An item that the quick reader tells: it begins, there is room for its amount, and it is the first, or one more of those that come. And an item told in a row.
-use Rattle.std.proofs.Common.{◌≡◌, ℕ, ◌+◌, ◌-◌, ◌*◌, ◌/◌, ◌<◌, ◌≤◌, List, length, sym, refl, ◌∙◌, arith}
-use Rattle.std.specs.Prelude.{Option, None, Some}
-use borrow.Rule.Slice.PartMut.{put_same}
+-- An item that the quick reader tells: it begins, there is room for its amount, and it is the first, or one more of those that come.
+use Rattle.std.proofs.Common.{◌≡◌, ℕ, ◌-◌, ◌<◌, ◌≤◌, List, length, sym, refl, ◌∙◌, arith}
 use Rattle.tags.specs.declared.Look.TheVariants.{Whole}
 use Rattle.tags.specs.Tags.{skipped}
 use Rattle.profile.specs.declared.Version.{Version}
 use Rattle.profile.specs.Profile.{in_item}
 use Rattle.items.specs.Alone.{item_tag, item_body}
 use Rattle.reading.specs.Trace.{fault, trace}
-use Rattle.reading.specs.Noted.{Reading, on, stop, onward, Ended}
+use Rattle.reading.specs.Noted.{Reading, on, onward, Ended}
 use Rattle.notes.specs.declared.Notes.{Notes}
 use Rattle.notes.specs.Notes.{item_noted}
 use Rattle.notes.specs.Steps.{staying, Good, Room}
 use Rattle.notes.proofs.Notings.{here}
 use Rattle.notes.proofs.Stays.{good_at}
-use Rattle.engine.specs.Engine.{item_at}
-use Rattle.engine.specs.Several.{row_length, told_in, Tells}
-use Rattle.engine.proofs.Rows.{Reads, row_at, with_row, reads_stop, reads_on}
-use Rattle.straight.specs.Exact.{due_item, Makes, ItemBegins, Onward, ItemTold, ItemLeft, RowRead}
+use Rattle.straight.specs.Exact.{due_item, Makes, ItemBegins, Onward}
 use Rattle.straight.proofs.Begins.{item_fine, item_room, item_makes}
 use Rattle.straight.proofs.Groups.{by_whole}
 use Rattle.straight.proofs.Again.{loop_next}
@@ -75,22 +70,3 @@ module _ {v : Version} {m : List ℕ} {u : Ended Notes} {at : ℕ} {y : Ended No
   -- the first, which is due
   pub swift_first : Makes m (due_item v m u.at) u.notes l (on z) f
   swift_first = by_whole m u.at u.notes x.was item_tag q refl near Whole (sym x.begins.whole) (item_body v m) (fault 4) l refl (on z) f (x.whole l z f j)
-
--- ---- rows
-module _ (v : Version) (m : List ℕ) (p : ℕ) (row : List ℕ) where
-  pub row_told : (after : List ℕ) (z : Ended Notes) → item_at v m p ≡ on z → z.at ≤ length m → after ≡ told_in z.notes row → ItemTold v m p row z.at after
-  row_told after z e g t = record { notes = z.notes; is = e; within = g; told = t }
-
-  pub row_left : (x : Going) → x ≡ item_at v m p → (n q : ℕ) → x ≡ stop n q → ItemLeft v m p row row
-  row_left x e n q h = record { number = n; place = q; is = sym e ∙ h; left = refl }
-
-module _ {v : Version} {m : List ℕ} {first : ℕ} {rows₀ : List ℕ} {i at : ℕ} {rows : List ℕ} (k : Reads v m first rows₀ i at rows) (h : i < length rows₀ / row_length) (b : Option ℕ) where
-  pub row_stops : b ≡ None → (x : List ℕ) → RowRead v m at (row_at k h) b x → Tells v m first rows₀ (record { read = i; at = at }) (with_row k h x)
-  row_stops e x t =
-      let l : ItemLeft v m at (row_at k h) x = rw e at t in
-      rw (l.left, put_same (row_length * i) (row_length * i + row_length - row_length * i) rows) (reads_stop k h refl l.number l.place l.is)
-
-  pub row_goes : (r : ℕ) → b ≡ Some r → (x : List ℕ) → RowRead v m at (row_at k h) b x → length x ≡ length (row_at k h) → Reads v m first rows₀ (i + 1) r (with_row k h x) × (r ≤ length m)
-  row_goes r e x t l =
-      let o : ItemTold v m at (row_at k h) r x = rw e at t in
-      (reads_on k h refl (here r o.notes) o.is x o.told l, o.within)

@@ -1,6 +1,5 @@
 -- A value's element alone, by its two tags; what the exact readers answer.
-use Rattle.std.specs.Prelude.{◌≡◌, ℕ, ◌+◌, ◌≤◌, Bool, true, false, List, ◌++◌, length, drop}
-use Rattle.std.specs.Prelude.{Option, None, Some}
+use Rattle.std.specs.Prelude.{◌≡◌, ℕ, ◌+◌, Bool, true, false, List, ◌++◌, length, drop}
 use Rattle.text.specs.Truth.{pick}
 use Rattle.tags.specs.declared.Look.TheVariants.{Whole}
 use Rattle.tags.specs.Tags.{skipped, look, on_look, exactly, plain_tag, amount_tag, end_tag, currency}
@@ -44,8 +43,7 @@ use Rattle.notes.specs.Steps.{reads, Room, Fine}
 use Rattle.profile.specs.Tree.{once, many, Shape, end, group}
 use Rattle.items.specs.Alone.{item_tag, item_body}
 use Rattle.straight.specs.Pieces.{pmt_id}
-use Rattle.engine.specs.Engine.{closed_by, valued_by, item_at, or_else, placed}
-use Rattle.engine.specs.Several.{told_in}
+use Rattle.engine.specs.Engine.{closed_by, valued_by, or_else, placed}
 
 -- due, or where it may be left out passed over
 unfoldable pub leaf_of : Bool → List ℕ → List ℕ → Kind → Field → List ℕ → ℕ → Trace
@@ -213,21 +211,3 @@ pub record Onward (v : Version) (m : List ℕ) (n : ℕ) (r : Reading (Ended Not
   pub same : onward r (λ z. reads (more_of v m n z.at) z.notes) ≡ onward s (λ z. reads (more_of v m i z.at) z.notes)
   pub places : or_else r (λ z. placed (more_of v m n z.at) z.notes k) k ≡ or_else s (λ z. placed (more_of v m i z.at) z.notes l) l
   pub long : length l ≡ length k
-
--- an item from p on, with nothing noted before it, is told in a row, and r is the place behind it
-pub record ItemTold (v : Version) (m : List ℕ) (p : ℕ) (row : List ℕ) (r : ℕ) (after : List ℕ) : Type 0 where
-  pub notes : Notes
-  pub is : item_at v m p ≡ on (record { at = r; notes = notes })
-  pub within : r ≤ length m
-  pub told : after ≡ told_in notes row
-
--- it cannot be read, and the row is left as it was
-pub record ItemLeft (v : Version) (m : List ℕ) (p : ℕ) (row after : List ℕ) : Type 0 where
-  pub number : ℕ
-  pub place : ℕ
-  pub is : item_at v m p ≡ stop number place
-  pub left : after ≡ row
-
-abbrev pub RowRead : Version → List ℕ → ℕ → List ℕ → Option ℕ → List ℕ → Type 0
-RowRead v m p row (Some r) after = ItemTold v m p row r after
-RowRead v m p row None after = ItemLeft v m p row after

@@ -1,16 +1,15 @@
 // What is kept of the items before one, and helps to read it: how its runs of tags were spelled, stretches of several elements, and how long values were.
 ghost use Rattle.std.specs.Prelude.{◌≡◌, ◌+◌, ◌<◌, ◌≤◌, List, ℕ, length, slice_index, IfSome};
 ghost use Rattle.profile.specs.declared.Version.{Version};
-ghost use Rattle.swift_values.specs.Stands.{Stands};
 ghost use Rattle.straight.specs.Spelled.{Spelled};
 ghost use Rattle.straight.specs.Runs.{text_at, Texts};
 ghost use Rattle.straight.specs.Kept.{Kept};
 
 use crate::{between, quick};
-use profile::{Simple, Version};
+use profile::Version;
 
 // How a run was spelled: where, and in how many bytes; 0 bytes where that is not known, and how many items go by until it is kept again.
-// (No Option: `again` asks how many bytes there are anyway, at each run, so 0 of them costs no question of its own.)
+// (No Option: `again` answers None for fewer than 16 bytes, and 0 are fewer, so an Option would be taken apart only to ask that once more.)
 #[derive(Clone, Copy)]
 pub struct Spelling {
     pub place: usize,
@@ -25,7 +24,8 @@ pub struct Stretch<T> {
     pub found: T,
 }
 
-// Where the codes of the payment type begin (0 where it is not there, as in the notes' starts), which code LclInstrm is, and the value of the amount.
+// Where the codes of the payment type begin, which code LclInstrm is, and the value of the amount.
+// (0 where the type is not there: these places go as they are into the notes' starts, plain numbers in fixed memory of which 0 is none.)
 #[derive(Clone, Copy)]
 pub struct Codes {
     pub at: usize,
@@ -54,7 +54,7 @@ pub struct CreditorSide {
     pub agent: usize,
 }
 
-// How long values were: guesses, of which nothing is said.
+// How long values were: guesses, of which nothing is said. Each value is read by its guess, and then keeps its own length as the next.
 #[derive(Clone, Copy)]
 pub struct Lengths {
     pub instr_id: usize,
@@ -65,6 +65,7 @@ pub struct Lengths {
 }
 
 // What is kept of the items before, all of one message and one version.
+// (Kept, which each step asks, is no invariant of it: it tells of a message and a version, and this holds neither; they would have to be lent to it beside Source.)
 #[derive(Clone, Copy)]
 pub struct Before {
     pub runs: [Spelling; between::MANY],
@@ -168,20 +169,5 @@ impl Source<'_> {
             return Some(e);
         }
         self.anew(at, before, j)
-    }
-
-    // A value of a kind whose length is guessed, and kept as the next guess: where it ends. (Of another kind none is read: each use names one of these three.)
-    #[inline(always)]
-    pub fn guessed(self, kind: Simple, at: usize, guess: &mut usize) -> Option<usize>
-        ensures { IfSome result (Stands kind self.entry.m.now at) }
-    {
-        let e = match kind {
-            Simple::Reference => swift_values::reference(self.m, at, *guess),
-            Simple::EndToEnd => swift_values::end_to_end(self.m, at, *guess),
-            Simple::Text140 => swift_values::remittance(self.m, at, *guess),
-            _ => None,
-        }?;
-        *guess = e - at;
-        Some(e)
     }
 }

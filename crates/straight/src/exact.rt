@@ -281,10 +281,7 @@ impl Message<'_> {
         ensures { Makes self.entry.m.now (due_item self.entry.v self.entry.m.now st.at) st.notes places.old (stepped result) places.new }
     {
         let Sought { look, at } = self.seek(b"<DrctDbtTxInf>", st);
-        match look {
-            Look::Whole => self.item(st.at_place(at as u32), places),
-            Look::Cut => Err(Refusal::Cut.at(self.m.len())),
-            Look::Other => Err(Refusal::OtherTag.at(at)),
-        }
+        engine::expect_whole(look, self.m, at)?;
+        self.item(st.at_place(at as u32), places)
     }
 }

@@ -28,7 +28,7 @@ ghost use Rattle.engine.specs.Engine.{message_at, places_at, item_at};
 ghost use Rattle.engine.specs.Several.{Tells};
 ghost use Rattle.straight.specs.Runs.{Texts};
 ghost use Rattle.straight.specs.Kept.{Kept};
-ghost use Rattle.straight.specs.Exact.{more_of, in_bulk, Makes, Onward, RowRead};
+ghost use Rattle.straight.specs.Exact.{more_of, in_bulk, Makes, Onward};
 
 // The state behind some items, and how many more may come.
 #[derive(Clone, Copy)]
@@ -148,6 +148,19 @@ fn swift_item(source: Source, p: usize, before: &mut Before) -> Option<State>
     Some(noted::note_item(begun, r))
 }
 
+// The item that stands at a place, with nothing noted before it: by the quick reader, or by the exact one where that does not tell.
+fn alone(source: Source, p: usize, before: &mut Before) -> Result<State, Refused>
+    requires { (length source.m.now ≤ most_bytes) × (p ≤ length source.m.now) × Texts source.t.now × Kept source.m.now source.v before.old }
+    ensures { (stepped result ≡ item_at source.entry.v source.entry.m.now p) × Fine source.entry.m.now 0 (stepped result) × Kept source.entry.m.now source.entry.v before.new }
+{
+    if let Some(st) = swift_item(source, p, before) {
+        return Ok(st);
+    }
+    let Source { m, v, .. } = source;
+    let mut none = [0; 1];
+    Message { m, v }.first_item(State::new(p as u32), &mut none)
+}
+
 // The item that stands at a place, after white space, with nothing noted before it.
 pub fn item(m: &[u8], at: usize, v: Version) -> Result<State, Refused>
     ensures { (stepped result ≡ item_at v m.now at) × Fine m.now 0 (stepped result) }
@@ -156,46 +169,12 @@ pub fn item(m: &[u8], at: usize, v: Version) -> Result<State, Refused>
         return Err(Refusal::TooLong.at(0));
     }
     let t = quick::texts();
-    let source = Source { m, v, t: &t };
     let mut before = Before::new();
-    if let Some(st) = swift_item(source, at, &mut before) {
-        return Ok(st);
-    }
-    let mut none = [0; 1];
-    Message { m, v }.first_item(State::new(at as u32), &mut none)
-}
-
-// The item that stands at a place, with nothing noted before it, told in a row by the exact reader: the place behind it, where it was read.
-fn exact_row(m: &[u8], p: usize, v: Version, row: &mut [u64]) -> Option<usize>
-    requires { (length m.now ≤ most_bytes) × (p ≤ length m.now) }
-    ensures { RowRead v m.now p row.old result row.new }
-{
-    let mut none = [0; 1];
-    let read = Message { m, v }.first_item(State::new(p as u32), &mut none);
-    match read {
-        Err(_) => None,
-        Ok(st) => {
-            engine::tell(row, st.notes);
-            Some(st.at as usize)
-        }
-    }
-}
-
-// The same by the quick reader, or by the exact one where that does not tell.
-fn one_row(source: Source, p: usize, row: &mut [u64], before: &mut Before) -> Option<usize>
-    requires { (length source.m.now ≤ most_bytes) × (p ≤ length source.m.now) × Texts source.t.now × Kept source.m.now source.v before.old }
-    ensures { RowRead source.entry.v source.entry.m.now p row.old result row.new × Kept source.entry.m.now source.entry.v before.new }
-{
-    match swift_item(source, p, before) {
-        None => exact_row(source.m, p, source.v, row),
-        Some(st) => {
-            engine::tell(row, st.notes);
-            Some(st.at as usize)
-        }
-    }
+    alone(Source { m, v, t: &t }, at, &mut before)
 }
 
 // As many items as rows have room for, from a place on, one behind the other; what was kept of those before helps to read the next. None where rule 1 or the place forbids it.
+// (`engines::items_by_table` has this loop too: one for both would take how an item is read as a closure, with what it keeps and its contract, and be longer than the loop.)
 pub fn items(m: &[u8], at: usize, v: Version, rows: &mut [u64]) -> Several
     ensures { Tells v m.now at rows.old result rows.new }
 {
@@ -208,13 +187,12 @@ pub fn items(m: &[u8], at: usize, v: Version, rows: &mut [u64]) -> Several
     let mut before = Before::new();
     let mut p = at;
     for i in 0..most {
-        let from = engine::ROW * i;
-        let to = from + engine::ROW;
-        let r = one_row(source, p, &mut rows[from..to], &mut before);
-        let Some(next) = r else {
+        let Ok(st) = alone(source, p, &mut before) else {
             return Several { read: i, at: p };
         };
-        p = next;
+        let from = engine::ROW * i;
+        engine::tell(&mut rows[from..from + engine::ROW], st.notes);
+        p = st.at as usize;
     }
     Several { read: most, at: p }
 }

@@ -12,7 +12,7 @@ use notes::State;
 use profile::{Field, Kind, Version};
 use tags::Look;
 
-// A message, and the version by which it is read.
+// A message, and the version by which it is read. (Good, which each step asks, is no invariant: it ties a state to a message, and neither holds the other.)
 // (Where TxIds begin is lent beside it. Inside it, as was tried, each contract must say that message, version and loan stay, and each proof of more than
 // three steps must spell every step to carry that on.)
 #[derive(Clone, Copy)]
@@ -46,11 +46,8 @@ impl Message<'_> {
         ensures { (stepped result ≡ reads (closed_by (exactly finish.now) self.entry.m.now st.at) st.notes) × Fine self.entry.m.now st.at (stepped result) }
     {
         let at = st.at as usize;
-        match tags::text_at(finish, &self.m[at..]) {
-            Look::Whole => Ok(st.at_place((at + finish.len()) as u32)),
-            Look::Cut => Err(Refusal::Cut.at(self.m.len())),
-            Look::Other => Err(Refusal::OtherTag.at(at)),
-        }
+        engine::expect_whole(tags::text_at(finish, &self.m[at..]), self.m, at)?;
+        Ok(st.at_place((at + finish.len()) as u32))
     }
 
     // A group's end tag, which is due after white space.
@@ -69,11 +66,8 @@ impl Message<'_> {
         ensures { (stepped result ≡ reads (open_of start.now self.entry.m.now st.at) st.notes) × Fine self.entry.m.now st.at (stepped result) }
     {
         let Sought { look, at } = self.seek(start, st);
-        match look {
-            Look::Whole => Ok(st.at_place((at + start.len()) as u32)),
-            Look::Cut => Err(Refusal::Cut.at(self.m.len())),
-            Look::Other => Err(Refusal::OtherTag.at(at)),
-        }
+        engine::expect_whole(look, self.m, at)?;
+        Ok(st.at_place((at + start.len()) as u32))
     }
 
     // The value at the state's place, which is no amount of an item, and its end tag.
@@ -208,17 +202,12 @@ impl Message<'_> {
         ensures { (stepped result ≡ reads (enter_of start.now self.entry.m.now st.at) st.notes) × Fine self.entry.m.now st.at (stepped result) }
     {
         let Sought { look, at } = self.seek_amount(start, st);
-        match look {
-            Look::Whole => {
-                let e = at + start.len() + tags::CURRENCY;
-                if tags::in_euro(self.m, e) {
-                    return Ok(st.at_place(e as u32));
-                }
-                Err(Refusal::Currency.at(tags::currency_place(e)))
-            }
-            Look::Cut => Err(Refusal::Cut.at(self.m.len())),
-            Look::Other => Err(Refusal::OtherTag.at(at)),
+        engine::expect_whole(look, self.m, at)?;
+        let e = at + start.len() + tags::CURRENCY;
+        if tags::in_euro(self.m, e) {
+            return Ok(st.at_place(e as u32));
         }
+        Err(Refusal::Currency.at(tags::currency_place(e)))
     }
 
     // An item's amount at the state's place, which is added to the running sum, and its end tag.

@@ -15,7 +15,7 @@ use crate::between::Side;
 use crate::{between, quick};
 use codes::Element;
 use money::Range;
-use profile::{Simple, Version};
+use profile::Version;
 
 // A tag begins at a place.
 fn tag_at(m: &[u8], at: usize) -> bool
@@ -23,13 +23,6 @@ fn tag_at(m: &[u8], at: usize) -> bool
     ensures { result ≡ true → (at < length m.now) × (slice_index m.now at ≡ 60) }
 {
     at != m.len() && m[at] == b'<'
-}
-
-// Whether a service may stand where another stood first, or none.
-fn may_follow(first: Option<u64>, listed: u64) -> bool
-    ensures { result ≡ may_follow first listed }
-{
-    first.unwrap_or(listed) == listed
 }
 
 // A BIC by the version.
@@ -74,7 +67,7 @@ struct Two {
     noted: usize,
 }
 
-// Where the values up to ReqdColltnDt begin, the cents, which code LclInstrm is, and the value of MndtId.
+// Where the values up to ReqdColltnDt begin, the cents, which code LclInstrm is, and the value of MndtId. (0 for none, as in Codes.)
 #[derive(Clone, Copy)]
 pub struct Front {
     pub at: usize,
@@ -127,7 +120,8 @@ impl Source<'_> {
             let z = self.anew(at, before, between::START_TO_END_TO_END_ID)?;
             return Some(Begun { at: z, first: 0 });
         };
-        let b = self.guessed(Simple::Reference, a, &mut before.lengths.instr_id)?;
+        let b = swift_values::reference(self.m, a, before.lengths.instr_id)?;
+        before.lengths.instr_id = b - a;
         let z = self.run(b, before, between::INSTR_ID_TO_END_TO_END_ID)?;
         Some(Begun { at: z, first: a })
     }
@@ -139,7 +133,8 @@ impl Source<'_> {
             × Kept self.entry.m.now self.entry.v before.new }
     {
         let e = self.begin(at, before)?;
-        let a = self.guessed(Simple::EndToEnd, e.at, &mut before.lengths.end_to_end_id)?;
+        let a = swift_values::end_to_end(self.m, e.at, before.lengths.end_to_end_id)?;
+        before.lengths.end_to_end_id = a - e.at;
         let z = self.run(a, before, between::END_TO_END_ID_TO_TX_ID)?;
         Some(Ids {
             at: z,
@@ -155,7 +150,7 @@ impl Source<'_> {
     {
         let Stretch { from, found } = before.typed?;
         let z = quick::again_wide(self.m, at, from, found.at - from)?;
-        if !may_follow(first, found.listed) {
+        if !notes::may_follow(first, found.listed) {
             return None;
         }
         Some(Codes {
@@ -179,7 +174,7 @@ impl Source<'_> {
         let a = swift_values::code(Element::SvcLvl, self.m, p)?;
         let b = self.run(a.at, before, between::SVC_LVL_TO_LCL_INSTRM)?;
         let c = swift_values::code(Element::LclInstrm, self.m, b)?;
-        if !may_follow(first, c.worth) {
+        if !notes::may_follow(first, c.worth) {
             return None;
         }
         let d = self.run(c.at, before, between::LCL_INSTRM_TO_SEQ_TP)?;
@@ -236,7 +231,8 @@ impl Source<'_> {
         ensures { IfSome result (λ r. CodesWithin (length self.entry.m.now) r × Gone self.entry.m.now at (type_legs at r.level r.service r.sequence r.listed) r.at × Follows said first r.level r.listed)
             × Kept self.entry.m.now self.entry.v before.new }
     {
-        let a = self.guessed(Simple::Reference, at, &mut before.lengths.tx_id)?;
+        let a = swift_values::reference(self.m, at, before.lengths.tx_id)?;
+        before.lengths.tx_id = a - at;
         if said == Some(true) {
             return self.no_type(a, before);
         }
@@ -317,7 +313,8 @@ impl Source<'_> {
         requires { (at ≤ length self.m.now) × Texts self.t.now × Kept self.m.now self.v before.old }
         ensures { IfSome result (λ r. (r.noted ≤ length self.entry.m.now) × Gone self.entry.m.now at (mandate_legs at r.noted) r.at) × Kept self.entry.m.now self.entry.v before.new }
     {
-        let a = self.guessed(Simple::Reference, at, &mut before.lengths.mndt_id)?;
+        let a = swift_values::reference(self.m, at, before.lengths.mndt_id)?;
+        before.lengths.mndt_id = a - at;
         let b = self.run(a, before, between::MNDT_ID_TO_DT_OF_SGNTR)?;
         let z = swift_values::date(self.m, b)?;
         Some(Two { at: z, noted: b })
@@ -427,7 +424,8 @@ impl Source<'_> {
             let z = self.anew(a, before, to_end)?;
             return Some(Two { at: z, noted: 0 });
         };
-        let c = self.guessed(Simple::Text140, b, &mut before.lengths.ustrd)?;
+        let c = swift_values::remittance(self.m, b, before.lengths.ustrd)?;
+        before.lengths.ustrd = c - b;
         let z = self.run(c, before, between::USTRD_TO_END)?;
         Some(Two { at: z, noted: b })
     }

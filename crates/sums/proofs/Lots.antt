@@ -1,6 +1,6 @@
 -- What the code answers, from what the judge noted, is what the message adds to the table.
 use mathlib.Core.Path.{◌≡◌, ap, sym, ◌∙◌}
-use mathlib.Core.List.{List, []}
+use mathlib.Core.List.{List}
 use mathlib.Core.Logic.{inl, inr}
 use Prim.Native.Nat.{ℕ, ◌≤◌}
 use native.Mathlib.Omega.{arith}
@@ -34,12 +34,6 @@ worth_of (Ok i) = Some i
 worth_of (Err r) = None
 
 module _ (m : List ℕ) (start : ℕ) where
-  -- nothing stands there
-  pub no_type : held_at m start ≡ [] → None ≡ type_at m start
-  unfolding type_at code_given
-  no_type e = rw e
-
-  -- and something does
   pub type_given : (v : List ℕ) → v ≡ held_at m start → (r : Result ℕ Refusal) → given_worth r ≡ code_given SeqTp v → worth_of r ≡ type_at m start
   unfolding type_at
   type_given v e (Ok i) h = rw (← e, ← h)

@@ -19,7 +19,7 @@ use profile::Field;
 // What a bulk adds to the table of the open cents: its service, by its place in its list from 1 on, and its cents by sequence type.
 #[derive(Clone, Copy)]
 pub struct Lot {
-    // A number, as `lot_of` of specs/ and play's `table_of` have it: 0 is none.
+    // A number, since definitions keep their meaning: `lot_of`, and play's `with_lot`, count a service from 1, and 0 is none.
     pub service: u64,
     pub sums: [u64; 4],
 }
@@ -35,12 +35,7 @@ pub struct Weighed {
 fn type_at(m: &[u8], start: usize) -> Option<usize>
     ensures { result ≡ type_at m.now start }
 {
-    if records::none_at(m, start) {
-        return None;
-    }
-    let s = &m[start..];
-    let n = tags::upto(s);
-    match codes::code(Element::SeqTp, &s[..n]) {
+    match codes::code(Element::SeqTp, records::held(m, start)) {
         Ok(i) => Some(i as usize),
         Err(_) => None,
     }
@@ -87,7 +82,7 @@ fn make_lot(m: &[u8], s: &Survey) -> Lot
     ensures { result ≡ lot_of m.now }
 {
     let sums = sum_up(m, s);
-    // A number: `lot_of` and play's `table_of` count a service from 1, and 0 is none.
+    // No Option is handed on, since `lot_of` keeps its meaning: it says 0 of none.
     let service = match s.service {
         Some(i) => i + 1,
         None => 0,

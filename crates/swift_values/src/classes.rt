@@ -1,4 +1,5 @@
 // Classes of bytes, by ranges and without a branch.
+// (For the time: 32 bytes at once, each by the mask of `text::is_in`, took twice as long, in a loop of the same lines that was built by rustc.)
 ghost use Rattle.std.specs.Prelude.{◌≡◌, ◌&&◌, ◌||◌};
 ghost use Rattle.text.specs.Classes.{reference_set, text_set, digit, capital, capital_or_digit, letter_or_digit};
 ghost use Rattle.swift_values.specs.Lanes.{slashless};

@@ -8,6 +8,7 @@ ghost use Rattle.swift_values.specs.Dates.{pair_at};
 use crate::classes::{in_cap, in_digit};
 
 // Eight bytes at a place pass, each by a test of its place in the eight.
+// (By the place, which the test is told and the contract speaks of: over a part of the message both would begin anew, and it gets no shorter.)
 pub(crate) fn eight<F: Fn(usize, u8) -> bool>(m: &[u8], p: usize, passes: F) -> bool
     requires room { p + 8 ≤ length m.now }
     requires calls { F.IsAlwaysCallable passes }
@@ -49,17 +50,18 @@ pub(crate) fn pair_at(m: &[u8], p: usize) -> u64
     requires { p + 2 ≤ length m.now }
     ensures { (result ≡ pair_at m.now p) × (result ≤ 2805) }
 {
-    m[p] as u64 * 10 + m[p + 1] as u64
+    u64::from(m[p]) * 10 + u64::from(m[p + 1])
 }
 
 // Eight digits, each times its weight, as they are: 48 more than the digit.
-pub(crate) fn row(m: &[u8], p: usize, w: [u16; 8]) -> u16
+// (By the place, as the contract speaks of the message and the weights: a `zip` of a part and the weights is no shorter.)
+pub(crate) fn row(m: &[u8], p: usize, w: [u16; 8]) -> u64
     requires { (p + 8 ≤ length m.now) × All digit m.now p 8 × (every light w ≡ true) }
     ensures { (result ≡ balance m.now p w 8) × (result ≤ 43776) }
 {
     let mut s: u16 = 0;
     for i in 0..8 {
-        s += m[p + i] as u16 * w[i];
+        s += u16::from(m[p + i]) * w[i];
     }
-    s
+    u64::from(s)
 }

@@ -19,6 +19,7 @@ struct Figures {
 }
 
 // Up to nine digits that stand at a place.
+// (By the place: it is what is told, how many digits stand before it.)
 fn leading(m: &[u8], at: usize) -> Figures
     requires { at + 9 ≤ length m.now }
     ensures { (result.many ≤ 9) × (result.number ≤ 999999999) × Written m.now at result.many result.number }
@@ -29,7 +30,7 @@ fn leading(m: &[u8], at: usize) -> Figures
         if !in_digit(c) {
             return Figures { many: i, number: n };
         }
-        n = n * 10 + (c as u64 - 48);
+        n = n * 10 + (u64::from(c) - 48);
     }
     Figures { many: 9, number: n }
 }

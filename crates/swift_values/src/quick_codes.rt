@@ -18,6 +18,7 @@ fn plain_code(e: Element, m: &[u8], at: usize) -> Option<Worth>
 }
 
 // Four bytes stand at a place.
+// (Byte by byte and without a branch, for the time: `==` of slices stops at the first that differs, and straight was slower by it, docs/DESIGN-PASS.md.)
 fn are(m: &[u8], p: usize, c: [u8; 4]) -> bool
     requires { p + 4 ≤ length m.now }
     ensures { result ≡ true → part p 4 m.now ≡ c }

@@ -22,6 +22,7 @@ fn dated(m: &[u8], p: usize) -> bool
 }
 
 // How many days a month has in any year; both numbers are 528 more.
+// (The `days_in` of calendar goes by the year as well, and by numbers from which the 48s of their digits are taken: by it this would be longer.)
 fn days_of(month: u64) -> u64
     ensures { (y : ℕ) → result ≤ days_in y (month - 528) + 528 }
 {

@@ -37,7 +37,7 @@ fn leaves_german(m: &[u8], p: usize) -> bool
     let a = row(m, p + 2, [10, 1, 56, 25, 51, 73, 17, 89]);
     let b = row(m, p + 10, [38, 62, 45, 53, 15, 50, 5, 49]);
     let c = row(m, p + 14, [0, 0, 0, 0, 34, 81, 76, 27]);
-    (a as u64 + b as u64 + c as u64 + 54) % 97 == 1
+    (a + b + c + 54) % 97 == 1
 }
 
 // Twenty digits stand at a place.
@@ -69,6 +69,7 @@ fn usual_iban(m: &[u8], at: usize) -> Option<usize>
 }
 
 // How long the IBANs of a country are, by its two letters.
+// (The `length_of` of accounts asks for two capitals, and no function that another crate can call has a `requires`; here any two bytes may stand.)
 fn length_of(a: u8, b: u8) -> Option<usize>
     ensures { IfSome result (Long (a ∷ b ∷ [])) }
 {

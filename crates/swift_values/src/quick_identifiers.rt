@@ -37,7 +37,7 @@ fn opening(m: &[u8], p: usize) -> u64
     requires { p + 4 ≤ length m.now }
     ensures { (result ≡ get_or m.now p 0 * 9 + get_or m.now (p + 1) 0 * 3 + get_or m.now (p + 2) 0 * 10 + get_or m.now (p + 3) 0) × (result ≤ 5865) }
 {
-    m[p] as u64 * 9 + m[p + 1] as u64 * 3 + m[p + 2] as u64 * 10 + m[p + 3] as u64
+    u64::from(m[p]) * 9 + u64::from(m[p + 1]) * 3 + u64::from(m[p + 2]) * 10 + u64::from(m[p + 3])
 }
 
 // The number of an identifier of 18 characters leaves 1, of which the last eleven are digits. The weights are what the powers of ten leave; 79 is what all take away.
@@ -48,7 +48,7 @@ fn leaves_18(m: &[u8], p: usize) -> bool
     let h = opening(m, p);
     let a = row(m, p + 7, [62, 45, 53, 15, 50, 5, 49, 34]);
     let b = row(m, p + 10, [0, 0, 0, 0, 0, 81, 76, 27]);
-    (a as u64 + b as u64 + h + 79) % 97 == 1
+    (a + b + h + 79) % 97 == 1
 }
 
 // Eleven digits stand at a place: eight, and the last eight.

@@ -24,14 +24,10 @@ fn ref_run(m: &[u8], at: usize) -> usize
     if n < 32 {
         return n;
     }
-    if !ref_pair(m[at + 32], m[at + 33]) {
-        return 32;
-    }
-    if !ref_pair(m[at + 33], m[at + 34]) {
-        return 33;
-    }
-    if !ref_pair(m[at + 34], m[at + 35]) {
-        return 34;
+    for i in 32..35 {
+        if !ref_pair(m[at + i], m[at + i + 1]) {
+            return i;
+        }
     }
     35
 }

@@ -1,5 +1,5 @@
 // Names and remittance texts.
-ghost use Rattle.std.specs.Prelude.{◌≡◌, true, ℕ, ◌+◌, ◌≤◌, length, IfSome};
+ghost use Rattle.std.specs.Prelude.{◌≡◌, true, ℕ, ◌+◌, ◌<◌, ◌≤◌, length, IfSome};
 ghost use Rattle.text.specs.Classes.{text_set};
 ghost use Rattle.swift_values.specs.Lanes.{text_one, Run};
 ghost use Rattle.swift_values.specs.Stands.{Stands};
@@ -21,6 +21,18 @@ fn text_run(m: &[u8], at: usize) -> usize
     32 + passing(m, at + 32, |b, _| in_text(b))
 }
 
+// A name of n bytes of the text set stands at a place, and `<` behind it: where it ends.
+#[inline(always)]
+fn name_of(m: &[u8], at: usize, n: usize) -> Option<usize>
+    requires { (0 < at) × (at + n < length m.now) × (n ≤ 70) × Run text_one m.now at n }
+    ensures { IfSome result (Stands Simple.Text70 m.now at) }
+{
+    if ended(m, at, n) & (m[at] != b' ') {
+        return Some(at + n);
+    }
+    None
+}
+
 // A name of up to 63 bytes stands at a place, and `<` behind it: where it ends.
 fn quick_name(m: &[u8], at: usize) -> Option<usize>
     ensures { IfSome result (Stands Simple.Text70 m.now at) }
@@ -28,11 +40,7 @@ fn quick_name(m: &[u8], at: usize) -> Option<usize>
     if !room(m, at, 65) {
         return None;
     }
-    let n = text_run(m, at);
-    if ended(m, at, n) & (m[at] != b' ') {
-        return Some(at + n);
-    }
-    None
+    name_of(m, at, text_run(m, at))
 }
 
 // A name of up to 32 such bytes stands at a place, and `<` behind it: where it ends.
@@ -42,11 +50,7 @@ fn usual_name(m: &[u8], at: usize) -> Option<usize>
     if !room(m, at, 33) {
         return None;
     }
-    let n = passing(m, at, |b, _| in_name(b));
-    if ended(m, at, n) & (m[at] != b' ') {
-        return Some(at + n);
-    }
-    None
+    name_of(m, at, passing(m, at, |b, _| in_name(b)))
 }
 
 // A name stands at a place, and `<` behind it: where it ends.

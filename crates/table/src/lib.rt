@@ -526,7 +526,7 @@ fn piece(tags: &[u8], from: usize, len: usize) -> &[u8]
 pub fn opening(tags: &[u8], r: Row, s: &[u8]) -> Look
     ensures { result ≡ look (opens_by tags.now r) s.now }
 {
-    let text = piece(tags, r.tag as usize, r.start as usize);
+    let text = piece(tags, usize::from(r.tag), usize::from(r.start));
     let look = tags::text_at(text, s);
     let Look::Whole = look else {
         return look;
@@ -542,15 +542,15 @@ pub fn opening(tags: &[u8], r: Row, s: &[u8]) -> Look
 pub fn closing(tags: &[u8], r: Row, s: &[u8]) -> Look
     ensures { result ≡ look (closes_by tags.now r) s.now }
 {
-    let from = r.tag as usize + r.start as usize;
-    tags::text_at(piece(tags, from, r.finish as usize), s)
+    let from = usize::from(r.tag) + usize::from(r.start);
+    tags::text_at(piece(tags, from, usize::from(r.finish)), s)
 }
 
 // How many bytes a row's start tag has.
 pub fn width_of(r: Row) -> usize
     ensures { result ≡ width r }
 {
-    let start = r.start as usize;
+    let start = usize::from(r.start);
     if is_amount(r.what) {
         start + tags::CURRENCY
     } else {

@@ -54,7 +54,7 @@ fn of_block(block: &[u8; BLOCK]) -> usize
 }
 
 // How many bytes stand before the first `<`: all, where there is none. Most values end in the first block.
-// (Not `as_chunks` and a `for`: that divides by 48 before the first byte is looked at.)
+// (No `for` over `as_chunks`: it would divide by 48 before the first byte is looked at, and be no shorter.)
 pub fn upto(s: &[u8]) -> usize
     ensures { result ≡ lead in_value s.now }
 {

@@ -93,7 +93,7 @@ fn unit(c: u8) -> u32
     ensures value { result ≡ c - 48 }
     ensures upper_bound { result < 256 }
 {
-    c.saturating_sub(b'0') as u32
+    u32::from(c.saturating_sub(b'0'))
 }
 
 // The number that two digits write.

@@ -83,7 +83,7 @@ fn mix_bytes(h: u32, s: &[u8]) -> u32
 {
     let mut sum = h;
     for c in s {
-        sum = mix_on(sum, *c as u32);
+        sum = mix_on(sum, u32::from(*c));
     }
     sum
 }
@@ -110,7 +110,7 @@ fn mix(v: &[u8]) -> u32
 }
 
 // The place of item n, counted from 1; 0 where there is none.
-// (No Option: `passed` of the specs goes on by the place 0 there, as its list has it.)
+// (0 and no Option: the definition `passed` of specs/ goes on by the place 0.)
 fn place_of(places: &[u32], n: u32) -> u32
     requires { 0 < n }
     ensures { result ≡ at places.now (n - 1) }
@@ -207,17 +207,16 @@ fn by_slots(m: &[u8], places: &[u32], index: &mut [u32]) -> Option<usize>
     requires { (least_index ≤ length index.old) × (length places.now ≤ most) × AllFree index.old }
     ensures { result ≡ if_any (slots_from mixed m.now places.now 0 (numbers_in index.old) places.now) }
 {
-    for i in 0..places.len() {
-        let p = places[i];
-        if p == 0 {
+    for (i, p) in places.iter().enumerate() {
+        if *p == 0 {
             return None;
         }
         if i % 16 == 0 && all_dark(m, &places[i..]) {
             return plainly(m, places);
         }
-        let Stop { slot, mix } = probe(m, places, index, p);
+        let Stop { slot, mix } = probe(m, places, index, *p);
         if index[slot] != 0 {
-            return Some(p as usize);
+            return Some(*p as usize);
         }
         index[slot] = entry(i as u32 + 1, mix);
     }

@@ -47,6 +47,7 @@ pub fn reference(s: &[u8]) -> Result<(), Refusal>
 }
 
 // Whether the byte is a blank, one that counts as space.
+// (Not `tags::is_white`: request 4 names these bytes anew, and the wrong line `cr_not_counted` tries them here.)
 fn is_blank(c: u8) -> bool
     ensures { result ≡ blank c }
 {
@@ -89,7 +90,7 @@ fn run_of(s: &[u8]) -> usize
     blanks(s).max(1)
 }
 
-// How many bytes the collapsed value has. (A turn passes over a whole run, so no `for` counts its steps.)
+// How many bytes the collapsed value has. (A `while`: a turn passes over a whole run of blanks, and neither a `for` nor a chain steps by that.)
 pub fn collapsed_length(s: &[u8]) -> usize
     ensures { result ≡ length (collapsed s.now) }
 {
@@ -142,7 +143,7 @@ pub fn end_to_end(s: &[u8]) -> Result<(), Refusal>
     require(is_text(p) && fits(p, 35) && slash_rule(p), Refusal::Form)
 }
 
-// How many characters a text of the field may have: the paper's two numbers. (A table of its own; only its shape is that of others.)
+// How many characters a text of the field may have: the paper's two numbers. (Not one function with `money::most_of`, which only looks like it: another enum and other numbers.)
 fn longest_of(f: Field) -> usize
     ensures { result ≡ longest f }
 {

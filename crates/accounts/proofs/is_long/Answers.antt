@@ -26,4 +26,4 @@ pub returns : goal.returns
 unfolding iban_length
 returns c =
     let s = c.args.s.now in
-    ap (eqb (length s)) (c.length_of.ensures ∙ ap length_of (sym (two_at s 0 (omega (arith, iban_long s c.requires)))))
+    ap (eqb (length s)) (c.from.ensures ∙ c.length_of.ensures ∙ ap length_of (sym (two_at s 0 (omega (arith, iban_long s c.requires)))))

@@ -10,4 +10,4 @@ returns-in-Ok c = λ l n. rw c.in-Ok.is (ap (λ w. 0 ∷ c.in-Ok.p.records ∷ w
 
 pub returns-in-Err : goal.returns-in-Err
 unfolding told_played
-returns-in-Err c = λ l n. rw (c.in-Err.is, c.number.ensures) refl
+returns-in-Err c = λ l n. rw (c.in-Err.is, c.from.ensures, c.number.ensures) refl

@@ -16,7 +16,7 @@ loop-i-init c = record { some = omega arith; long = refl; is = refl }
 pub loop-i-preserved : goal.loop-i-preserved
 loop-i-preserved c =
     let l = c.loop-i in
-    tell_more _ _ (omega arith) (search rules) l.i l.part l.invariant c.loop-i-test.true
+    rw c.from.ensures (tell_more _ _ (omega arith) (search rules) l.i l.part l.invariant c.loop-i-test.true)
 
 pub returns : goal.returns
 returns c =

@@ -5,4 +5,4 @@ use Rattle.play.proofs.finish.Goals as goal
 pub returns : goal.returns
 returns c =
     let a = c.args in
-    λ l. all_taken a.run l a.numbers a.ends.now a.records c.if-run-ends.false c.lay_flat.result (c.lay_flat.ensures _ c.table_of.ensures)
+    λ l. all_taken a.run l a.ends.now a.records c.if-run-ends.false c.lay_flat.result (c.lay_flat.ensures _ c.table_of.ensures)

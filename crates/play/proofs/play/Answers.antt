@@ -29,18 +29,18 @@ unfolding least_index
 returns-then-entries-lt-MOST-clause-index c =
     let a = c.args in cleared_by a.index.now a.recording.now a.buffer.now a.ends.now a.entries.now a.numbers.now c.if-index-lt-LEAST_INDEX.false _ (c.fill.ensures.after (λ y q. search rules))
 
-pub play_on-requires-clause-fresh : goal.play_on-requires-clause-fresh
+pub play_on-told-requires-clause-fresh : goal.play_on-told-requires-clause-fresh
 unfolding least_index
-play_on-requires-clause-fresh c =
+play_on-told-requires-clause-fresh c =
     let a = c.args in fresh a.index.now a.recording.now a.buffer.now a.ends.now a.entries.now a.numbers.now c.if-index-lt-LEAST_INDEX.false _ (c.fill.ensures.after (λ y q. search rules))
 
 pub returns-clause-played : goal.returns-clause-played
 unfolding least_index
 returns-clause-played c =
-    let a = c.args in c.play_on.ensures.played ∙ all_played a.index.now a.recording.now a.buffer.now a.ends.now a.entries.now a.numbers.now c.if-index-lt-LEAST_INDEX.false c.if-entries-lt-MOST.false
+    let a = c.args in c.play_on-told.ensures.played ∙ all_played a.index.now a.recording.now a.buffer.now a.ends.now a.entries.now a.numbers.now c.if-index-lt-LEAST_INDEX.false c.if-entries-lt-MOST.false
 
 pub returns-clause-index : goal.returns-clause-index
 unfolding least_index
 returns-clause-index c =
-    let a = c.args in c.play_on.ensures.index ∙ cleared_by a.index.now a.recording.now a.buffer.now a.ends.now a.entries.now a.numbers.now c.if-index-lt-LEAST_INDEX.false _
+    let a = c.args in c.play_on-told.ensures.index ∙ cleared_by a.index.now a.recording.now a.buffer.now a.ends.now a.entries.now a.numbers.now c.if-index-lt-LEAST_INDEX.false _
     (c.fill.ensures.after (λ y q. search rules))

@@ -8,7 +8,8 @@ use Rattle.engine.specs.Engine.{item_at}
 use Rattle.engine.proofs.Whole.{item_long, item_far, begins, item_enters, item_cut, item_other}
 use Rattle.reader.proofs.Room.{item_room}
 use Rattle.reader.proofs.Whole.{item_read, item_start, item_below, item_there, item_within}
-use Rattle.reader.proofs.Steps.{refused_at, lies_whole, lies_not}
+use Rattle.engine.proofs.Steps.{lies_whole, lies_not}
+use Rattle.reader.proofs.Steps.{refused_at}
 use Rattle.reader.proofs.item.Goals.{then-m-gt-MOST_BYTES-via-then-m-gt-MOST_BYTES, then-m-gt-MOST_BYTES-via-else-m-gt-MOST_BYTES+then-m-at}
 use Rattle.reader.proofs.item.Goals as goal
 

@@ -8,7 +8,7 @@ use Rattle.text.specs.Quoted.{among}
 use Rattle.text.proofs.Truths.{first_test, and_then, and_else}
 use Rattle.recording.specs.Record.{line_length, time_in, stamp_form, names_form, record_form}
 use Rattle.recording.proofs.is_record.Goals as goal
-use Rattle.recording.proofs.is_record.Goals.{then-r-eq-LENGTH, else-r-eq-LENGTH, then-is_stamp, else-is_stamp, then-is_side, else-is_side}
+use Rattle.recording.proofs.is_record.Goals.{then-r-eq-LENGTH, else-r-eq-LENGTH, then-is_stamp, else-is_stamp, then-is_some, else-is_some}
 
 pub slice_bounds-is_stamp-end : goal.slice_bounds-is_stamp-end
 slice_bounds-is_stamp-end c = sym (length-take-le 25 c.args.r.now (omega arith))
@@ -28,13 +28,13 @@ returns-then-has_names c =
     ] in
     let three : c.if-is_stamp.value ≡ all_of (eqb (length r) line_length ∷ stamp_form (time_in r) ∷ among "E W" (at r 25) ∷ []) =
     elim c.if-is_stamp.branch [
-      | then-is_stamp w ↦ and_then _ two w.if-is_stamp.true (w.value-is ∙ w.is_side.ensures)
+      | then-is_stamp w ↦ and_then _ two w.if-is_stamp.true (w.value-is ∙ w.is_some.ensures ∙ w.side_of.ensures.named)
       | else-is_stamp w ↦ and_else _ two _ w.if-is_stamp.false w.value-is
     ] in
-    let four : c.if-is_side.value ≡ all_of (eqb (length r) line_length ∷ stamp_form (time_in r) ∷ among "E W" (at r 25) ∷ names_form r ∷ []) =
-    elim c.if-is_side.branch [
-      | then-is_side w ↦ and_then _ three w.if-is_side.true (w.value-is ∙ w.has_names.ensures)
-      | else-is_side w ↦ and_else _ three _ w.if-is_side.false w.value-is
+    let four : c.if-is_some.value ≡ all_of (eqb (length r) line_length ∷ stamp_form (time_in r) ∷ among "E W" (at r 25) ∷ names_form r ∷ []) =
+    elim c.if-is_some.branch [
+      | then-is_some w ↦ and_then _ three w.if-is_some.true (w.value-is ∙ w.has_names.ensures)
+      | else-is_some w ↦ and_else _ three _ w.if-is_some.false w.value-is
     ] in
     and_then _ four c.if-has_names.true refl
 
@@ -50,12 +50,12 @@ returns-else-has_names c =
     ] in
     let three : c.if-is_stamp.value ≡ all_of (eqb (length r) line_length ∷ stamp_form (time_in r) ∷ among "E W" (at r 25) ∷ []) =
     elim c.if-is_stamp.branch [
-      | then-is_stamp w ↦ and_then _ two w.if-is_stamp.true (w.value-is ∙ w.is_side.ensures)
+      | then-is_stamp w ↦ and_then _ two w.if-is_stamp.true (w.value-is ∙ w.is_some.ensures ∙ w.side_of.ensures.named)
       | else-is_stamp w ↦ and_else _ two _ w.if-is_stamp.false w.value-is
     ] in
-    let four : c.if-is_side.value ≡ all_of (eqb (length r) line_length ∷ stamp_form (time_in r) ∷ among "E W" (at r 25) ∷ names_form r ∷ []) =
-    elim c.if-is_side.branch [
-      | then-is_side w ↦ and_then _ three w.if-is_side.true (w.value-is ∙ w.has_names.ensures)
-      | else-is_side w ↦ and_else _ three _ w.if-is_side.false w.value-is
+    let four : c.if-is_some.value ≡ all_of (eqb (length r) line_length ∷ stamp_form (time_in r) ∷ among "E W" (at r 25) ∷ names_form r ∷ []) =
+    elim c.if-is_some.branch [
+      | then-is_some w ↦ and_then _ three w.if-is_some.true (w.value-is ∙ w.has_names.ensures)
+      | else-is_some w ↦ and_else _ three _ w.if-is_some.false w.value-is
     ] in
     and_else _ four _ c.if-has_names.false refl

@@ -1,13 +1,9 @@
 -- `recording::read_line` meets its contract.
-use Rattle.std.proofs.Common.{◌≡◌, rules, sym, ap, ◌∙◌}
-use borrow.Author.Tests.{eq-eqb, ne_eqb}
-use lib.Dec.{eqb}
-use Rattle.text.specs.Truth.{at}
-use Rattle.text.proofs.Truths.{yes_of, no_of}
-use Rattle.recording.specs.Record.{enters, line_of}
-use Rattle.recording.proofs.Fields.{long_record, long_time, stamped, line_is}
+use Rattle.std.proofs.Common.{rules, sym}
+use Rattle.text.proofs.Truths.{never, yes_of, no_of}
+use Rattle.recording.specs.Record.{line_of}
+use Rattle.recording.proofs.Fields.{long_record, long_time, stamped, sided, line_is}
 use Rattle.recording.proofs.read_line.Goals as goal
-use Rattle.recording.proofs.read_line.Goals.{then-r-eq69, else-r-eq69}
 
 pub returns-then-not-is_record : goal.returns-then-not-is_record
 unfolding line_of
@@ -26,11 +22,11 @@ slice_bounds-instant_of-end c = sym (long_time _ (yes_of c.is_record.ensures c.i
 pub instant_of-requires : goal.instant_of-requires
 instant_of-requires c = (long_time _ (yes_of c.is_record.ensures c.if-not-is_record.false), stamped _ (yes_of c.is_record.ensures c.if-not-is_record.false))
 
+pub returns-in_err-side_of : goal.returns-in_err-side_of
+returns-in_err-side_of c =
+    let h = sided _ (yes_of c.is_record.ensures c.if-not-is_record.false) in
+    let g = c.in_err-side_of.ensures.named in never (cc)
+
 pub returns : goal.returns
 returns c =
-    let side : enters c.if-r-eq69.side ≡ eqb (at c.args.r.now 25) 69 =
-    elim c.if-r-eq69.branch [
-      | then-r-eq69 w ↦ ap enters w.side-is ∙ sym (eq-eqb _ _ w.if-r-eq69.true)
-      | else-r-eq69 w ↦ ap enters w.side-is ∙ sym (ne_eqb _ _ w.if-r-eq69.false)
-    ] in
-    line_is _ (yes_of c.is_record.ensures c.if-not-is_record.false) _ side _ _ c.key_in.ensures c.instant_of.ensures
+    line_is _ (yes_of c.is_record.ensures c.if-not-is_record.false) _ c.in_ok-side_of.ensures.side _ _ c.key_in.ensures c.instant_of.ensures

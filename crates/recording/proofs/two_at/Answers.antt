@@ -12,4 +12,4 @@ returns c =
     let k = c.type_inv.s in
     let a = c.args in
     let e = c.pair.ensures in
-    record { value = e ∙ ap decimal (sym (two_at a.s.now a.i c.requires)); upper_bound = omega (arith, e, k a.i, k (a.i + 1)) }
+    record { value = c.from.ensures ∙ e ∙ ap decimal (sym (two_at a.s.now a.i c.requires)); upper_bound = omega (arith, c.from.ensures, e, k a.i, k (a.i + 1)) }

@@ -5,16 +5,13 @@ use Rattle.records.proofs.lay_rows.Goals as goal
 pub loop-i-init : goal.loop-i-init
 loop-i-init c =
     let a = c.args in
-    lay_begins a.m.now a.above a.rows.now a.n a.area.now
+    lay_begins a.m.now a.above a.flat.now a.n a.area.now
 
 pub loop-i-preserved : goal.loop-i-preserved
 loop-i-preserved c =
-    let l = c.loop-i in
-    let w = c.make_record in
-    lay_on c.requires l.invariant c.loop-i-test.true w.new.part w.ensures w.auto.part
-
-pub shape_of-area : goal.shape_of-area
-shape_of-area c = c.loop-i.invariant.long
+    let w = c.copy_from_slice in
+    let r = c.make_record-rec in
+    lay_on c.requires c.loop-i.invariant c.loop-i-test.true _ c.as_chunks.ensures.front w.new.self r.result w.ensures.after r.ensures w.ensures.len
 
 pub returns : goal.returns
 returns c = lay_ends c.requires c.loop-i.invariant c.loop-i-test.false

@@ -1,8 +1,9 @@
 -- `straight::items` meets its contract. The loop's invariant: the rows of the items that are read stand before what was lent;
 -- the next item is within the message; what is kept of those before is spelled in it.
-use Rattle.std.proofs.Common.{◌≡◌, ◌/◌, length, arith}
-use Rattle.engine.proofs.Rows.{reads_begin, reads_end, row_fits, reads_long, reads_far}
-use Rattle.straight.proofs.Swift.{row_stops, row_goes}
+use Rattle.std.proofs.Common.{◌≡◌, ◌/◌, length, sym, ap, arith}
+use Rattle.notes.specs.Steps.{stated, stepped}
+use Rattle.engine.proofs.Rows.{reads_begin, reads_end, reads_stop, reads_on, row_fits, reads_long, reads_far}
+use Rattle.engine.proofs.Steps.{fine_on}
 use Rattle.straight.proofs.items.Goals as goal
 use Rattle.straight.proofs.items.Goals.{then-m-gt-MOST_BYTES-via-then-m-gt-MOST_BYTES, then-m-gt-MOST_BYTES-via-else-m-gt-MOST_BYTES+then-m-at}
 
@@ -22,34 +23,33 @@ loop-i-init c =
 pub overflow_mul-from : goal.overflow_mul-from
 overflow_mul-from c = omega (arith, row_fits c.loop-i.invariant.0 c.loop-i-test.true, c.loop-i.invariant.0.long, c.well_formed.1.1.1.0.1)
 
-pub overflow_add-to : goal.overflow_add-to
-overflow_add-to c = omega (arith, row_fits c.loop-i.invariant.0 c.loop-i-test.true, c.loop-i.invariant.0.long, c.well_formed.1.1.1.0.1)
+pub overflow_add-from : goal.overflow_add-from
+overflow_add-from c = omega (arith, row_fits c.loop-i.invariant.0 c.loop-i-test.true, c.loop-i.invariant.0.long, c.well_formed.1.1.1.0.1)
 
 pub offset_bounds-rows-from : goal.offset_bounds-rows-from
 offset_bounds-rows-from c = omega (arith, row_fits c.loop-i.invariant.0 c.loop-i-test.true, c.loop-i.invariant.0.long, c.well_formed.1.1.1.0.1)
 
-pub slice_bounds-one_row-count : goal.slice_bounds-one_row-count
-slice_bounds-one_row-count c = omega (arith, row_fits c.loop-i.invariant.0 c.loop-i-test.true, c.loop-i.invariant.0.long, c.well_formed.1.1.1.0.1)
+pub slice_bounds-tell-count : goal.slice_bounds-tell-count
+slice_bounds-tell-count c = omega (arith, row_fits c.loop-i.invariant.0 c.loop-i-test.true, c.loop-i.invariant.0.long, c.well_formed.1.1.1.0.1)
 
-pub slice_bounds-one_row-start : goal.slice_bounds-one_row-start
-slice_bounds-one_row-start c = omega (arith, row_fits c.loop-i.invariant.0 c.loop-i-test.true, c.loop-i.invariant.0.long, c.well_formed.1.1.1.0.1)
+pub slice_bounds-tell-start : goal.slice_bounds-tell-start
+slice_bounds-tell-start c = omega (arith, row_fits c.loop-i.invariant.0 c.loop-i-test.true, c.loop-i.invariant.0.long, c.well_formed.1.1.1.0.1)
 
-pub slice_bounds-one_row-end : goal.slice_bounds-one_row-end
-slice_bounds-one_row-end c = omega (arith, row_fits c.loop-i.invariant.0 c.loop-i-test.true, c.loop-i.invariant.0.long, c.well_formed.1.1.1.0.1)
+pub slice_bounds-tell-end : goal.slice_bounds-tell-end
+slice_bounds-tell-end c = omega (arith, row_fits c.loop-i.invariant.0 c.loop-i-test.true, c.loop-i.invariant.0.long, c.well_formed.1.1.1.0.1)
 
-pub one_row-r-requires : goal.one_row-r-requires
-one_row-r-requires c = (c.if-m-gt-MOST_BYTES.false, c.loop-i.invariant.1, c.texts-t.ensures, c.loop-i.invariant.2)
+pub alone-requires : goal.alone-requires
+alone-requires c = (c.if-m-gt-MOST_BYTES.false, c.loop-i.invariant.1, c.texts-t.ensures, c.loop-i.invariant.2)
 
 pub returns-in_default : goal.returns-in_default
-returns-in_default c =
-    let o = c.one_row-r in
-    row_stops c.loop-i.invariant.0 c.loop-i-test.true o.result c.in_default.is _ o.ensures.0
+returns-in_default c = reads_stop c.loop-i.invariant.0 c.loop-i-test.true c.alone.ensures.0 _ _ (ap stepped c.in_default.is)
 
 pub loop-i-preserved : goal.loop-i-preserved
 loop-i-preserved c =
-    let o = c.one_row-r in
-    let n = row_goes c.loop-i.invariant.0 c.loop-i-test.true o.result c.in-Some.next c.in-Some.is _ o.ensures.0 o.auto.row in
-    (n.0, n.1, o.ensures.1)
+    let f = c.alone in
+    let told = c.tell in
+    let e = ap stepped c.in-Ok.is in
+    (reads_on c.loop-i.invariant.0 c.loop-i-test.true f.ensures.0 _ e told.new.part told.ensures told.auto.part, (fine_on c.args.m.now 0 (stepped f.result) (stated c.in-Ok.st) (sym e) f.ensures.1).0.within, f.ensures.2)
 
 pub shape_of-rows : goal.shape_of-rows
 shape_of-rows c = c.loop-i.invariant.0.long

@@ -4,4 +4,4 @@ use Rattle.table.proofs.closing.Goals as goal
 
 pub returns : goal.returns
 unfolding closes_by
-returns c = rw (← c.piece.ensures) c.text_at.ensures
+returns c = rw (← (rw (c.from.ensures, c.from-2.ensures, c.from-3.ensures) at c.piece.ensures)) c.text_at.ensures

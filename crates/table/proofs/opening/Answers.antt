@@ -41,7 +41,7 @@ slice_bounds-currency_at-start c = fits c.args.s.now c.piece-text.result.now _ c
 pub returns-in_default : goal.returns-in_default
 returns-in_default c =
     let a = c.args in
-    not_there a.tags.now a.s.now c.piece-text.result.now a.r _ c.piece-text.ensures c.text_at-look.ensures c.in_default.not-Whole
+    not_there a.tags.now a.s.now c.piece-text.result.now a.r _ (rw (c.from.ensures, c.from-2.ensures) at c.piece-text.ensures) c.text_at-look.ensures c.in_default.not-Whole
 
 pub returns-then-is_amount : goal.returns-then-is_amount
 returns-then-is_amount c =
@@ -49,10 +49,10 @@ returns-then-is_amount c =
     let t = c.piece-text.result.now in
     let amount = yes_of c.is_amount.ensures c.if-is_amount.true in
     rw (rest_of (length t) a.s.now) at c.currency_at.ensures
-    ∙ sym (told a.tags.now a.s.now t a.r _ c.piece-text.ensures c.text_at-look.ensures Whole c.in-Whole.is true amount)
+    ∙ sym (told a.tags.now a.s.now t a.r _ (rw (c.from.ensures, c.from-2.ensures) at c.piece-text.ensures) c.text_at-look.ensures Whole c.in-Whole.is true amount)
 
 pub returns-else-is_amount : goal.returns-else-is_amount
 returns-else-is_amount c =
     let a = c.args in
     let amount = no_of c.is_amount.ensures c.if-is_amount.false in
-    c.in-Whole.is ∙ sym (told a.tags.now a.s.now c.piece-text.result.now a.r _ c.piece-text.ensures c.text_at-look.ensures Whole c.in-Whole.is false amount)
+    c.in-Whole.is ∙ sym (told a.tags.now a.s.now c.piece-text.result.now a.r _ (rw (c.from.ensures, c.from-2.ensures) at c.piece-text.ensures) c.text_at-look.ensures Whole c.in-Whole.is false amount)

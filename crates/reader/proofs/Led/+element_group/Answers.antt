@@ -196,9 +196,10 @@ group-loop-self-preserved-in-Other n c =
     let b = c.in_ok-st-in-Other in
     let w = row_tied a.self.v a.self.rows.now l.k r.result r.ensures p.3 l.invariant.row in
     let t = tells a.self.v l.k r.result (due a.self.v l.k) w.0 c.in_default.not-End in
-    loop_pass a.self.v a.self.m.now a.first (stated a.start) a.places.now l.k l.seen (stated l.st) l.places l.invariant (stated s.result) s.ensures.0
+    rw c.from-k.ensures
+    (loop_pass a.self.v a.self.m.now a.first (stated a.start) a.places.now l.k l.seen (stated l.st) l.places l.invariant (stated s.result) s.ensures.0
     s.ensures.1 s.ensures.2 r.result w.1.next a.self.names.now p.2 t d.result d.ensures x.result
-    x.ensures c.in-Other.is _ b.ensures (stated b.st) refl
+    x.ensures c.in-Other.is _ b.ensures (stated b.st) refl)
 
 pub group-element-requires : goal.group-element-requires
 group-element-requires n c =
@@ -254,9 +255,10 @@ group-loop-self-preserved n c =
     let b = c.in_ok-st-in-Whole in
     let w = row_tied a.self.v a.self.rows.now l.k r.result r.ensures p.3 l.invariant.row in
     let t = tells a.self.v l.k r.result (due a.self.v l.k) w.0 c.in_default.not-End in
-    loop_next a.self.v a.self.m.now a.first (stated a.start) a.places.now l.k l.seen (stated l.st) l.places l.invariant (stated s.result) s.ensures.0
+    rw c.from-k-else-repeats.ensures
+    (loop_next a.self.v a.self.m.now a.first (stated a.start) a.places.now l.k l.seen (stated l.st) l.places l.invariant (stated s.result) s.ensures.0
     s.ensures.1 s.ensures.2 r.result w.1.next a.self.names.now p.2 t d.result d.ensures x.result
-    x.ensures c.in-Whole.is _ b.ensures.0 b.ensures.1 c.element.new.places b.ensures.2 c.element.auto.places (stated b.st) refl (sym c.repeats.ensures ∙ c.if-repeats.false)
+    x.ensures c.in-Whole.is _ b.ensures.0 b.ensures.1 c.element.new.places b.ensures.2 c.element.auto.places (stated b.st) refl (sym c.repeats.ensures ∙ c.if-repeats.false))
 
 pub group-loop-self-preserved-then-repeats : goal.group-loop-self-preserved-then-repeats
 group-loop-self-preserved-then-repeats n c =

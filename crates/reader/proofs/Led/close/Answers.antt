@@ -6,8 +6,7 @@ use Rattle.table.specs.Table.{closes_by}
 use Rattle.reading.specs.Noted.{on}
 use Rattle.notes.specs.Steps.{stated, reads, Fine}
 use Rattle.engine.specs.Engine.{closed_by}
-use Rattle.engine.proofs.Steps.{closed_whole, closed_cut, closed_other}
-use Rattle.reader.proofs.Steps.{lies_whole, lies_not}
+use Rattle.engine.proofs.Steps.{closed_whole, closed_cut, closed_other, lies_whole, lies_not}
 use Rattle.reader.proofs.Led.close.Goals as goal
 
 pub returns-in_err-expect_whole : goal.returns-in_err-expect_whole
@@ -29,4 +28,4 @@ returns c =
     let m = a.self.m.now in
     let l = c.closing in
     let e = lies_whole (length m) a.st.at (stated a.st) l.result (c.in_ok-expect_whole.ensures (stated a.st)) in
-    closed_whole m a.st.at a.st.notes (closes_by a.self.names.now a.r) c.requires.0 l.result l.ensures e a.r.finish c.requires.1 _ (ap on c.at_place.ensures)
+    closed_whole m a.st.at a.st.notes (closes_by a.self.names.now a.r) c.requires.0 l.result l.ensures e a.r.finish c.requires.1 _ (rw c.from.ensures at (ap on c.at_place.ensures))

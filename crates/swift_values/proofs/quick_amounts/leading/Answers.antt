@@ -54,7 +54,7 @@ loop-i-preserved c =
     let the-loop = c.loop-i in
     let the-in-digit = c.in_digit in
     let the-if1 = c.if-not-in_digit in
-    written_more the-args.m.now the-args.at the-loop.i the-loop.n (omega arith) the-loop.invariant (yes_of the-in-digit.ensures the-if1.false)
+    rw c.from.ensures (written_more the-args.m.now the-args.at the-loop.i the-loop.n (omega arith) the-loop.invariant (yes_of the-in-digit.ensures the-if1.false))
 
 pub returns : goal.returns
 returns c =

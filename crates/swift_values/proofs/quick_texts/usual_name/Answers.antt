@@ -1,19 +1,12 @@
 -- `swift_values::quick_texts::usual_name` meets its contract.
 use Rattle.std.proofs.Common.{rules}
 use native.Mathlib.Omega.{arith}
-use Rattle.words.specs.declared.Field.TheVariants.{Nm as a_nm}
-use Rattle.profile.specs.declared.Simple.TheVariants.{Text70}
 use Rattle.swift_values.specs.Lanes.{text_one}
-use Rattle.swift_values.proofs.Parts.{differs}
-use Rattle.swift_values.proofs.Lanes.{run_of, and_split}
-use Rattle.swift_values.proofs.Values.{text_stands, name_is}
+use Rattle.swift_values.proofs.Lanes.{run_of}
 use Rattle.swift_values.proofs.quick_texts.usual_name.Goals as goal
 
-pub returns-then-ended-m : goal.returns-then-ended-m
-returns-then-ended-m c =
+pub name_of-requires : goal.name_of-requires
+name_of-requires c =
     let h = c.room.ensures c.if-not-room.false in
-    let x = and_split c.ended.result _ c.if-ended-m.true in
-    let e = c.ended.ensures x.0 in
-    let n = c.passing-n in
-    let r = run_of _ _ _ text_one (λ b x e. search rules) _ n.ensures.1 in
-    text_stands a_nm c.args.m.now c.args.at n.result (omega arith) r e.1 h.0 e.0 (omega (arith, n.ensures.0)) (differs _ _ x.1) Text70 (name_is _)
+    let n = c.passing in
+    (h.0, omega (arith, h, n.ensures.0), omega (arith, n.ensures.0), run_of _ _ _ text_one (λ b x e. search rules) _ n.ensures.1)

@@ -13,4 +13,4 @@ loop-i-preserved g c =
     (omega arith, seen_on _ _ _ l.i l.r c.key.result q.result c.passes.result l.invariant.1 c.passes.ensures c.key.ensures (omega (arith, q.ensures)) (omega (arith, q.ensures)))
 
 pub returns : goal.returns
-returns g c = (c.loop-i.invariant.0, seen_all _ _ _ c.loop-i.i c.loop-i.r (omega arith) c.loop-i.invariant.1)
+returns g c = rw c.from.ensures (c.loop-i.invariant.0, seen_all _ _ _ c.loop-i.i c.loop-i.r (omega arith) c.loop-i.invariant.1)
