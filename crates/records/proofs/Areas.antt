@@ -73,10 +73,10 @@ module _ {m above rows : List ℕ} {n : ℕ} {area₀ : List ℕ} (e : (row_leng
         y.is ∙ rw (z, drop_of_length-le area₀ g) (append-nil (records_of m above n rows))
 
     -- the next row's record
-    pub lay_on : i < n → (t : List (List ℕ)) → t ≡ first_chunks row_length (length rows / row_length) rows → (x r : List ℕ) → x ≡ r → r ≡ record_of m (get_or t i []) above
+    pub lay_on : i < n → (t : List (List ℕ)) → t ≡ first_chunks row_length (length rows / row_length) rows → (x : List ℕ) → x ≡ record_of m (get_or t i []) above
         → length x ≡ length (take (record_length * i + record_length - record_length * i) (drop (record_length * i) area))
         → Laying m above rows n area₀ (i + 1) (put_mid (record_length * i) (record_length * i + record_length - record_length * i) area x)
-    lay_on h t d x r o p l =
+    lay_on h t d x o l =
         let w = records_of m above i rows in
         let a = record_length * i in
         let z : a + record_length ≡ record_length * (i + 1) = omega arith in
@@ -84,7 +84,7 @@ module _ {m above rows : List ℕ} {n : ℕ} {area₀ : List ℕ} (e : (row_leng
         let g : i < length rows / row_length = omega (arith, e.0) in
         let u : get_or t i [] ≡ take row_length (drop (row_length * i) rows) =
         ap (λ (v : List (List ℕ)). get_or v i []) d ∙ row_at (length rows / row_length) i rows g in
-        let j : x ≡ record_of m (take row_length (drop (row_length * i) rows)) above = o ∙ p ∙ ap (λ (v : List ℕ). record_of m v above) u in
+        let j : x ≡ record_of m (take row_length (drop (row_length * i) rows)) above = o ∙ ap (λ (v : List ℕ). record_of m v above) u in
         let t' = drop (record_length * (i + 1)) area₀ in
         let k : w ++ x ≡ records_of m above (i + 1) rows =
         ap (λ (v : List ℕ). w ++ v) j ∙ (sym (records-next m above i rows) ∙ ap (λ (v : ℕ). records_of m above v rows) (sym (add-one i))) in

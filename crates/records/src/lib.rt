@@ -193,9 +193,10 @@ fn put_to_end(rec: &mut [u8; LENGTH], m: &[u8], row: &[u64; engine::ROW], instru
     rec[319] = b'\n';
 }
 
-// The record of an item, from its row and what was noted above it: all spaces, then each field at its offset.
-fn make_record(m: &[u8], row: &[u64; engine::ROW], above: [u32; profile::FIELDS]) -> [u8; LENGTH]
-    ensures { result ≡ record_of m.now row.now above }
+// The record of an item, from its row and what was noted above it: all spaces, then each field at its offset; and written into its part of the area.
+fn make_record(part: &mut [u8], m: &[u8], row: &[u64; engine::ROW], above: [u32; profile::FIELDS])
+    requires { length part.old ≡ record_length }
+    ensures { part.new ≡ record_of m.now row.now above }
 {
     let sequence = or_above(row_start(row, Field::SeqTp), above, Field::SeqTp);
     let instrument = or_above(row_start(row, Field::LclInstrm), above, Field::LclInstrm);
@@ -203,7 +204,7 @@ fn make_record(m: &[u8], row: &[u64; engine::ROW], above: [u32; profile::FIELDS]
     put_to_cents(&mut rec, m, row);
     put_to_instr_id(&mut rec, m, row, sequence);
     put_to_end(&mut rec, m, row, instrument);
-    rec
+    part.copy_from_slice(&rec)
 }
 
 // The records of so many rows, one behind the other.
@@ -213,11 +214,10 @@ fn lay_rows(m: &[u8], flat: &[u64], n: usize, above: [u32; profile::FIELDS], are
 {
     let (rows, _) = flat.as_chunks::<{ engine::ROW }>();
 
-    // The area by places: `as_chunks_mut` says nothing of what the slice ends as.
+    // The area by places: document 01 names this form, a part of it that is lent on to what writes one record.
     for i in 0..n {
         let from = LENGTH * i;
-        let rec = make_record(m, &rows[i], above);
-        area[from..from + LENGTH].copy_from_slice(&rec);
+        make_record(&mut area[from..from + LENGTH], m, &rows[i], above);
     }
 }
 

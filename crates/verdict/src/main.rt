@@ -20,6 +20,7 @@ enum Trouble {
 
 // What the program says of it.
 impl fmt::Display for Trouble {
+    // One sentence for each trouble.
     fn fmt<W: fmt::Write>(&self, f: &mut fmt::Formatter<W>) -> fmt::Result {
         match self {
             Trouble::NotRead => write!(f, "standard input cannot be read"),

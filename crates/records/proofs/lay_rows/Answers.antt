@@ -9,9 +9,11 @@ loop-i-init c =
 
 pub loop-i-preserved : goal.loop-i-preserved
 loop-i-preserved c =
-    let w = c.copy_from_slice in
-    let r = c.make_record-rec in
-    lay_on c.requires c.loop-i.invariant c.loop-i-test.true _ c.as_chunks.ensures.front w.new.self r.result w.ensures.after r.ensures w.ensures.len
+    let w = c.make_record in
+    lay_on c.requires c.loop-i.invariant c.loop-i-test.true _ c.as_chunks.ensures.front w.new.part w.ensures w.auto.part
+
+pub shape_of-area : goal.shape_of-area
+shape_of-area c = c.loop-i.invariant.long
 
 pub returns : goal.returns
 returns c = lay_ends c.requires c.loop-i.invariant c.loop-i-test.false
